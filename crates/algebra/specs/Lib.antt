@@ -1,0 +1,2 @@
+pub mod Operators
+pub mod Value

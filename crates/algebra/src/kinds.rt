@@ -1,0 +1,67 @@
+ghost use Rattle.std.specs.Prelude.{◌≡◌};
+
+/// The names of the binary operators (GraphBLAS C API 2.0, table 3.5).
+#[derive(Clone, Copy, Debug, PartialEq, Eq)]
+pub enum BinaryKind {
+    First,
+    Second,
+    Oneb,
+    Min,
+    Max,
+    Plus,
+    Minus,
+    Times,
+    Eq,
+    Ne,
+    Gt,
+    Lt,
+    Ge,
+    Le,
+    Lor,
+    Land,
+    Lxor,
+    Lxnor,
+    Bor,
+    Band,
+    Bxor,
+    Bxnor,
+}
+
+/// The names of the monoids (GraphBLAS C API 2.0, table 3.7; BOR, BAND and BXOR by this profile).
+#[derive(Clone, Copy, Debug, PartialEq, Eq)]
+pub enum MonoidKind {
+    Plus,
+    Times,
+    Min,
+    Max,
+    Bor,
+    Band,
+    Bxor,
+    Lor,
+    Land,
+    Lxor,
+    Lxnor,
+}
+
+impl MonoidKind {
+    ghost use Rattle.algebra.specs.Operators.{combines_by};
+
+    /// The operator by which the monoid combines two values.
+    pub const fn operator(self) -> BinaryKind
+        ensures { result ≡ combines_by self }
+    {
+        match self {
+            MonoidKind::Plus => BinaryKind::Plus,
+            MonoidKind::Times => BinaryKind::Times,
+            MonoidKind::Min => BinaryKind::Min,
+            MonoidKind::Max => BinaryKind::Max,
+            MonoidKind::Bor => BinaryKind::Bor,
+            MonoidKind::Band => BinaryKind::Band,
+            MonoidKind::Bxor => BinaryKind::Bxor,
+            MonoidKind::Lor => BinaryKind::Lor,
+            MonoidKind::Land => BinaryKind::Land,
+            MonoidKind::Lxor => BinaryKind::Lxor,
+            MonoidKind::Lxnor => BinaryKind::Lxnor,
+        }
+    }
+}
