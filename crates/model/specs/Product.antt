@@ -1,0 +1,36 @@
+-- The product of two matrices over a semiring (GraphBLAS C API 2.0, section 4.3.1, mxm).
+use Rattle.std.specs.Prelude.{ℕ, List, [], ◌∷◌, Option, Some, None}
+use Rattle.std.specs.Option.{option_map, option_and_then}
+use Rattle.std.specs.List.{fold, filter_map}
+use Rattle.algebra.specs.declared.domain.Domain.{Domain}
+use Rattle.algebra.specs.Operators.{eval_of, answer_domain, combines_by}
+use Rattle.model.specs.declared.names.Ring.{Ring}
+use Rattle.model.specs.Object.{Content, below}
+
+-- the domain of a semiring's sums
+abbrev pub sum_domain : Ring → Domain
+sum_domain ring = answer_domain ring.multiply ring.domain
+
+-- a word plus a word, and a word times a word
+abbrev pub add_of : Ring → ℕ → ℕ → ℕ
+add_of ring = eval_of (combines_by ring.add) (sum_domain ring)
+
+abbrev pub multiply_of : Ring → ℕ → ℕ → ℕ
+multiply_of ring = eval_of ring.multiply ring.domain
+
+-- the monoid's sum of words, in order; there is none of no words
+abbrev pub sum_of : Ring → List ℕ → Option ℕ
+sum_of ring [] = None
+sum_of ring (term ∷ terms) = Some (fold (add_of ring) term terms)
+
+-- a times b, where both are there
+abbrev pub product_of : Ring → Option ℕ → Option ℕ → Option ℕ
+product_of ring a b = option_and_then (λ x. option_map (multiply_of ring x) b) a
+
+-- what is summed at row i and column j: A(i, k) times B(k, j) for each k below n that has both, in rising k
+abbrev pub terms : Ring → ℕ → Content → Content → ℕ → ℕ → List ℕ
+terms ring n a b i j = filter_map (λ k. product_of ring (a i k) (b k j)) (below n)
+
+-- the product of A with n columns and B with n rows: there is a value exactly where some k has both
+unfoldable pub product : Ring → ℕ → Content → Content → Content
+product ring n a b i j = sum_of ring (terms ring n a b i j)

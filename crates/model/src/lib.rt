@@ -1,0 +1,11 @@
+//! The definitions that every contract of this repository stands on: objects, operations, faults,
+//! runs and texts (in `specs/`), the types that they share with the code, and a slow plain evaluator.
+#![tactic(auto)]
+
+mod entry;
+mod names;
+mod status;
+
+pub use entry::Entry;
+pub use names::{Place, Ring};
+pub use status::Status;
