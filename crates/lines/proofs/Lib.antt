@@ -1,0 +1,3 @@
+pub mod Names
+pub mod Silence
+pub mod Splits

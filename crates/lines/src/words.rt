@@ -1,0 +1,128 @@
+ghost use Rattle.std.specs.Prelude.{◌≡◌, ◌+◌, ◌-◌, ◌*◌, ◌<◌, ◌≤◌, ◌^◌, ◌==◌, ◌||◌, IfOk, map, length, filter, not, IsTrue, if◌then◌else◌, ◌&&◌, nat_le, neg_ℤ, pos};
+ghost use Rattle.std.specs.List.{list_all};
+ghost use Rattle.std.specs.Option.{option_map};
+ghost use Rattle.model.specs.Grammar.{digits_value, domain_of, is_blank, is_digit, is_letter, is_name, is_number, name_of, number_of, value_of_word, words_of};
+
+use algebra::Domain;
+use std::alloc::{AllocError, Global};
+
+/// Whether a byte parts words.
+pub const fn is_blank(byte: u8) -> bool
+    ensures { result ≡ is_blank byte }
+{
+    byte == b' ' || byte == b'\t'
+}
+
+/// The words of a line, parted by blanks.
+pub fn words_of(alloc: Global, line: &[u8]) -> Result<Vec<&[u8]>, AllocError>
+    ensures { IfOk result (λ words. map (λ word. word.now) words.items ≡ words_of line.now) }
+{
+    line.split(|byte| is_blank(*byte))
+        .filter(|word| !word.is_empty())
+        .collect(alloc)
+}
+
+/// A word that is a name: an ASCII letter, and at most 31 letters, digits and underscores.
+#[tactic(auto, unfolding(model::specs::Grammar::name_of))]
+pub fn name(word: &[u8]) -> Option<&str>
+    ensures { option_map (λ name. name.now) result ≡ name_of word.now }
+{
+    if !is_name(word) {
+        return None;
+    }
+    Some(str::from_utf8(word).unwrap())
+}
+
+fn is_name(word: &[u8]) -> bool
+    ensures { result ≡ is_name word.now }
+{
+    !word.is_empty() && word[0].is_ascii_alphabetic() && are_name_bytes(word) && word.len() <= 32
+}
+
+fn are_name_bytes(word: &[u8]) -> bool
+    ensures { result ≡ list_all (λ byte. is_letter byte || is_digit byte || (byte == 95)) word.now }
+{
+    word.iter()
+        .all(|byte| byte.is_ascii_alphanumeric() || *byte == b'_')
+}
+
+/// A word that is a number: 1 to 20 digits, below 2^64.
+#[tactic(auto, unfolding(model::specs::Grammar::number_of))]
+pub fn number(word: &[u8]) -> Option<u64>
+    ensures { result ≡ number_of word.now }
+{
+    match digits(word) {
+        Some(value) if value < 1 << 64 => Some(value as u64),
+        _ => None,
+    }
+}
+
+/// The number that a word of 1 to 20 digits writes.
+fn digits(word: &[u8]) -> Option<u128>
+    ensures { result ≡ (if is_number word.now then Some (digits_value word.now) else None) }
+{
+    if is_number(word) {
+        Some(digits_value(word))
+    } else {
+        None
+    }
+}
+
+fn is_number(word: &[u8]) -> bool
+    ensures { result ≡ is_number word.now }
+{
+    !word.is_empty() && word.len() <= 20 && are_digits(word)
+}
+
+fn are_digits(word: &[u8]) -> bool
+    ensures { result ≡ list_all is_digit word.now }
+{
+    word.iter().all(|byte| byte.is_ascii_digit())
+}
+
+/// The number that at most 20 digits write.
+fn digits_value(word: &[u8]) -> u128
+    requires digits { IsTrue (list_all is_digit word.now) }
+    requires few { length word.now ≤ 20 }
+    ensures { result ≡ digits_value word.now }
+{
+    let mut value = 0;
+    for byte in word {
+        value = value * 10 + u128::from(*byte - b'0');
+    }
+    value
+}
+
+/// A word that is a value: a number below 2^64, or one from -2^63 on behind a `-`.
+#[tactic(auto, unfolding(model::specs::Grammar::value_of_word))]
+pub fn value(word: &[u8]) -> Option<i128>
+    ensures { result ≡ value_of_word word.now }
+{
+    if !word.is_empty() && word[0] == b'-' {
+        negative(&word[1..])
+    } else {
+        number(word).map(i128::from)
+    }
+}
+
+/// The value of the digits behind a `-`.
+fn negative(word: &[u8]) -> Option<i128>
+    ensures { result ≡ (if is_number word.now && nat_le (digits_value word.now) (2 ^ 63) then Some (neg_ℤ (pos (digits_value word.now))) else None) }
+{
+    match digits(word) {
+        Some(magnitude) if magnitude <= 1 << 63 => Some(-(magnitude as i128)),
+        _ => None,
+    }
+}
+
+/// A word that names a domain. INT64 is the only one that scripts have so far.
+#[tactic(auto, unfolding(model::specs::Grammar::domain_of))]
+pub fn domain(word: &[u8]) -> Option<Domain>
+    ensures { result ≡ domain_of word.now }
+{
+    if word == b"INT64".as_slice() {
+        Some(Domain::Int64)
+    } else {
+        None
+    }
+}
