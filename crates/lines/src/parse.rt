@@ -1,11 +1,12 @@
 ghost use Rattle.std.specs.Prelude.{◌≡◌, ◌==◌, ◌||◌, ◌+◌, ◌<◌, ◌≤◌, map, length, OnSome, find, not};
 ghost use Rattle.std.specs.List.{list_all};
 ghost use Rattle.std.specs.Option.{option_map, option_map_or};
-ghost use Rattle.lines.specs.Meaning.{Reads, call_of};
+ghost use Rattle.lines.specs.Meaning.{Reads};
+ghost use Rattle.model.specs.Call.{call_of};
 ghost use Rattle.model.specs.Grammar.{command_of, get_of, is_blank, is_none_word, is_plain, is_silent, is_well_formed, matrix_of, mxm_of, nvals_of, place_of, print_of, reading_of, set_of, words_of};
 
-use crate::{Command, Line, LineFault, kinds, words};
-use model::Place;
+use crate::{Line, LineFault, kinds, words};
+use model::{Command, Place};
 use std::alloc::Global;
 
 /// The greatest length of a command's line, in bytes, without its line end.

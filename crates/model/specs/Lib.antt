@@ -1,3 +1,4 @@
+pub mod Call
 pub mod Command
 pub mod Fault
 pub mod Grammar

@@ -1,7 +1,7 @@
+use crate::{Place, Ring};
 use algebra::Domain;
-use model::{Place, Ring};
 
-/// A call of a script. Its names borrow from the line that it was read from.
+/// A call of a script. Its names borrow from the line that it is read from.
 #[derive(Clone, Copy, Debug)]
 pub enum Command<'a> {
     /// `matrix NAME DOMAIN NUM NUM`: makes a matrix.
@@ -37,12 +37,4 @@ pub enum Command<'a> {
         first: &'a str,
         second: &'a str,
     },
-}
-
-/// What a line of a script is.
-#[derive(Clone, Copy, Debug)]
-pub enum Line<'a> {
-    /// Blank or a comment: it has no answer.
-    Silent,
-    Call(Command<'a>),
 }
