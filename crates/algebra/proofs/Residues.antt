@@ -1,6 +1,6 @@
 -- Words modulo 2 ^ 64 against formulas on whole numbers.
-use Rattle.std.proofs.Common.{◌≡◌, ℕ, ◌+◌, ◌*◌, ◌%◌, ◌^◌, ◌<◌, sym, ◌∙◌, ap, arith, true}
-use Rattle.std.specs.Prelude.{ℤ, pos, negsuc, ◌*ℤ◌}
+use Rattle.std.proofs.Common.{◌≡◌, ℕ, ◌*◌, ◌%◌, ◌^◌, ◌<◌, sym, ◌∙◌, ap, arith, true}
+use Rattle.std.specs.Prelude.{ℤ, pos, negsuc}
 use Rattle.std.specs.Int.{cast_signed, cast_unsigned, w64, int_wrap}
 use Rattle.std.proofs.lemmas.Int.{of_z-to_z, wrapping_mul-bits}
 use Rattle.algebra.specs.Value.{residue}

@@ -84,3 +84,36 @@ impl Semiring {
         }
     }
 }
+
+#[cfg(test)]
+mod tests {
+    use super::*;
+    use std::test::Fail;
+
+    #[test]
+    fn wraps_before_the_minimum(rt: HostRuntime) -> Result<(), Fail> {
+        let ring = Semiring::new(MonoidKind::Min, BinaryKind::Plus, Domain::Int64).ok_or(
+            "MIN.PLUS",
+        )?;
+        let least = ring.multiply.eval(i64::MAX.cast_unsigned(), 1);
+        assert_eq!(rt; least.cast_signed(), i64::MIN);
+        assert_eq!(rt; ring.add.op.eval(least, 0), least, "in signed order");
+        Ok(())
+    }
+
+    #[test]
+    fn offers_what_there_is(rt: HostRuntime) -> Result<(), Fail> {
+        let plus = Monoid::new(MonoidKind::Plus, Domain::Int64).ok_or("PLUS")?;
+        assert_eq!(rt; plus.op.kind, MonoidKind::Plus.operator());
+        let times = BinaryOp::new(BinaryKind::Times, Domain::Int64).ok_or("TIMES")?;
+        assert_eq!(rt;
+            times
+                .eval(3, 5_i64.wrapping_neg().cast_unsigned())
+                .cast_signed(),
+            -15
+        );
+        assert!(rt; BinaryOp::new(BinaryKind::Times, Domain::Bool).is_none());
+        assert!(rt; Semiring::new(MonoidKind::Plus, BinaryKind::Eq, Domain::Int64).is_none());
+        Ok(())
+    }
+}

@@ -1,5 +1,5 @@
 -- Whether a line is silent, by its first byte that is no blank.
-use Rattle.std.proofs.Common.{◌≡◌, ℕ, Bool, true, false, not, ◌==◌, List, [], ◌∷◌, length, filter, refl, arith, inl, inr, Some, None}
+use Rattle.std.proofs.Common.{◌≡◌, ℕ, true, false, not, ◌==◌, List, [], ◌∷◌, length, filter, refl, arith, inl, inr}
 use Rattle.std.specs.List.{find, onto_first, slice_split}
 use Rattle.std.specs.Option.{option_map_or}
 use Rattle.std.proofs.lemmas.Bool.{cases_Bool}

@@ -1,5 +1,5 @@
 -- The parts of a list, by the first place at which a test passes.
-use Rattle.std.proofs.Common.{◌≡◌, ℕ, ◌+◌, ◌<◌, ◌≤◌, Bool, true, List, [], ◌∷◌, length, take, drop, Some, None, arith, nat_lt, ◌==◌, false, refl, inl, inr, ltb-false}
+use Rattle.std.proofs.Common.{◌≡◌, ℕ, ◌+◌, ◌≤◌, Bool, List, [], ◌∷◌, length, take, drop, Some, None, arith, nat_lt, ◌==◌, false, refl, inl, inr, ltb-false}
 use Rattle.std.proofs.lemmas.Bool.Decides.{nat_tests}
 use Rattle.std.specs.List.{position, position_or_len, slice_split, count_by}
 use Rattle.model.specs.Grammar.{ring_of}

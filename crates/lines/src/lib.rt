@@ -5,6 +5,8 @@ mod fault;
 mod kinds;
 mod line;
 mod parse;
+#[cfg(test)]
+mod tests;
 mod words;
 
 pub use fault::LineFault;
