@@ -1,0 +1,4 @@
+pub mod Blocks
+pub mod Content
+pub mod Order
+pub mod Positions

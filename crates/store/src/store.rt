@@ -1,0 +1,190 @@
+ghost use Rattle.std.specs.Prelude.{◌≡◌, ℕ, ◌<◌, ◌≤◌, [], length, OnOk, OnErr, IfOk};
+ghost use Rattle.std.specs.List.{All};
+ghost use Rattle.model.specs.Object.{word_at, with_entry, InOrder, IsInside};
+ghost use Rattle.store.specs.Stored.{entries_in_rows, entries_in_row};
+
+use crate::entries::{append, find, put, row_at, rows_between};
+use crate::{NoMemory, Row, RowBlock};
+use model::Entry;
+use std::alloc::Global;
+use std::marker::Model;
+use std::ops::Range;
+
+/// What a matrix holds: its number of rows and of columns, and its entries in row-major order, at
+/// most one at a position (GraphBLAS C API 2.0, section 3.5.3).
+#[derive(Drop)]
+pub struct Store {
+    rows: u64,
+    cols: u64,
+    entries: Vec<Entry>,
+}
+
+impl Model for Store {
+    ghost use Rattle.store.specs.Stored.{Stored, IsStored};
+
+    ghost Value = { Stored };
+
+    ghost view = { λ s. record { rows = s.rows; cols = s.cols; entries = s.entries.items } };
+
+    ghost invariant = { λ s. IsStored s.rows s.cols s.entries.items };
+}
+
+impl Store {
+    ghost use Rattle.store.specs.Rows.{block_entries, HasColumnsBelow};
+
+    /// A store of `rows` rows and `cols` columns with no entry. It takes no memory.
+    pub fn new(alloc: Global, rows: u64, cols: u64) -> Store
+        ensures { result ≡ record { rows = rows; cols = cols; entries = [] } }
+    {
+        Store {
+            rows,
+            cols,
+            entries: Vec::new(alloc),
+        }
+    }
+
+    /// A store of `rows` rows and `cols` columns with the entries of a block. It takes memory for
+    /// them once, and time in proportion to their number.
+    pub fn from_rows(
+        alloc: Global,
+        rows: u64,
+        cols: u64,
+        block: &RowBlock,
+    ) -> Result<Store, NoMemory>
+        requires rows { block.now.past ≤ rows }
+        requires cols { All (HasColumnsBelow cols) block.now.rows.items }
+        ensures { IfOk result (λ store. store ≡ record { rows = rows; cols = cols; entries = block_entries block.now }) }
+    {
+        let mut entries = Vec::with_capacity(alloc, count(&block.rows))?;
+        for row in &block.rows {
+            append(&mut entries, row)?;
+        }
+        Ok(Store {
+            rows,
+            cols,
+            entries,
+        })
+    }
+
+    /// A store with the same shape and entries, in memory of its own.
+    pub fn try_clone(&self) -> Result<Store, NoMemory>
+        ensures { IfOk result (λ store. store ≡ self.now) }
+    {
+        let entries = self.entries.clone()?;
+        Ok(Store { entries, ..*self })
+    }
+
+    /// The number of rows.
+    pub fn rows(&self) -> u64
+        ensures rows { result ≡ self.now.rows }
+
+        // What is true of every store, for a caller, who sees no field.
+        ensures order { InOrder self.now.entries }
+        ensures inside { IsInside self.now.rows self.now.cols self.now.entries }
+    {
+        self.rows
+    }
+
+    /// The number of columns.
+    pub fn cols(&self) -> u64
+        ensures { result ≡ self.now.cols }
+    {
+        self.cols
+    }
+
+    /// The number of entries (GraphBLAS C API 2.0, section 4.2.5.5).
+    pub fn nvals(&self) -> u64
+        ensures { result ≡ length self.now.entries }
+    {
+        self.entries.len() as u64
+    }
+
+    /// The word at row `i` and column `j`, where there is one. Its time grows with the logarithm of
+    /// the number of entries.
+    pub fn get(&self, i: u64, j: u64) -> Option<u64>
+        ensures { result ≡ word_at self.now.entries i j }
+    {
+        find(&self.entries, i, j)
+    }
+
+    /// The entries of the rows in a range, in order, as they lie in the store. The range may be empty
+    /// or reach beyond the rows. Its time grows with the logarithm of the number of entries.
+    pub fn rows_in(&self, range: Range<u64>) -> &[Entry]
+        ensures entries { result.now ≡ entries_in_rows range.start range.end self.now.entries }
+        ensures order { InOrder result.now }
+        ensures inside { IsInside self.now.rows self.now.cols result.now }
+    {
+        rows_between(&self.entries, range.start, range.end)
+    }
+
+    /// The entries of row `i`, in order, as they lie in the store. Its time grows with the logarithm of
+    /// the number of entries.
+    pub fn row(&self, i: u64) -> &[Entry]
+        ensures entries { result.now ≡ entries_in_row i self.now.entries }
+        ensures inside { IsInside self.now.rows self.now.cols result.now }
+    {
+        row_at(&self.entries, i)
+    }
+
+    /// Sets the word at row `i` and column `j`. A new entry behind all others takes logarithmic time,
+    /// and one in between also moves those behind it. Where there is an entry, no memory is taken.
+    pub fn set(&mut self, i: u64, j: u64, word: u64) -> Result<(), NoMemory>
+        requires row { i < self.old.rows }
+        requires col { j < self.old.cols }
+        ensures content { OnOk result ((p q : ℕ) → word_at self.new.entries p q ≡ with_entry (word_at self.old.entries) i j word p q) }
+        ensures rows { self.new.rows ≡ self.old.rows }
+        ensures cols { self.new.cols ≡ self.old.cols }
+        ensures refused { OnErr result (self.new ≡ self.old) }
+
+        // Only a new entry may be refused.
+        ensures absent { OnErr result (word_at self.old.entries i j ≡ None) }
+    {
+        put(
+            &mut self.entries,
+            Entry {
+                row: i,
+                col: j,
+                word,
+            },
+        )
+    }
+}
+
+/// How many entries the rows have; no number that large fits the memory, so the sum may stop at the
+/// greatest one.
+fn count(rows: &[Row]) -> usize {
+    let mut total: usize = 0;
+    for row in rows {
+        total = total.saturating_add(row.cols.len());
+    }
+    total
+}
+
+#[cfg(test)]
+mod tests {
+    use super::*;
+
+    #[test]
+    fn sets_and_reads(rt: HostRuntime) -> Result<(), NoMemory> {
+        let mut store = Store::new(rt.alloc(), 4, 4294967296);
+        store.set(2, 7, 27)?;
+        store.set(0, 4294967295, 9)?;
+        store.set(2, 3, 23)?;
+        store.set(2, 7, 28)?;
+        assert_eq!(rt; store.nvals(), 3);
+        assert_eq!(rt; (store.rows(), store.cols()), (4, 4294967296));
+        assert_eq!(rt; store.get(2, 7), Some(28));
+        assert_eq!(rt; store.get(2, 4), None);
+        let copy = store.try_clone()?;
+        store.set(3, 0, 30)?;
+        assert_eq!(rt; copy.nvals(), 3);
+        for (range, words) in [(0..4, [9, 23, 28]), (2..9, [23, 28, 30])] {
+            let entries = store.rows_in(range);
+            for (entry, word) in entries.iter().zip(&words) {
+                assert_eq!(rt; entry.word, *word);
+            }
+        }
+        assert_eq!(rt; store.rows_in(3..3).len(), 0);
+        Ok(())
+    }
+}
