@@ -1,0 +1,5 @@
+pub mod LineLaws
+pub mod RunLaws
+pub mod StoredEntries
+pub mod TableLaws
+pub mod TurnLaws

@@ -1,0 +1,2 @@
+pub mod Table
+pub mod Turns
