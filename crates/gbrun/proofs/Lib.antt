@@ -1,0 +1,3 @@
+mod CommandLines
+mod Faults
+mod Seeds

@@ -1,0 +1,14 @@
+use Rattle.std.specs.Prelude.{codes}
+use Rattle.std.proofs.lemmas.Result.{IfOk-weaker}
+use Rattle.gbrun.proofs.CommandLines.{first_value-command_line}
+use Rattle.gbrun.proofs.options.matches.Goals as goal
+
+pub returns-clause-order : goal.returns-clause-order
+returns-clause-order c =
+    IfOk-weaker c.try_get_matches_from.result _ _ (λ m has. first_value-command_line c.in_ok-command.field-0 _ m (codes "order") c.in_ok-command.ensures has)
+    c.try_get_matches_from.ensures.matches
+
+pub returns-clause-script : goal.returns-clause-script
+returns-clause-script c =
+    IfOk-weaker c.try_get_matches_from.result _ _ (λ m has. first_value-command_line c.in_ok-command.field-0 _ m (codes "script") c.in_ok-command.ensures has)
+    c.try_get_matches_from.ensures.matches

@@ -1,0 +1,4 @@
+pub mod CommandLine
+pub mod Faults
+pub mod Orders
+pub mod Outcomes

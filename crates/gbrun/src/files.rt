@@ -1,0 +1,34 @@
+//! Where the file of a script comes from.
+ghost use Rattle.std.specs.Prelude.{◌≡◌, ℕ, List, None, IfOk, IfSome};
+ghost use Rattle.std.specs.declared.option.Option.{Option};
+
+use std::rt::Files;
+use std::{fs, io};
+
+/// A source of files.
+pub trait FileSource {
+    // The bytes of the file of a name, where they are known.
+    ghost content: { Self → List ℕ → Option (List ℕ) } = { λ _ _. None };
+
+    /// All the bytes of the file `name`, or why it can't be opened and read whole.
+    fn read(&self, name: &str) -> io::Result<Vec<u8>>
+        ensures { IfOk result (λ bytes. IfSome (content self.now name.now)
+            (λ known. bytes.items ≡ known)) };
+}
+
+/// The files of a runtime.
+#[derive(Drop)]
+pub struct Disk<'a, R>(&'a R);
+
+impl<'a, R> Disk<'a, R> {
+    /// The files of `rt`.
+    pub fn new(rt: &'a R) -> Disk<'a, R> {
+        Disk(rt)
+    }
+}
+
+impl<R: Files + AllocGlobal> FileSource for Disk<'_, R> {
+    fn read(&self, name: &str) -> io::Result<Vec<u8>> {
+        fs::read(self.0, name)
+    }
+}

@@ -1,0 +1,415 @@
+//! The program over readers, writers and files in memory.
+use crate::files::FileSource;
+use crate::program::execute;
+use crate::words::of_process;
+use std::alloc::{AllocError, Global};
+use std::env::{Env, FillError};
+use std::io;
+use std::io::{ErrorKind, Read, Write};
+
+const STORED: &str =
+    "matrix A INT64 1 2\nmatrix B INT64 2 1\nmatrix C INT64 1 1\nset A 0 0 1\nset A 0 1 1\nset B 0 0 5\nset B 1 0 -5\nmxm C - - PLUS.TIMES.INT64 A B -\nnvals C\nget C 0 0\nprint C\n";
+
+const NO_SCRIPT: &str = "gbrun: cannot read script\n";
+
+const NO_OUTPUT: &str = "gbrun: cannot write output\n";
+
+const BAD_ORDER: &str = "gbrun: bad order\n";
+
+// Reads at most seven bytes a step, and fails at one step.
+#[derive(Drop)]
+struct Input<'a> {
+    rest: &'a [u8],
+    steps: u32,
+    fails_at: Option<u32>,
+}
+
+impl<'a> Input<'a> {
+    fn new(text: &'a str) -> Input<'a> {
+        Input {
+            rest: text.as_bytes(),
+            steps: 0,
+            fails_at: None,
+        }
+    }
+}
+
+impl Read for Input<'_> {
+    fn read(&mut self, buf: &mut [u8]) -> io::Result<usize> {
+        if self.fails_at == Some(self.steps) {
+            return Err(io::Error::from(ErrorKind::Other));
+        }
+        self.steps = self.steps.saturating_add(1);
+        let count = self.rest.len().min(buf.len()).min(7);
+        let (now, later) = self.rest.split_at(count);
+        buf[..count].copy_from_slice(now);
+        self.rest = later;
+        Ok(count)
+    }
+}
+
+// Takes at most `most` bytes a write, and fails at one write or at a flush.
+#[derive(Drop)]
+struct Output {
+    bytes: Vec<u8>,
+    most: usize,
+    writes: u32,
+    fails_at: Option<u32>,
+    flush_fails: bool,
+    is_flushed: bool,
+}
+
+impl Output {
+    fn new(alloc: Global) -> Output {
+        Output {
+            bytes: Vec::new(alloc),
+            most: usize::MAX,
+            writes: 0,
+            fails_at: None,
+            flush_fails: false,
+            is_flushed: false,
+        }
+    }
+}
+
+impl Write for Output {
+    fn write(&mut self, buf: &[u8]) -> io::Result<usize> {
+        if self.fails_at == Some(self.writes) {
+            return Err(io::Error::from(ErrorKind::BrokenPipe));
+        }
+        self.writes = self.writes.saturating_add(1);
+        let count = buf.len().min(self.most);
+        self.bytes.extend_from_slice(&buf[..count])?;
+        self.is_flushed = false;
+        Ok(count)
+    }
+
+    fn flush(&mut self) -> io::Result<()> {
+        if self.flush_fails {
+            return Err(io::Error::from(ErrorKind::Other));
+        }
+        self.is_flushed = true;
+        Ok(())
+    }
+}
+
+// One file, `stored`.
+#[derive(Drop)]
+struct Shelf {
+    alloc: Global,
+}
+
+impl FileSource for Shelf {
+    fn read(&self, name: &str) -> io::Result<Vec<u8>> {
+        if name != "stored" {
+            return Err(io::Error::from(ErrorKind::NotFound));
+        }
+        Ok(Vec::from_slice(self.alloc, STORED.as_bytes())?)
+    }
+}
+
+// What a run leaves.
+#[derive(Drop)]
+struct Outcome {
+    status: u8,
+    out: Output,
+    err: Output,
+}
+
+impl Outcome {
+    fn is(&self, status: u8, out: &[u8], err: &str) -> bool {
+        self.status == status
+            && self.out.bytes.as_slice() == out
+            && self.err.bytes.as_slice() == err.as_bytes()
+    }
+
+    fn err_starts_with(&self, text: &str) -> bool {
+        self.err.bytes.as_slice().starts_with(text.as_bytes())
+    }
+}
+
+fn words_of(alloc: Global, line: &str) -> Result<Vec<Vec<u8>>, AllocError> {
+    let mut words = Vec::new(alloc);
+    for word in line.split_whitespace() {
+        words.push(Vec::from_slice(alloc, word.as_bytes())?)?;
+    }
+    Ok(words)
+}
+
+// Runs a line of words over an input, into these outputs.
+fn run_into(
+    alloc: Global,
+    line: &str,
+    mut input: Input<'_>,
+    mut out: Output,
+    mut err: Output,
+) -> Result<Outcome, AllocError> {
+    let words = words_of(alloc, line)?;
+    let status = execute(
+        alloc,
+        words.as_slice(),
+        &mut input,
+        &Shelf { alloc },
+        &mut out,
+        &mut err,
+    );
+    Ok(Outcome { status, out, err })
+}
+
+fn run(alloc: Global, line: &str, text: &str) -> Result<Outcome, AllocError> {
+    let (out, err) = (Output::new(alloc), Output::new(alloc));
+    run_into(alloc, line, Input::new(text), out, err)
+}
+
+fn answers(alloc: Global, text: &str) -> Result<Vec<u8>, AllocError> {
+    let mut out = Vec::new(alloc);
+    match script::run(alloc, text.as_bytes(), &mut out) {
+        Ok(()) => Ok(out),
+        Err(_) => Err(AllocError),
+    }
+}
+
+#[test]
+fn runs_the_script_of_each_source(rt: HostRuntime) -> Result<(), AllocError> {
+    let alloc = rt.alloc();
+    let stored = answers(alloc, STORED)?;
+    let cases = [
+        ("", STORED),
+        ("stored", ""),
+        ("stored", "unread\n"),
+        ("--workers=0 --rows 1 stored --order last", ""),
+        ("-- stored", ""),
+    ];
+    for (line, text) in cases {
+        let outcome = run(alloc, line, text)?;
+        assert!(rt; outcome.is(0, stored.as_slice(), ""), "at {line:?}");
+        assert!(rt; outcome.out.is_flushed, "at {line:?}");
+    }
+    let empty = run(alloc, "", "")?;
+    assert!(rt; empty.is(0, b"", ""));
+    Ok(())
+}
+
+#[test]
+fn takes_a_right_command_line(rt: HostRuntime) -> Result<(), AllocError> {
+    let alloc = rt.alloc();
+    let right = [
+        "--workers 0",
+        "--workers 64",
+        "--rows 1",
+        "--rows 4294967296",
+        "--order first",
+        "--order last",
+        "--order seed:0",
+        "--order seed:007",
+        "--order seed:18446744073709551615",
+        "--order seed:00000000000000000001",
+        "--order=seed:5 --rows=7 --workers=3",
+    ];
+    for line in right {
+        let outcome = run(alloc, line, "")?;
+        assert!(rt; outcome.is(0, b"", ""), "at {line:?}");
+    }
+    Ok(())
+}
+
+#[test]
+fn tells_a_wrong_command_line(rt: HostRuntime) -> Result<(), AllocError> {
+    let alloc = rt.alloc();
+    let wrong = [
+        "--workers 65",
+        "--workers -1",
+        "--workers=-1",
+        "--workers x",
+        "--workers",
+        "--workers 1 --workers 2",
+        "--rows 0",
+        "--rows 4294967297",
+        "--rows 99999999999999999999",
+        "--threads 2",
+        "-w 2",
+        "stored stored",
+        "--order bad --rows 0",
+        "--order",
+    ];
+    for line in wrong {
+        let outcome = run(alloc, line, STORED)?;
+        assert!(rt; outcome.status == 2, "at {line:?}");
+        assert!(rt; outcome.out.bytes.is_empty(), "at {line:?}");
+        assert!(rt; outcome.err_starts_with("error: "), "at {line:?}");
+        assert!(rt; outcome.err.bytes.last() == Some(&b'\n'), "at {line:?}");
+    }
+    Ok(())
+}
+
+#[test]
+fn tells_a_bad_order(rt: HostRuntime) -> Result<(), AllocError> {
+    let alloc = rt.alloc();
+    let orders = [
+        "First",
+        "firs",
+        "first1",
+        "LAST",
+        "seed",
+        "seed:",
+        "seed:-1",
+        "seed:+1",
+        "seed:1x",
+        "seed:18446744073709551616",
+        "seed:99999999999999999999",
+        "seed:000000000000000000001",
+        "Seed:1",
+    ];
+    for order in orders {
+        let line = format!(in alloc; "--order {order} missing")?;
+        let outcome = run(alloc, line.as_str(), STORED)?;
+        assert!(rt; outcome.is(2, b"", BAD_ORDER), "at {order:?}");
+    }
+    let empty = run(alloc, "--order=", STORED)?;
+    assert!(rt; empty.is(2, b"", BAD_ORDER));
+    Ok(())
+}
+
+#[test]
+fn prints_help(rt: HostRuntime) -> Result<(), AllocError> {
+    let alloc = rt.alloc();
+    for line in ["--help", "-h", "--order bad --help", "missing -h"] {
+        let outcome = run(alloc, line, STORED)?;
+        let text = outcome.out.bytes.as_slice();
+        assert!(rt;
+            outcome.status == 0 && outcome.err.bytes.is_empty(),
+            "at {line:?}"
+        );
+        assert!(rt;
+            text.starts_with(b"Runs a script of GraphBLAS calls\n"),
+            "at {line:?}"
+        );
+        assert!(rt;
+            text.last() == Some(&b'\n') && outcome.out.is_flushed,
+            "at {line:?}"
+        );
+    }
+    let mut closed = Output::new(alloc);
+    closed.fails_at = Some(0);
+    let untold = run_into(alloc, "-h", Input::new(""), closed, Output::new(alloc))?;
+    assert!(rt; untold.is(1, b"", NO_OUTPUT));
+    Ok(())
+}
+
+#[test]
+fn tells_an_unreadable_script(rt: HostRuntime) -> Result<(), AllocError> {
+    let alloc = rt.alloc();
+    for step in [0, 1, 5, 20] {
+        let failing = Input {
+            rest: STORED.as_bytes(),
+            steps: 0,
+            fails_at: Some(step),
+        };
+        let (out, err) = (Output::new(alloc), Output::new(alloc));
+        let outcome = run_into(alloc, "", failing, out, err)?;
+        assert!(rt; outcome.is(1, b"", NO_SCRIPT), "at {step}");
+    }
+    let missing = run(alloc, "missing", STORED)?;
+    assert!(rt; missing.is(1, b"", NO_SCRIPT));
+    let mut closed = Output::new(alloc);
+    closed.fails_at = Some(0);
+    let first = run_into(alloc, "missing", Input::new(""), closed, Output::new(alloc))?;
+    assert!(rt; first.is(1, b"", NO_SCRIPT));
+    Ok(())
+}
+
+#[test]
+fn tells_an_output_that_fails(rt: HostRuntime) -> Result<(), AllocError> {
+    let alloc = rt.alloc();
+    let stored = answers(alloc, STORED)?;
+    for step in [0u32, 1, 3] {
+        let mut out = Output::new(alloc);
+        out.most = 2;
+        out.fails_at = Some(step);
+        let outcome = run_into(alloc, "", Input::new(STORED), out, Output::new(alloc))?;
+        let taken = 2 * step as usize;
+        let kept = stored.as_slice().get(..taken).expect(&rt, "long answers");
+        assert!(rt; outcome.is(1, kept, NO_OUTPUT), "at {step}");
+    }
+    let mut unflushed = Output::new(alloc);
+    unflushed.flush_fails = true;
+    let outcome = run_into(alloc, "", Input::new(STORED), unflushed, Output::new(alloc))?;
+    assert!(rt; outcome.is(1, stored.as_slice(), NO_OUTPUT));
+    let (mut slow, mut slow_err) = (Output::new(alloc), Output::new(alloc));
+    slow.most = 1;
+    slow_err.most = 1;
+    let outcome = run_into(alloc, "stored", Input::new(""), slow, slow_err)?;
+    assert!(rt; outcome.is(0, stored.as_slice(), ""));
+    Ok(())
+}
+
+#[test]
+fn keeps_the_status_where_err_fails(rt: HostRuntime) -> Result<(), AllocError> {
+    let alloc = rt.alloc();
+    for (line, status) in [("--rows 0", 2), ("--order x", 2), ("missing", 1)] {
+        let (mut closed, mut unflushed) = (Output::new(alloc), Output::new(alloc));
+        closed.fails_at = Some(0);
+        unflushed.flush_fails = true;
+        let outcome = run_into(alloc, line, Input::new(""), Output::new(alloc), closed)?;
+        assert!(rt; outcome.is(status, b"", ""), "at {line:?}");
+        let outcome = run_into(alloc, line, Input::new(""), Output::new(alloc), unflushed)?;
+        assert!(rt; outcome.status == status, "at {line:?}");
+    }
+    let mut slow = Output::new(alloc);
+    slow.most = 1;
+    let outcome = run_into(alloc, "missing", Input::new(""), Output::new(alloc), slow)?;
+    assert!(rt; outcome.is(1, b"", NO_SCRIPT));
+    Ok(())
+}
+
+// The program's name, a long word and one that is no text.
+#[derive(Drop)]
+struct Process;
+
+const LONG: usize = 5000;
+
+impl Env for Process {
+    fn arg(&self, i: usize, buf: &mut [u8]) -> Result<usize, FillError> {
+        match i {
+            1 if buf.len() < LONG => Err(FillError::TooLong),
+            1 => {
+                buf[..LONG].fill(b'x');
+                Ok(LONG)
+            }
+            2 if !buf.is_empty() => {
+                buf[0] = 0xff;
+                Ok(1)
+            }
+            _ => Err(FillError::NotPresent),
+        }
+    }
+
+    fn var(&self, _name: &str, _buf: &mut [u8]) -> Result<usize, FillError> {
+        Err(FillError::NotPresent)
+    }
+
+    fn var_at(&self, _i: usize, _buf: &mut [u8]) -> Result<usize, FillError> {
+        Err(FillError::NotPresent)
+    }
+}
+
+#[test]
+fn refuses_words_that_are_no_text(rt: HostRuntime) -> Result<(), AllocError> {
+    let alloc = rt.alloc();
+    let words = of_process(alloc, &Process)?;
+    assert!(rt; words.len() == 2);
+    assert!(rt; words.first().is_some_and(|word| word.len() == LONG));
+    let (mut out, mut err) = (Output::new(alloc), Output::new(alloc));
+    let status = execute(
+        alloc,
+        words.as_slice(),
+        &mut Input::new(STORED),
+        &Shelf { alloc },
+        &mut out,
+        &mut err,
+    );
+    let outcome = Outcome { status, out, err };
+    assert!(rt; outcome.status == 2 && outcome.out.bytes.is_empty());
+    assert!(rt; outcome.err_starts_with("error: invalid UTF-8"));
+    Ok(())
+}
