@@ -1,2 +1,5 @@
+pub mod EnvironmentLaws
+pub mod GridLaws
+pub mod ProductLaws
 pub mod Rows
 pub mod Statuses

@@ -1,7 +1,7 @@
 -- Which error a call answers (GraphBLAS C API 2.0, section 2.5.2 and the return values of each method;
 -- the order among several is this project's).
-use Rattle.std.specs.Prelude.{ℕ, ℤ, pos, negsuc, ◌^◌, ◌==◌, nat_le, nat_lt, not, Bool, true, false, ◌&&◌, ◌||◌, if◌then◌else◌, List, [], ◌∷◌, Option, Some, None, is_some, is_none, int_le}
-use Rattle.std.specs.Option.{option_map, option_map_or}
+use Rattle.std.specs.Prelude.{ℕ, ℤ, pos, negsuc, ◌==◌, nat_le, nat_lt, not, Bool, true, false, ◌&&◌, ◌||◌, if◌then◌else◌, List, [], ◌∷◌, Option, Some, None, is_some, int_le}
+use Rattle.std.specs.Option.{option_map_or}
 use Rattle.algebra.specs.declared.domain.Domain.{Domain}
 use Rattle.algebra.specs.declared.domain.Domain.TheVariants as domains
 use Rattle.algebra.specs.declared.kinds.BinaryKind.{BinaryKind}

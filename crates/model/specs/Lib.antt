@@ -1,5 +1,6 @@
 pub mod Call
 pub mod Command
+pub mod Evaluated
 pub mod Fault
 pub mod Grammar
 pub mod Object

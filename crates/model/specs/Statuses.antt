@@ -4,7 +4,7 @@ use Rattle.std.specs.Prelude.{ℕ, ◌+◌, ◌≡◌, ◌⊎◌, if◌then◌el
 use Rattle.std.specs.Str.{bytes_eq}
 use Rattle.model.specs.declared.status.Status.{Status}
 use Rattle.model.specs.declared.status.Status.TheVariants as status
-use Rattle.model.specs.Command.{Command, Name, Matrix, Get}
+use Rattle.model.specs.Command.{Command, Matrix, Get}
 use Rattle.model.specs.Fault.{Known, early_fault}
 use Rattle.model.specs.Grammar.{Reading, Silent, Malformed, Call, reading_of}
 use Rattle.model.specs.Object as object

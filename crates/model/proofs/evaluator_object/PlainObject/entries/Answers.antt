@@ -1,0 +1,17 @@
+-- The rows, one after the other.
+use Rattle.std.proofs.Common.{◌≡◌, ◌∙◌, rules, arith}
+use Rattle.model.specs.Evaluated.{object_of}
+use Rattle.model.specs.Object.{row_entries}
+use Rattle.model.proofs.GridLaws.{all_rows, rows-more, rows-start}
+use Rattle.model.proofs.evaluator_object.PlainObject.entries.Goals as goal
+
+pub loop-row-init : goal.loop-row-init
+loop-row-init c = c.new-out.ensures.items ∙ rows-start (row_entries c.args.self.now.cols (object_of c.args.self.now).content)
+
+pub loop-row-preserved : goal.loop-row-preserved
+loop-row-preserved c = rows-more (row_entries c.args.self.now.cols (object_of c.args.self.now).content) c.loop-row.row c.loop-row.out.items c.push_row.new.out.items c.loop-row.invariant (search rules)
+
+pub returns : goal.returns
+returns c =
+    let end : c.loop-row.row ≡ c.args.self.now.rows = omega arith in
+    all_rows c.args.self.now.rows c.args.self.now.cols (object_of c.args.self.now).content c.loop-row.out.items (rw end at c.loop-row.invariant)
