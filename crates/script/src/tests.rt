@@ -1,4 +1,5 @@
 use crate::{Command, Line, parse_line, run};
+use model::PlainEnvironment;
 use std::alloc::Global;
 use std::test::Fail;
 
@@ -40,6 +41,51 @@ fn tests_in_order(rt: HostRuntime) -> Result<(), Fail> {
             "{call}"
         );
     }
+    Ok(())
+}
+
+/// The answers that the slow plain evaluator gives.
+fn plain_answers(alloc: Global, script: &str) -> Result<String, Fail> {
+    let mut environment = PlainEnvironment::new(alloc);
+    let mut text = String::from_str(alloc, "before\n")?;
+    for (index, line) in script.lines().enumerate() {
+        let number = index as u64 + 1;
+        match parse_line(alloc, line.as_bytes()) {
+            Ok(Line::Silent) => {}
+            Ok(Line::Call(command)) => {
+                let answer = environment.step(alloc, number, &command)?;
+                text.push_str(format!(in alloc; "{number} {}\n", answer.status.name())?.as_str())?;
+                for data in &answer.data_lines {
+                    text.push_str(str::from_utf8(data)?)?;
+                    text.push_str("\n")?;
+                }
+            }
+            Err(_) => text.push_str(format!(in alloc; "{number} SYNTAX\n")?.as_str())?,
+        }
+    }
+    Ok(text)
+}
+
+#[test]
+fn agrees_with_the_plain_evaluator(rt: HostRuntime) -> Result<(), Fail> {
+    let alloc = rt.alloc();
+    let mut script = String::from_str(alloc, "matrix A INT64 3 3\nmatrix B INT64 3 3\n")?;
+    let mut state: u32 = 1;
+    for _ in 0..60 {
+        state = state.wrapping_mul(1_103_515_245).wrapping_add(12_345);
+        let (row, col, word) = (state >> 28, (state >> 24) & 3, (state >> 16) & 255);
+        let line = format!(in alloc;
+            "set A {row} {col} {word}\nset B {col} {row} -{word}\nget B {row} {col}\n"
+        )?;
+        script.push_str(line.as_str())?;
+    }
+    script.push_str("mxm A - - PLUS.TIMES.INT64 A B -\nprint A\nnvals B\n")?;
+    script.push_str("mxm B - - MIN.PLUS.INT64 B A -\nprint B\nmxm B - - MIN.MIN.INT64 B C -")?;
+    let run = answers(alloc, script.as_str())?;
+    assert_eq!(rt;
+        run.as_str(),
+        plain_answers(alloc, script.as_str())?.as_str()
+    );
     Ok(())
 }
 
