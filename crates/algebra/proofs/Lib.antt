@@ -1,1 +1,2 @@
+pub mod Monoids
 pub mod Residues

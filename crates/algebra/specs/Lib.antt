@@ -1,2 +1,3 @@
+pub mod Monoids
 pub mod Operators
 pub mod Value
