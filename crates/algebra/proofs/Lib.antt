@@ -1,2 +1,3 @@
+pub mod Casts
 pub mod Monoids
 pub mod Residues

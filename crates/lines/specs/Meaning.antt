@@ -2,16 +2,11 @@
 use Rattle.std.specs.Prelude.{◌≡◌, Result, Ok, Err}
 use Rattle.model.specs.Grammar as grammar
 use Rattle.model.specs.Call.{call_of}
+use Rattle.model.specs.Runs.{IsAnswered}
 use Rattle.lines.specs.declared.line.Line.{Line}
 use Rattle.lines.specs.declared.line.Line.TheVariants.{Silent, Call}
 use Rattle.lines.specs.declared.fault.LineFault.{LineFault}
 use Rattle.lines.specs.declared.fault.LineFault.TheVariants.{Syntax, NoMemory}
-
--- a line that has an answer
-abbrev pub IsAnswered : grammar.Reading → Type 0
-IsAnswered grammar.Silent = ⊥
-IsAnswered grammar.Malformed = Unit {0}
-IsAnswered (grammar.Call call) = Unit {0}
 
 -- what was read of a line is this reading, unless memory was refused at a line that has an answer
 abbrev pub Reads : Result Line LineFault → grammar.Reading → Type 0

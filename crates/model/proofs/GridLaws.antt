@@ -179,6 +179,10 @@ is_one-count i first (suc n) = rw (is_one-count i (first + 1) n) (count_step i f
 is_one-below : (i n : ℕ) → is_one i (below n) ≡ nat_lt i n
 is_one-below i n = is_one-count i 0 n ∙ grind (arith, nat_tests)
 
+-- what a row of a map lists
+pub listed-row : (c : Content) (cols r i j : ℕ) → word_at (row_entries cols c r) i j ≡ cond ((i == r) && nat_lt j cols) (c i j) None
+listed-row c cols r i j = listed_row c r (below cols) i j ∙ rw (is_one-below j cols) refl
+
 pub listed : (rows cols : ℕ) (c : Content) (i j : ℕ) → word_at (entries_of rows cols c) i j ≡ within rows cols c i j
 unfolding entries_of
 listed rows cols c i j = listed_rows c cols (below rows) i j ∙ rw (is_one-below i rows, is_one-below j cols) refl

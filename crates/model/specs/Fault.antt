@@ -1,6 +1,6 @@
 -- Which error a call answers (GraphBLAS C API 2.0, section 2.5.2 and the return values of each method;
 -- the order among several is this project's).
-use Rattle.std.specs.Prelude.{ℕ, ℤ, pos, negsuc, ◌==◌, nat_le, nat_lt, not, Bool, true, false, ◌&&◌, ◌||◌, if◌then◌else◌, List, [], ◌∷◌, Option, Some, None, is_some, int_le}
+use Rattle.std.specs.Prelude.{ℕ, ℤ, pos, negsuc, ◌≡◌, ◌==◌, nat_le, nat_lt, not, Bool, true, false, ◌&&◌, ◌||◌, if◌then◌else◌, List, [], ◌∷◌, Option, Some, None, is_some, int_le}
 use Rattle.std.specs.Option.{option_map_or}
 use Rattle.algebra.specs.declared.domain.Domain.{Domain}
 use Rattle.algebra.specs.declared.domain.Domain.TheVariants as domains
@@ -58,6 +58,11 @@ is_listed _ _ _ = false
 -- the semirings that calls can use so far
 abbrev pub has_come : Ring → Bool
 has_come ring = is_listed ring.add ring.multiply ring.domain
+
+-- a new object is on the one domain that scripts can name so far
+abbrev pub IsOnInt64 : Command → Type 0
+IsOnInt64 (Matrix name domain rows cols) = domain ≡ domains.Int64
+IsOnInt64 _ = Unit {0}
 
 -- ---- places and shapes
 

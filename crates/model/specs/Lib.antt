@@ -6,5 +6,5 @@ pub mod Grammar
 pub mod Object
 pub mod Product
 pub mod Run
-pub mod Statuses
+pub mod Runs
 pub mod Text

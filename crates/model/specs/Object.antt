@@ -1,6 +1,6 @@
 -- Objects: a domain, a shape, and a finite map from positions inside the shape to words
 -- (GraphBLAS C API 2.0, sections 3.5.2 and 3.5.3: a matrix or vector is a set of tuples, at most one at an index).
-use Rattle.std.specs.Prelude.{ℕ, zero, suc, ◌+◌, ◌<◌, ◌≡◌, ◌⊎◌, ◌&&◌, ◌==◌, if◌then◌else◌, List, [], ◌∷◌, Option, Some, None}
+use Rattle.std.specs.Prelude.{ℕ, zero, suc, ◌+◌, ◌-◌, ◌<◌, ◌≡◌, ◌⊎◌, ◌&&◌, ◌==◌, false, nat_lt, if◌then◌else◌, List, [], ◌∷◌, Option, Some, None}
 use Rattle.std.specs.Option.{option_map}
 use Rattle.std.specs.List.{All, AllPairs, filter_map, flat_map}
 use Rattle.algebra.specs.declared.domain.Domain.{Domain}
@@ -28,6 +28,10 @@ no_content = λ i j. None
 -- the edit that sets a value: what was stored, with this word at one position
 abbrev pub with_entry : Content → ℕ → ℕ → ℕ → Content
 with_entry c row col word = λ i j. if (i == row) && (j == col) then Some word else c i j
+
+-- a map that has nothing outside a shape of so many rows and columns
+abbrev pub IsWithin : ℕ → ℕ → Content → Type 0
+IsWithin rows cols c = (i j : ℕ) → (nat_lt i rows && nat_lt j cols) ≡ false → c i j ≡ None
 
 -- each value cast from one domain to another
 abbrev pub cast_content : Domain → Domain → Content → Content
@@ -71,3 +75,7 @@ row_entries cols c i = filter_map (λ j. option_map (entry_at i j) (c i j)) (bel
 -- the entries of a map inside a shape, row by row
 unfoldable pub entries_of : ℕ → ℕ → Content → List Entry
 entries_of rows cols c = flat_map (row_entries cols c) (below rows)
+
+-- the entries of the rows from first up to before past, row by row
+unfoldable pub entries_between : ℕ → ℕ → ℕ → Content → List Entry
+entries_between first past cols c = flat_map (row_entries cols c) (count_from first (past - first))

@@ -79,10 +79,10 @@ unfoldable pub answers_from : ℕ → Environment → List (List ℕ) → List A
 answers_from number env [] = []
 answers_from number env (line ∷ lines) = let now = turn number env (reading_of line) in now.0 ++ answers_from (number + 1) now.1 lines
 
--- the answers to a script
-unfoldable pub answers_of : List ℕ → List Answer
-answers_of script = answers_from 1 no_objects (lines_of script)
+-- what lines write, that are numbered from 1
+unfoldable pub out_of_lines : List (List ℕ) → List ℕ
+out_of_lines lines = flat_map answer_text (answers_from 1 no_objects lines)
 
 -- what a script writes
 unfoldable pub out_of : List ℕ → List ℕ
-out_of script = flat_map answer_text (answers_of script)
+out_of script = out_of_lines (lines_of script)

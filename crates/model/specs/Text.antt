@@ -52,10 +52,14 @@ value_text domain word = signed_decimal (value_of domain word)
 abbrev pub entry_line : Domain → Entry → List ℕ
 entry_line domain e = decimal (e.row + 1) ++ 32 ∷ decimal (e.col + 1) ++ 32 ∷ value_text domain e.word
 
+-- rows, columns and the number of entries
+abbrev pub size_line : ℕ → ℕ → ℕ → List ℕ
+size_line rows cols nvals = decimal rows ++ 32 ∷ decimal cols ++ 32 ∷ decimal nvals
+
 -- the banner, the size line, and a line for each entry
 unfoldable pub canonical_lines : Object → List (List ℕ)
 canonical_lines o =
     let entries = entries_of (rows_of o.shape) (cols_of o.shape) o.content in
     codes "%%MatrixMarket matrix coordinate integer general"
-    ∷ (decimal (rows_of o.shape) ++ 32 ∷ decimal (cols_of o.shape) ++ 32 ∷ decimal (length entries))
+    ∷ size_line (rows_of o.shape) (cols_of o.shape) (length entries)
     ∷ map (entry_line o.domain) entries

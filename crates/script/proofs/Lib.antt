@@ -1,5 +1,6 @@
 pub mod LineLaws
+pub mod ProductLaws
 pub mod RunLaws
-pub mod StoredEntries
 pub mod TableLaws
+pub mod TextLaws
 pub mod TurnLaws

@@ -1,58 +1,85 @@
--- One line's answer: its number, a status, and its data lines.
-use Rattle.std.proofs.Common.{◌≡◌, ℕ, List, [], ◌∷◌, ◌++◌, Result, Ok, Err, OnOk, refl, sym, ◌∙◌, inl, inr}
-use Rattle.std.specs.Prelude.{decimal}
+-- The text of one line's answer: its number, a status, and its data lines.
+use Rattle.std.proofs.Common.{◌≡◌, ℕ, List, [], ◌∷◌, ◌++◌, Result, Ok, Err, OnOk, refl, sym, ◌∙◌, ap, inl, inr, Some, None}
+use Rattle.std.specs.Prelude.{decimal, ◌⊎◌}
 use Rattle.std.specs.List.{flat_map}
 use Rattle.std.proofs.lemmas.List.{append-nil}
-use Rattle.lines.specs.Meaning.{IsAnswered}
 use Rattle.model.specs.Command.{Command}
 use Rattle.model.specs.declared.status.Status.{Status}
 use Rattle.model.specs.declared.status.Status.TheVariants as status
-use Rattle.model.specs.Fault.{Known}
 use Rattle.model.specs.Grammar.{Reading, Silent, Malformed, Call}
-use Rattle.model.specs.Statuses.{Answers, known_then}
-use Rattle.model.specs.Text.{answer_text, ended, status_name}
-use Rattle.script.specs.Turns.{IsTurn}
+use Rattle.model.specs.Run.{Environment, data_lines_of, effect, fault_of, step, turn}
+use Rattle.model.specs.Runs.{State, IsAnswered, out_of_memory}
+use Rattle.model.specs.Text.{Answer, answer_text, ended, status_name}
+use Rattle.script.specs.Turns.{Says}
 
 -- the first line of an answer
 abbrev pub status_line : ℕ → Status → List ℕ
 status_line number s = decimal number ++ 32 ∷ ended (status_name s)
 
-pub turn-call : (reading : Reading) (call : Command) (number : ℕ) (before after : Known) (s : Status) (data_lines : List (List ℕ)) (text : List ℕ)
-    → reading ≡ Call call → Answers before call s → after ≡ known_then before call s
-    → text ≡ status_line number s ++ flat_map ended data_lines
-    → IsTurn reading number before after text
+abbrev pub state_of : Environment → State
+state_of environment = record { environment = environment }
+
+-- a line that is silent
+pub says-nothing : (reading : Reading) (number : ℕ) (before : Environment) (text : List ℕ) → reading ≡ Silent → text ≡ [] → Says number (state_of before) reading text (state_of before)
+unfolding turn
+says-nothing reading number before text read empty = rw read ([], inl refl, empty)
+
+-- an answer's text is its first line and its data lines
+text_of_one : (a : Answer) (text : List ℕ) → text ≡ status_line a.number a.status ++ flat_map ended a.data_lines → text ≡ flat_map answer_text (a ∷ [])
 unfolding answer_text
-turn-call reading call number before after s data_lines text read settled known texts =
-    rw read (record { number = number; status = s; data_lines = data_lines }, refl, settled, texts, known)
+text_of_one a text texts = texts ∙ sym (append-nil (answer_text a))
 
--- an answer without data lines, where it is written
-pub turn-refused : {E : Type 0} (r : Result (Unit {0}) E) (reading : Reading) (call : Command) (number : ℕ) (before after : Known) (s : Status) (text : List ℕ)
-    → reading ≡ Call call → Answers before call s → after ≡ known_then before call s
+-- an accepted call
+pub says-ok : (reading : Reading) (call : Command) (number : ℕ) (before after : Environment) (text : List ℕ)
+    → reading ≡ Call call → fault_of before call ≡ None → after ≡ effect before call
+    → text ≡ status_line number status.Ok ++ flat_map ended (data_lines_of before call)
+    → Says number (state_of before) reading text (state_of after)
+unfolding turn step
+says-ok reading call number before after text read accepted left texts =
+    let said : Answer = record { number = number; status = status.Ok; data_lines = data_lines_of before call } in
+    rw read (said ∷ [], inl (rw (accepted, left) refl), text_of_one said text texts)
+
+-- an answer that memory was refused
+says-out_of_memory : (reading : Reading) (number : ℕ) (before after : Environment) (text : List ℕ)
+    → IsAnswered reading → after ≡ before → text ≡ status_line number status.OutOfMemory
+    → Says number (state_of before) reading text (state_of after)
+says-out_of_memory reading number before after text answered kept texts =
+    (out_of_memory number ∷ [], inr (answered, refl, ap state_of kept), text_of_one (out_of_memory number) text (texts ∙ sym (append-nil (status_line number status.OutOfMemory))))
+
+-- a call with a fault
+says-fault : (call : Command) (number : ℕ) (before after : Environment) (s : Status) (text : List ℕ)
+    → fault_of before call ≡ Some s → after ≡ before → text ≡ status_line number s
+    → Says number (state_of before) (Call call) text (state_of after)
+unfolding turn step
+says-fault call number before after s text fault kept texts =
+    let said : Answer = record { number = number; status = s; data_lines = [] } in
+    (said ∷ [], inl (rw (fault, kept) refl), text_of_one said text (texts ∙ sym (append-nil (status_line number s))))
+
+-- a call that is not accepted, where its answer is written
+pub says-refused : {E : Type 0} (r : Result (Unit {0}) E) (reading : Reading) (call : Command) (number : ℕ) (before after : Environment) (s : Status) (text : List ℕ)
+    → reading ≡ Call call → (s ≡ status.OutOfMemory) ⊎ (fault_of before call ≡ Some s) → after ≡ before
     → OnOk r (text ≡ status_line number s)
-    → OnOk r (IsTurn reading number before after text)
-turn-refused (Ok done) reading call number before after s text read settled known texts =
-    turn-call reading call number before after s [] text read settled known (texts ∙ sym (append-nil (status_line number s)))
-turn-refused (Err refused) reading call number before after s text read settled known texts = tt
+    → OnOk r (Says number (state_of before) reading text (state_of after))
+says-refused (Err refused) reading call number before after s text read why kept texts = tt
+says-refused (Ok done) reading call number before after s text read (inl memory) kept texts =
+    rw read (says-out_of_memory (Call call) number before after text tt kept (rw memory at texts))
+says-refused (Ok done) reading call number before after s text read (inr fault) kept texts = rw read (says-fault call number before after s text fault kept texts)
 
--- the answer to a line that is no command
-pub turn-malformed : {E : Type 0} (r : Result (Unit {0}) E) (reading : Reading) (number : ℕ) (known : Known) (text : List ℕ)
+-- a line that is no command, where its answer is written
+pub says-malformed : {E : Type 0} (r : Result (Unit {0}) E) (reading : Reading) (number : ℕ) (before : Environment) (text : List ℕ)
     → reading ≡ Malformed
     → OnOk r (text ≡ status_line number status.Syntax)
-    → OnOk r (IsTurn reading number known known text)
-unfolding answer_text
-turn-malformed (Ok done) reading number known text read texts =
-    rw read (record { number = number; status = status.Syntax; data_lines = [] }, refl, inr refl, texts ∙ sym (append-nil (status_line number status.Syntax)), refl)
-turn-malformed (Err refused) reading number known text read texts = tt
+    → OnOk r (Says number (state_of before) reading text (state_of before))
+unfolding turn
+says-malformed (Err refused) reading number before text read texts = tt
+says-malformed (Ok done) reading number before text read texts =
+    let said : Answer = record { number = number; status = status.Syntax; data_lines = [] } in
+    rw read (said ∷ [], inl refl, text_of_one said text (texts ∙ sym (append-nil (status_line number status.Syntax))))
 
--- the answer to a line that there is no memory to read
-pub turn-out_of_memory : {E : Type 0} (r : Result (Unit {0}) E) (reading : Reading) (number : ℕ) (known : Known) (text : List ℕ)
+-- a line that there is no memory to read, where its answer is written
+pub says-unread : {E : Type 0} (r : Result (Unit {0}) E) (reading : Reading) (number : ℕ) (before : Environment) (text : List ℕ)
     → IsAnswered reading
     → OnOk r (text ≡ status_line number status.OutOfMemory)
-    → OnOk r (IsTurn reading number known known text)
-unfolding answer_text
-turn-out_of_memory (Err refused) reading number known text answered texts = tt
-turn-out_of_memory (Ok done) Silent number known text answered texts = absurd answered
-turn-out_of_memory (Ok done) Malformed number known text answered texts =
-    (record { number = number; status = status.OutOfMemory; data_lines = [] }, refl, inl refl, texts ∙ sym (append-nil (status_line number status.OutOfMemory)), refl)
-turn-out_of_memory (Ok done) (Call call) number known text answered texts =
-    (record { number = number; status = status.OutOfMemory; data_lines = [] }, refl, inl refl, texts ∙ sym (append-nil (status_line number status.OutOfMemory)), refl)
+    → OnOk r (Says number (state_of before) reading text (state_of before))
+says-unread (Err refused) reading number before text answered texts = tt
+says-unread (Ok done) reading number before text answered texts = says-out_of_memory reading number before before text answered refl texts

@@ -1,9 +1,7 @@
-ghost use Rattle.std.specs.Prelude.{◌≡◌, ◌<◌, ◌≤◌, true, MatchResult, IfOk, OnErr, Some, false};
-ghost use Rattle.model.specs.Fault.{is_inside, is_of_kind, is_value_of, row_of, col_of, set_fault, get_fault};
-ghost use Rattle.model.specs.Object.{word_at};
-ghost use Rattle.model.specs.Object as shape;
-ghost use Rattle.model.specs.Statuses.{Settles};
+ghost use Rattle.std.specs.Prelude.{◌≡◌, ◌<◌, true, MatchResult, IfOk, OnOk, OnErr, Some, false};
+ghost use Rattle.model.specs.Fault.{is_inside, is_of_kind, is_value_of, row_of, col_of, set_fault, get_fault, signature_of};
 ghost use Rattle.algebra.specs.Value.{word_of};
+ghost use Rattle.algebra.specs.declared.domain.Domain.TheVariants.{Int64};
 
 use algebra::Domain;
 use model::{Place, Status};
@@ -14,15 +12,18 @@ use store::Store;
 pub struct Object {
     pub domain: Domain,
     pub store: Store,
+    // Scripts can name no other domain so far, so no call casts.
+    pub ghost is_int64: { domain ≡ Int64 },
 }
 
 impl Object {
-    ghost use Rattle.script.specs.Table.{answered, signature_of};
+    ghost use Rattle.script.specs.Table.{Ends, object_of, value_fault, with_value};
 
     /// Sets a value. An error leaves the object as it was.
     pub fn set(&mut self, place: Place, value: i128) -> Result<(), Status>
-        ensures status { Settles (set_fault place value (signature_of self.old)) ⊥ (answered result) }
-        ensures signature { signature_of self.new ≡ signature_of self.old }
+        ensures status { Ends (set_fault place value (signature_of (object_of self.old))) result }
+        ensures changed { OnOk result (object_of self.new ≡ with_value (object_of self.old) place value) }
+        ensures kept { OnErr result (self.new ≡ self.old) }
     {
         let (row, col) = self.position(place)?;
         let word = word_in(self.domain, value)?;
@@ -32,8 +33,8 @@ impl Object {
 
     /// The value at a place, as a word.
     pub fn get(&self, place: Place) -> Result<u64, Status>
-        ensures status { Settles (get_fault place (signature_of self.now)) (Unit {0}) (answered result) }
-        ensures value { IfOk result (λ word. word_at self.now.store.entries (row_of place) (col_of place) ≡ Some word) }
+        ensures status { Ends (value_fault (object_of self.now) place) result }
+        ensures value { IfOk result (λ word. (object_of self.now).content (row_of place) (col_of place) ≡ Some word) }
     {
         let (row, col) = self.position(place)?;
         self.store.get(row, col).ok_or(Status::NoValue)
@@ -43,9 +44,9 @@ impl Object {
     fn position(&self, place: Place) -> Result<(u64, u64), Status>
         ensures { MatchResult result
             (λ at. (at.0 ≡ row_of place) × (at.1 ≡ col_of place)
-            × (is_of_kind place (signature_of self.now).shape ≡ true) × (is_inside place (signature_of self.now).shape ≡ true)
+            × (is_of_kind place (object_of self.now).shape ≡ true) × (is_inside place (object_of self.now).shape ≡ true)
             × (at.0 < self.now.store.rows) × (at.1 < self.now.store.cols))
-            (λ status. get_fault place (signature_of self.now) ≡ Some status) }
+            (λ status. get_fault place (signature_of (object_of self.now)) ≡ Some status) }
     {
         match place {
             Place::One(_) => Err(Status::WrongKind),

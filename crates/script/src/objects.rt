@@ -1,8 +1,9 @@
-ghost use Rattle.std.specs.Prelude.{◌≡◌, ◌<◌, ◌≤◌, ◌++◌, IsTrue, IfOk, IfSome, MatchResult, OnOk};
+ghost use Rattle.std.specs.Prelude.{◌≡◌, ◌++◌, IfOk, IfSome, MatchResult, None, OnOk, OnErr, Some};
 ghost use Rattle.std.specs.List.{flat_map};
-ghost use Rattle.std.specs.Option.{option_copied};
 ghost use Rattle.std.specs.BTreeMap.{get_by_text};
-ghost use Rattle.model.specs.Fault.{early_fault, is_dimension};
+ghost use Rattle.algebra.specs.declared.domain.Domain.TheVariants.{Int64};
+ghost use Rattle.model.specs.Fault.{early_fault, is_dimension, IsOnInt64};
+ghost use Rattle.model.specs.Run.{data_lines_of, effect, fault_of, no_objects, with_object};
 ghost use Rattle.model.specs.Text.{ended};
 
 use crate::object::Object;
@@ -27,13 +28,12 @@ pub struct Objects {
 
 impl Objects {
     ghost use Rattle.model.specs.Command.{Get, Matrix, Mxm, Nvals, Print, Set};
-    ghost use Rattle.model.specs.Statuses.{Settles, nothing_known};
     ghost use Rattle.model.specs.Call.{call_of};
-    ghost use Rattle.script.specs.Table.{Serves, answered, data_in, known_in};
+    ghost use Rattle.script.specs.Table.{Ends, environment_in, object_of};
 
     /// No objects. It takes no memory.
     pub fn new(alloc: Global) -> Objects
-        ensures { known_in result ≡ nothing_known }
+        ensures { environment_in result ≡ no_objects }
     {
         Objects {
             by_name: BTreeMap::new(alloc),
@@ -58,7 +58,10 @@ impl Objects {
         rows: u64,
         cols: u64,
     ) -> Result<(), Status>
-        ensures { Serves self.old self.new (Matrix name.now domain rows cols) (answered result) }
+        requires { domain ≡ Int64 }
+        ensures status { Ends (fault_of (environment_in self.old) (Matrix name.now domain rows cols)) result }
+        ensures effect { OnOk result (environment_in self.new ≡ effect (environment_in self.old) (Matrix name.now domain rows cols)) }
+        ensures kept { OnErr result (environment_in self.new ≡ environment_in self.old) }
     {
         if self.by_name.contains_key(name) {
             return Err(Status::NameTaken);
@@ -78,7 +81,9 @@ impl Objects {
     /// Sets a value of an object.
     #[tactic(auto, unfolding(model::specs::Fault::early_fault))]
     pub fn set(&mut self, name: &str, place: Place, value: i128) -> Result<(), Status>
-        ensures { Serves self.old self.new (Set name.now place value) (answered result) }
+        ensures status { Ends (fault_of (environment_in self.old) (Set name.now place value)) result }
+        ensures effect { OnOk result (environment_in self.new ≡ effect (environment_in self.old) (Set name.now place value)) }
+        ensures kept { OnErr result (environment_in self.new ≡ environment_in self.old) }
     {
         let Some(object) = self.by_name.get_mut(name) else {
             return Err(Status::UninitializedObject);
@@ -87,10 +92,10 @@ impl Objects {
     }
 
     /// Writes the value at a place of an object.
-    #[tactic(auto, unfolding(model::specs::Fault::early_fault))]
+    #[tactic(auto, unfolding(model::specs::Fault::early_fault, model::specs::Run::data_lines_of))]
     pub fn get(&self, name: &str, place: Place, text: &mut Vec<u8>) -> Result<(), Status>
-        ensures status { Settles (early_fault (known_in self.now) (Get name.now place)) (Unit {0}) (answered result) }
-        ensures data { OnOk result (text.new.items ≡ text.old.items ++ flat_map ended (data_in self.now (Get name.now place))) }
+        ensures status { Ends (fault_of (environment_in self.now) (Get name.now place)) result }
+        ensures data { OnOk result (text.new.items ≡ text.old.items ++ flat_map ended (data_lines_of (environment_in self.now) (Get name.now place))) }
     {
         let object = self.find(name)?;
         let word = object.get(place)?;
@@ -99,10 +104,10 @@ impl Objects {
     }
 
     /// Writes the number of entries of an object.
-    #[tactic(auto, unfolding(model::specs::Fault::early_fault))]
+    #[tactic(auto, unfolding(model::specs::Fault::early_fault, model::specs::Run::data_lines_of))]
     pub fn nvals(&self, name: &str, text: &mut Vec<u8>) -> Result<(), Status>
-        ensures status { Settles (early_fault (known_in self.now) (Nvals name.now)) ⊥ (answered result) }
-        ensures data { OnOk result (text.new.items ≡ text.old.items ++ flat_map ended (data_in self.now (Nvals name.now))) }
+        ensures status { Ends (fault_of (environment_in self.now) (Nvals name.now)) result }
+        ensures data { OnOk result (text.new.items ≡ text.old.items ++ flat_map ended (data_lines_of (environment_in self.now) (Nvals name.now))) }
     {
         let object = self.find(name)?;
         text::write_number_line(text, object.store.nvals())?;
@@ -110,10 +115,10 @@ impl Objects {
     }
 
     /// Writes the canonical text of an object.
-    #[tactic(auto, unfolding(model::specs::Fault::early_fault))]
+    #[tactic(auto, unfolding(model::specs::Fault::early_fault, model::specs::Run::data_lines_of))]
     pub fn print(&self, name: &str, text: &mut Vec<u8>) -> Result<(), Status>
-        ensures status { Settles (early_fault (known_in self.now) (Print name.now)) ⊥ (answered result) }
-        ensures data { OnOk result (text.new.items ≡ text.old.items ++ flat_map ended (data_in self.now (Print name.now))) }
+        ensures status { Ends (fault_of (environment_in self.now) (Print name.now)) result }
+        ensures data { OnOk result (text.new.items ≡ text.old.items ++ flat_map ended (data_lines_of (environment_in self.now) (Print name.now))) }
     {
         let object = self.find(name)?;
         text::write_object(text, object)?;
@@ -122,14 +127,18 @@ impl Objects {
 
     /// Does what a command calls, and writes the data lines of its answer. An error leaves the objects
     /// as they were; what it leaves at the text's end is no answer.
+    #[tactic(auto, unfolding(model::specs::Run::data_lines_of, model::specs::Run::effect))]
     pub fn perform(
         &mut self,
         alloc: Global,
         command: &Command,
         text: &mut Vec<u8>,
     ) -> Result<(), Status>
-        ensures status { Serves self.old self.new (call_of command.now) (answered result) }
-        ensures data { OnOk result (text.new.items ≡ text.old.items ++ flat_map ended (data_in self.old (call_of command.now))) }
+        requires { IsOnInt64 (call_of command.now) }
+        ensures status { Ends (fault_of (environment_in self.old) (call_of command.now)) result }
+        ensures effect { OnOk result (environment_in self.new ≡ effect (environment_in self.old) (call_of command.now)) }
+        ensures kept { OnErr result (environment_in self.new ≡ environment_in self.old) }
+        ensures data { OnOk result (text.new.items ≡ text.old.items ++ flat_map ended (data_lines_of (environment_in self.old) (call_of command.now))) }
     {
         match *command {
             Command::Matrix {
@@ -161,7 +170,9 @@ impl Objects {
         first: &str,
         second: &str,
     ) -> Result<(), Status>
-        ensures { Serves self.old self.new (Mxm output.now ring first.now second.now) (answered result) }
+        ensures status { Ends (fault_of (environment_in self.old) (Mxm output.now ring first.now second.now)) result }
+        ensures effect { OnOk result (environment_in self.new ≡ effect (environment_in self.old) (Mxm output.now ring first.now second.now)) }
+        ensures kept { OnErr result (environment_in self.new ≡ environment_in self.old) }
     {
         let store = self.product(alloc, output, ring, first, second)?;
         if let Some(object) = self.by_name.get_mut(output) {
@@ -180,8 +191,9 @@ impl Objects {
         first: &str,
         second: &str,
     ) -> Result<Store, Status>
-        ensures status { Settles (early_fault (known_in self.now) (Mxm output.now ring first.now second.now)) ⊥ (answered result) }
-        ensures shape { IfOk result (λ store. IfSome (get_by_text self.now.by_name output.now) (λ o. (store.rows ≡ o.store.rows) × (store.cols ≡ o.store.cols))) }
+        ensures status { Ends (fault_of (environment_in self.now) (Mxm output.now ring first.now second.now)) result }
+        ensures output { IfOk result (λ store. (o : Object) → get_by_text self.now.by_name output.now ≡ Some o
+            → effect (environment_in self.now) (Mxm output.now ring first.now second.now) ≡ with_object (environment_in self.now) output.now (object_of (record o { store = store })) (environment_in self.now).count) }
     {
         let c = self.find(output)?;
         let a = self.find(first)?;

@@ -1,8 +1,9 @@
-ghost use Rattle.std.specs.Prelude.{ℕ, ◌≡◌, ◌<◌, [], ◌∷◌, OnOk, OnErr, length, take};
+ghost use Rattle.std.specs.Prelude.{ℕ, ◌≡◌, ◌<◌, ◌++◌, [], ◌∷◌, OnOk, OnErr, length, take};
 ghost use Rattle.std.specs.Str.Lines.{strip_carriage_return};
 ghost use Rattle.model.specs.Grammar.{lines_of, reading_of};
-ghost use Rattle.script.specs.Table.{known_in};
-ghost use Rattle.script.specs.Turns.{IsTurn, Ran};
+ghost use Rattle.model.specs.Runs.{Ran};
+ghost use Rattle.script.specs.Table.{state_in};
+ghost use Rattle.script.specs.Turns.{Says};
 
 use crate::objects::Objects;
 use crate::text;
@@ -72,7 +73,7 @@ fn answer_line(
     text: &mut Vec<u8>,
 ) -> Result<(), AllocError>
     requires { text.old.items ≡ [] }
-    ensures { OnOk result (IsTurn (reading_of line.now) number (known_in objects.old) (known_in objects.new) text.new.items) }
+    ensures { OnOk result (Says number (state_in objects.old) (reading_of line.now) text.new.items (state_in objects.new)) }
 {
     match parse_line(alloc, line) {
         Ok(Line::Silent) => Ok(()),

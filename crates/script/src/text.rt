@@ -1,8 +1,8 @@
 ghost use Rattle.std.specs.Prelude.{◌≡◌, ◌+◌, ◌-◌, ◌<◌, ◌^◌, ◌++◌, ◌∷◌, [], OnOk, codes, decimal, length, map, take};
 ghost use Rattle.std.specs.List.{All, flat_map};
 ghost use Rattle.model.specs.Object.{IsInside};
-ghost use Rattle.model.specs.Text.{ended, entry_line, status_name, value_text};
-ghost use Rattle.script.specs.Table.{size_line, stored_lines};
+ghost use Rattle.model.specs.Text.{canonical_lines, ended, entry_line, size_line, status_name, value_text};
+ghost use Rattle.script.specs.Table.{object_of};
 
 use crate::object::Object;
 use algebra::Domain;
@@ -44,7 +44,7 @@ pub fn write_value_line(out: &mut Vec<u8>, domain: Domain, word: u64) -> Result<
 
 /// Appends an object's canonical text.
 pub fn write_object(out: &mut Vec<u8>, object: &Object) -> Result<(), AllocError>
-    ensures { OnOk result (out.new.items ≡ out.old.items ++ flat_map ended (stored_lines object.now)) }
+    ensures { OnOk result (out.new.items ≡ out.old.items ++ flat_map ended (canonical_lines (object_of object.now))) }
 {
     let store = &object.store;
     out.extend_from_slice(BANNER)?;

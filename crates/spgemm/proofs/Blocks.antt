@@ -10,27 +10,28 @@ use Rattle.std.proofs.lemmas.List.Concat.{flat_map-append}
 use Rattle.std.proofs.lemmas.List.Elements.{All-nil, All-cons, All-tail, All-head, All-append, All-weaker, All-take, filter-append, filter_passes}
 use Rattle.algebra.specs.declared.operators.Semiring.{Semiring}
 use Rattle.model.specs.declared.entry.Entry.{Entry}
-use Rattle.model.specs.Object.{word_at, InOrder, Precedes}
+use Rattle.model.specs.Object.{entries_between, word_at, InOrder, Precedes}
 use Rattle.store.specs.declared.rows.Row.{Row}
 use Rattle.store.specs.Rows.{entries_of_row, HasColumnsBelow}
-use Rattle.store.specs.Stored.{Stored, entries_in_row, entries_in_rows}
+use Rattle.store.specs.Stored.{Stored, content_of, entries_in_row}
 use Rattle.store.proofs.Order.{all_pairs_nil, all_pairs_append, all_pairs_right, all_append_left, all_append_right, all_take, all_drop}
 use Rattle.store.proofs.Positions.{word_at-none, non_decreasing_rows}
 use Rattle.store.proofs.Blocks.{all_of_row}
+use Rattle.store.proofs.RowEntries.{entries_between-inside}
 use Rattle.spgemm.specs.Products.{IsProductRow, StartsWithRow, entries_of_some, product_at, rows_product}
 
 -- the rows of a product so far: the entries `done` of A's rows are multiplied, and the rest are not
 pub record IsDone (semiring : Semiring) (first past : ℕ) (a b : Stored) (rows : List Row) (rest : List Entry) : Type 0 where
   pub done : List Entry
-  pub split : entries_in_rows first past a.entries ≡ done ++ rest
+  pub split : entries_between first past a.cols (content_of a) ≡ done ++ rest
   pub apart : All (λ e. All (λ f. e.row < f.row) rest) done
   pub rising : AllPairs (λ r s. r.index < s.index) rows
   pub in_range : All (λ r. (first ≤ r.index) × (r.index < past)) rows
   pub behind : All (λ r. All (λ e. r.index < e.row) rest) rows
   pub cols : All (HasColumnsBelow b.cols) rows
-  pub words : (i j : ℕ) → word_at (flat_map entries_of_row rows) i j ≡ rows_product semiring done b.entries i j
+  pub words : (i j : ℕ) → word_at (flat_map entries_of_row rows) i j ≡ rows_product semiring done b i j
 
-pub done_none : (semiring : Semiring) (first past : ℕ) (a b : Stored) → IsDone semiring first past a b [] (entries_in_rows first past a.entries)
+pub done_none : (semiring : Semiring) (first past : ℕ) (a b : Stored) → IsDone semiring first past a b [] (entries_between first past a.cols (content_of a))
 unfolding word_at
 done_none semiring first past a b = record {
   done = [];
@@ -43,7 +44,7 @@ done_none semiring first past a b = record {
   words = λ i j. refl;
 }
 
-pub rest_in_order : (semiring : Semiring) (first past : ℕ) (a b : Stored) (rows : List Row) (rest : List Entry) → InOrder (entries_in_rows first past a.entries) → IsDone semiring first past a b rows rest → InOrder rest
+pub rest_in_order : (semiring : Semiring) (first past : ℕ) (a b : Stored) (rows : List Row) (rest : List Entry) → InOrder (entries_between first past a.cols (content_of a)) → IsDone semiring first past a b rows rest → InOrder rest
 rest_in_order semiring first past a b rows rest order here = all_pairs_right Precedes here.done rest (subst InOrder here.split order)
 
 -- ---- entries of one row among others
@@ -95,7 +96,7 @@ elsewhere semiring index row b (Some r) here i j away =
     word_at-none i j (entries_of_row r)
     (All-weaker (λ e. (e.row ≡ r.index) × Unit {0}) (λ e. (eqb i e.row && eqb j e.col) ≡ false) (λ e p. away_test i j index e (p.0 ∙ here.index_is) away) (entries_of_row r) (all_of_row (λ _. Unit {0}) r (λ k d w. tt)))
 
-words_more : (semiring : Semiring) (index : ℕ) (b : Stored) (xs done row : List Entry) (product : Option Row) → IsProductRow semiring index row b product → All (λ e. e.row < index) done → All (λ e. e.row ≡ index) row → ((i j : ℕ) → word_at xs i j ≡ rows_product semiring done b.entries i j) → (i j : ℕ) → word_at (xs ++ entries_of_some product) i j ≡ rows_product semiring (done ++ row) b.entries i j
+words_more : (semiring : Semiring) (index : ℕ) (b : Stored) (xs done row : List Entry) (product : Option Row) → IsProductRow semiring index row b product → All (λ e. e.row < index) done → All (λ e. e.row ≡ index) row → ((i j : ℕ) → word_at xs i j ≡ rows_product semiring done b i j) → (i j : ℕ) → word_at (xs ++ entries_of_some product) i j ≡ rows_product semiring (done ++ row) b i j
 words_more semiring index b xs done row product here before at old i j =
     let joined = filter-append (λ (e : Entry). eqb e.row i) done row in
     elim (cases_eq i index) [
@@ -103,15 +104,12 @@ words_more semiring index b xs done row product here before at old i j =
           let none = in_row_none i done (All-weaker (λ e. e.row < index) (λ e. e.row ≢ i) (λ e p q. omega arith) done before) in
           let all = in_row_all i row (All-weaker (λ e. e.row ≡ index) (λ e. e.row ≡ i) (λ e p. p ∙ sym same) row at) in
           let empty : word_at xs i j ≡ None = rw none at (old i j) in
-          let new : word_at (entries_of_some product) i j ≡ product_at semiring row b.entries j = rw same (here.words j) in
+          let new : word_at (entries_of_some product) i j ≡ product_at semiring row b j = rw same (here.words j) in
           word_at-right i j xs (entries_of_some product) empty ∙ rw (joined, none, all) new
       | inr away ↦
           let none = in_row_none i row (All-weaker (λ e. e.row ≡ index) (λ e. e.row ≢ i) (λ e p q. away (sym q ∙ p)) row at) in
           word_at-left i j xs (entries_of_some product) (elsewhere semiring index row b product here i j away) ∙ rw (joined, none, append-nil) (old i j)
     ]
-
-range_parts : (first past row : ℕ) → (leb first row && ltb row past) ≡ true → (first ≤ row) × (row < past)
-range_parts first past row h = let parts = and_parts (leb first row) (ltb row past) h in (leb-true first row parts.0, ltb-true row past parts.1)
 
 pub done_more : (semiring : Semiring) (first past : ℕ) (a b : Stored) (rows : List Row) (rest : List Entry) (index : ℕ) (row others : List Entry) (product : Option Row) → IsDone semiring first past a b rows rest → StartsWithRow index row others rest → IsProductRow semiring index row b product → IsDone semiring first past a b (rows ++ option_to_list product) others
 done_more semiring first past a b rows rest index row others product here starts made =
@@ -120,10 +118,10 @@ done_more semiring first past a b rows rest index row others product here starts
     -- what holds of the rest holds of its first row, and of the others
     let at_first : (Q : ℕ → Type 0) → All (λ e. Q e.row) rest → Q index = λ Q h. subst Q one (all_append_left (λ e. Q e.row) row others (subst (All (λ e. Q e.row)) starts.whole h) 0 d starts.some) in
     let at_others : (Q : ℕ → Type 0) → All (λ e. Q e.row) rest → All (λ e. Q e.row) others = λ Q h. all_append_right (λ e. Q e.row) row others (subst (All (λ e. Q e.row)) starts.whole h) in
+    let within : All (λ e. (first ≤ e.row) × (e.row < past)) (entries_between first past a.cols (content_of a)) =
+    All-weaker (λ e. ((first ≤ e.row) × (e.row < past)) × (e.col < a.cols)) (λ e. (first ≤ e.row) × (e.row < past)) (λ e p. p.0) (entries_between first past a.cols (content_of a)) (entries_between-inside first past a.cols (content_of a)) in
     let range : (first ≤ index) × (index < past) =
-    range_parts first past index
-    (at_first (λ row. (leb first row && ltb row past) ≡ true)
-    (all_append_right (λ e. (leb first e.row && ltb e.row past) ≡ true) here.done rest (subst (All (λ e. (leb first e.row && ltb e.row past) ≡ true)) here.split (filter_passes (λ e. leb first e.row && ltb e.row past) a.entries)))) in
+    at_first (λ row. (first ≤ row) × (row < past)) (all_append_right (λ e. (first ≤ e.row) × (e.row < past)) here.done rest (subst (All (λ e. (first ≤ e.row) × (e.row < past))) here.split within)) in
     let before : All (λ e. e.row < index) here.done = All-weaker (λ e. All (λ f. e.row < f.row) rest) (λ e. e.row < index) (λ e h. at_first (λ row. e.row < row) h) here.done here.apart in
     let above : All (λ r. r.index < index) rows = All-weaker (λ r. All (λ e. r.index < e.row) rest) (λ r. r.index < index) (λ r h. at_first (λ row. r.index < row) h) rows here.behind in
     let new : (P : Row → Type 0) → IfSome product P → All P (option_to_list product) = λ P h. all_option P product h in
@@ -173,7 +171,7 @@ starts_with_row es n index d order some first within point =
     }
 
 -- where nothing is left, the words are those of all the entries
-pub done_all : (semiring : Semiring) (first past : ℕ) (a b : Stored) (rows : List Row) (rest : List Entry) → IsDone semiring first past a b rows rest → rest ≡ [] → (i j : ℕ) → word_at (flat_map entries_of_row rows) i j ≡ rows_product semiring (entries_in_rows first past a.entries) b.entries i j
+pub done_all : (semiring : Semiring) (first past : ℕ) (a b : Stored) (rows : List Row) (rest : List Entry) → IsDone semiring first past a b rows rest → rest ≡ [] → (i j : ℕ) → word_at (flat_map entries_of_row rows) i j ≡ rows_product semiring (entries_between first past a.cols (content_of a)) b i j
 done_all semiring first past a b rows rest here none i j =
-    let whole : entries_in_rows first past a.entries ≡ here.done = here.split ∙ rw none (append-nil here.done) in
-    here.words i j ∙ ap (λ es. rows_product semiring es b.entries i j) (sym whole)
+    let whole : entries_between first past a.cols (content_of a) ≡ here.done = here.split ∙ rw none (append-nil here.done) in
+    here.words i j ∙ ap (λ es. rows_product semiring es b i j) (sym whole)

@@ -51,17 +51,17 @@ side_by_side_words index col (s ∷ rest) o h =
     ]
 
 -- what sort and sum make of the terms of a row
-product_row_words : (semiring : Semiring) (index : ℕ) (row : List Entry) (b : Stored) (terms sorted sums : List Term) (product : Option Row) → terms ≡ terms_of_row semiring.multiply row b.entries → ((col : ℕ) → words_at col sorted ≡ words_at col terms) → AreSums semiring.add.op sorted sums → IsRowOf index sums product → (col : ℕ) → word_at (entries_of_some product) index col ≡ product_at semiring row b.entries col
+product_row_words : (semiring : Semiring) (index : ℕ) (row : List Entry) (b : Stored) (terms sorted sums : List Term) (product : Option Row) → terms ≡ terms_of_row semiring.multiply row b → ((col : ℕ) → words_at col sorted ≡ words_at col terms) → AreSums semiring.add.op sorted sums → IsRowOf index sums product → (col : ℕ) → word_at (entries_of_some product) index col ≡ product_at semiring row b col
 unfolding word_at
 product_row_words semiring index row b terms sorted sums None made same here is col =
     let op = semiring.add.op in
-    let kept : sum_at op col sorted ≡ product_at semiring row b.entries col = rw (same col, made) refl in
+    let kept : sum_at op col sorted ≡ product_at semiring row b col = rw (same col, made) refl in
     let empty : words_at col sums ≡ [] = rw is refl in
-    sym (nil_from_list (product_at semiring row b.entries col) (rw (empty, kept) at (here.words col)))
+    sym (nil_from_list (product_at semiring row b col) (rw (empty, kept) at (here.words col)))
 product_row_words semiring index row b terms sorted sums (Some r) made same here is col =
     let op = semiring.add.op in
-    let kept : sum_at op col sorted ≡ product_at semiring row b.entries col = rw (same col, made) refl in
-    rw (is.0, is.1, is.2) (side_by_side_words index col sums (product_at semiring row b.entries col) (rw kept at (here.words col)))
+    let kept : sum_at op col sorted ≡ product_at semiring row b col = rw (same col, made) refl in
+    rw (is.0, is.1, is.2) (side_by_side_words index col sums (product_at semiring row b col) (rw kept at (here.words col)))
 
 product_row_columns : (semiring : Semiring) (index : ℕ) (cols : ℕ) (sorted sums : List Term) (product : Option Row) → All (λ t. t.col < cols) sorted → AreSums semiring.add.op sorted sums → IsRowOf index sums product → IfSome product (HasColumnsBelow cols)
 product_row_columns semiring index cols sorted sums None below here is = tt
@@ -74,7 +74,7 @@ product_row_index : (index : ℕ) (sums : List Term) (product : Option Row) → 
 product_row_index index sums None is = tt
 product_row_index index sums (Some r) is = is.0
 
-pub product_row : (semiring : Semiring) (index : ℕ) (row : List Entry) (b : Stored) (terms sorted sums : List Term) (product : Option Row) → terms ≡ terms_of_row semiring.multiply row b.entries → All (λ t. t.col < b.cols) sorted → ((col : ℕ) → words_at col sorted ≡ words_at col terms) → AreSums semiring.add.op sorted sums → IsRowOf index sums product → IsProductRow semiring index row b product
+pub product_row : (semiring : Semiring) (index : ℕ) (row : List Entry) (b : Stored) (terms sorted sums : List Term) (product : Option Row) → terms ≡ terms_of_row semiring.multiply row b → All (λ t. t.col < b.cols) sorted → ((col : ℕ) → words_at col sorted ≡ words_at col terms) → AreSums semiring.add.op sorted sums → IsRowOf index sums product → IsProductRow semiring index row b product
 product_row semiring index row b terms sorted sums product made below same here is = record {
   index_is = product_row_index index sums product is;
   columns = product_row_columns semiring index b.cols sorted sums product below here is;

@@ -10,14 +10,15 @@ use Rattle.std.proofs.lemmas.List.Quantifiers.{all_pairs_push}
 use Rattle.std.proofs.lemmas.List.Sums.{fold-append}
 use Rattle.algebra.specs.declared.operators.BinaryOp.{BinaryOp}
 use Rattle.model.specs.declared.entry.Entry.{Entry}
-use Rattle.store.specs.Stored.{entries_in_row}
+use Rattle.model.specs.Object.{row_entries}
+use Rattle.store.specs.Stored.{Stored, content_of}
 use Rattle.store.proofs.Order.{all_pairs_left, all_pairs_across, all_append_left}
 use Rattle.spgemm.specs.declared.term.Term.{Term}
 use Rattle.spgemm.specs.Terms.{apply, term_at, times_row, terms_of_row, words_at, sum_at, AreSums}
 
-pub terms_more : (op : BinaryOp) (b row : List Entry) (k : ℕ) (d : Entry) → k < length row → terms_of_row op (take (k + 1) row) b ≡ terms_of_row op (take k row) b ++ times_row op (get_or row k d).word (entries_in_row (get_or row k d).col b)
+pub terms_more : (op : BinaryOp) (b : Stored) (row : List Entry) (k : ℕ) (d : Entry) → k < length row → terms_of_row op (take (k + 1) row) b ≡ terms_of_row op (take k row) b ++ times_row op (get_or row k d).word (row_entries b.cols (content_of b) (get_or row k d).col)
 terms_more op b row k d within =
-    let f : Entry → List Term = λ e. times_row op e.word (entries_in_row e.col b) in
+    let f : Entry → List Term = λ e. times_row op e.word (row_entries b.cols (content_of b) e.col) in
     rw (take_more row k d within) (sym (flat_map_more f [] (take k row) (get_or row k d)))
 
 pub times_cols : (op : BinaryOp) (word rows cols : ℕ) (row : List Entry) → All (λ e. (e.row < rows) × (e.col < cols)) row → All (λ t. t.col < cols) (times_row op word row)

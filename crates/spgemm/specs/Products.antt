@@ -25,17 +25,17 @@ entries_of_some (Some row) = entries_of_row row
 
 -- what the product has at a column of the row that a row of A gives: the sum of A(i, k) times B(k, j)
 -- over each k that has both, in rising order
-abbrev pub product_at : Semiring → List Entry → List Entry → ℕ → Option ℕ
+abbrev pub product_at : Semiring → List Entry → Stored → ℕ → Option ℕ
 product_at semiring row b col = sum_at semiring.add.op col (terms_of_row semiring.multiply row b)
 
 -- the row of the product that a row of A gives
 pub record IsProductRow (semiring : Semiring) (index : ℕ) (row : List Entry) (b : Stored) (product : Option Row) : Type 0 where
   pub index_is : IfSome product (λ row. row.index ≡ index)
   pub columns : IfSome product (HasColumnsBelow b.cols)
-  pub words : (col : ℕ) → word_at (entries_of_some product) index col ≡ product_at semiring row b.entries col
+  pub words : (col : ℕ) → word_at (entries_of_some product) index col ≡ product_at semiring row b col
 
 -- what the product of some rows of A has at row i and column j
-abbrev pub rows_product : Semiring → List Entry → List Entry → ℕ → ℕ → Option ℕ
+abbrev pub rows_product : Semiring → List Entry → Stored → ℕ → ℕ → Option ℕ
 rows_product semiring rows b i j = product_at semiring (entries_in_row i rows) b j
 
 -- the entries of one row, and then those of later ones

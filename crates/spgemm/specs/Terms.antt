@@ -5,7 +5,8 @@ use Rattle.std.specs.List.{All, AllPairs, Contains, filter, flat_map, reduce}
 use Rattle.algebra.specs.declared.operators.BinaryOp.{BinaryOp}
 use Rattle.algebra.specs.Operators.{eval_of}
 use Rattle.model.specs.declared.entry.Entry.{Entry}
-use Rattle.store.specs.Stored.{entries_in_row}
+use Rattle.model.specs.Object.{row_entries}
+use Rattle.store.specs.Stored.{Stored, content_of}
 use Rattle.spgemm.specs.declared.term.Term.{Term}
 
 -- what an operator gives for two words
@@ -20,8 +21,8 @@ abbrev pub times_row : BinaryOp → ℕ → List Entry → List Term
 times_row op word row = map (λ e. term_at e.col (apply op word e.word)) row
 
 -- each entry of a row of A times the row of B that its column names, in order
-abbrev pub terms_of_row : BinaryOp → List Entry → List Entry → List Term
-terms_of_row op row b = flat_map (λ e. times_row op e.word (entries_in_row e.col b)) row
+abbrev pub terms_of_row : BinaryOp → List Entry → Stored → List Term
+terms_of_row op row b = flat_map (λ e. times_row op e.word (row_entries b.cols (content_of b) e.col)) row
 
 -- the words at one column, in order
 abbrev pub words_at : ℕ → List Term → List ℕ

@@ -34,7 +34,7 @@ pub(crate) fn expand(
     b: &Store,
     multiply: BinaryOp,
 ) -> Result<(), NoMemory>
-    ensures terms { OnOk result (terms.new.items ≡ terms_of_row multiply row.now b.now.entries) }
+    ensures terms { OnOk result (terms.new.items ≡ terms_of_row multiply row.now b.now) }
     ensures cols { OnOk result (All (λ t. t.col < b.now.cols) terms.new.items) }
 {
     terms.clear();

@@ -1,7 +1,8 @@
 ghost use Rattle.std.specs.Prelude.{◌≡◌, ℕ, ◌<◌, ◌≤◌, [], IfOk, MatchOption};
 ghost use Rattle.std.specs.List.{All};
-ghost use Rattle.model.specs.Object.{word_at, InOrder};
-ghost use Rattle.store.specs.Rows.{block_entries, HasColumnsBelow};
+ghost use Rattle.model.specs.Object.{InOrder};
+ghost use Rattle.store.specs.Rows.{block_content, HasColumnsBelow};
+ghost use Rattle.store.specs.Stored.{content_of};
 ghost use Rattle.model.specs.Product.{product};
 ghost use Rattle.model.specs.declared.names.Ring.{Ring};
 ghost use Rattle.spgemm.specs.Products.{StartsWithRow, IsNamed};
@@ -30,7 +31,7 @@ pub fn multiply_rows(
     ensures first { IfOk result (λ block. block.first ≡ range.start) }
     ensures past { IfOk result (λ block. block.past ≡ range.end) }
     ensures cols { IfOk result (λ block. All (HasColumnsBelow b.now.cols) block.rows.items) }
-    ensures words { IfOk result (λ block. (ring : Ring) → IsNamed ring semiring → (i j : ℕ) → range.start ≤ i → i < range.end → word_at (block_entries block) i j ≡ product ring a.now.cols (word_at a.now.entries) (word_at b.now.entries) i j) }
+    ensures words { IfOk result (λ block. (ring : Ring) → IsNamed ring semiring → (i j : ℕ) → range.start ≤ i → i < range.end → block_content block i j ≡ product ring a.now.cols (content_of a.now) (content_of b.now) i j) }
 {
     prove_eq!(a.cols(), b.rows());
     let (first, past) = (range.start, range.end);

@@ -1,5 +1,6 @@
 -- The entries of a block of rows are in order, each inside a shape that has room for the block.
-use Rattle.std.proofs.Common.{◌≡◌, ℕ, ◌<◌, ◌≤◌, List, [], ◌∷◌, get_or, map, refl, sym, arith, inl, inr}
+use Rattle.std.proofs.Common.{◌≡◌, ℕ, ◌<◌, ◌≤◌, ◌&&◌, eqb, leb, ltb, false, None, List, [], ◌∷◌, get_or, map, refl, sym, arith, inl, inr}
+use Rattle.std.proofs.lemmas.Bool.Decides.{nat_tests}
 use Rattle.std.specs.List.{All, AllPairs, flat_map, zip}
 use Rattle.std.proofs.lemmas.List.Elements.{All-nil, All-cons, All-tail, All-head, All-append, All-weaker}
 use Rattle.model.specs.declared.entry.Entry.{Entry}
@@ -7,7 +8,8 @@ use Rattle.model.specs.Object.{InOrder, IsInside, Precedes, entry_at}
 use Rattle.store.specs.declared.rows.Row.{Row}
 use Rattle.store.specs.declared.rows.RowBlock.{RowBlock}
 use Rattle.store.specs.Stored.{IsStored}
-use Rattle.store.specs.Rows.{entries_of_row, block_entries, HasColumnsBelow}
+use Rattle.store.specs.Rows.{entries_of_row, block_content, block_entries, HasColumnsBelow}
+use Rattle.store.proofs.Positions.{word_at-none}
 use Rattle.store.proofs.Order.{all_pairs_nil, all_pairs_cons, all_pairs_head, all_pairs_tail, all_pairs_append}
 
 pub all_flat_map : {A B : Type 0} (P : B → Type 0) (f : A → List B) (xs : List A) → All (λ x. All P (f x)) xs → All P (flat_map f xs)
@@ -61,3 +63,14 @@ block_inside rows cols block room below =
 
 pub block_stored : (rows cols : ℕ) (block : RowBlock) → block.past ≤ rows → All (HasColumnsBelow cols) block.rows.items → IsStored rows cols (block_entries block)
 block_stored rows cols block room below = record { order = block_in_order block; inside = block_inside rows cols block room below }
+
+-- a block has nothing outside its rows
+pub block_content-outside : (block : RowBlock) (i j : ℕ) → (leb block.first i && ltb i block.past) ≡ false → block_content block i j ≡ None
+block_content-outside block i j outside =
+    let in_range : All (λ e. (block.first ≤ e.row) × (e.row < block.past)) (block_entries block) =
+    all_flat_map (λ e. (block.first ≤ e.row) × (e.row < block.past)) entries_of_row block.rows.items
+    (λ k d w.
+    let row = get_or block.rows.items k d in
+    let range = block.in_range k d w in
+    All-weaker (λ e. (e.row ≡ row.index) × Unit {0}) (λ e. (block.first ≤ e.row) × (e.row < block.past)) (λ e p. (omega (arith, p.0, range.0), omega (arith, p.0, range.1))) (entries_of_row row) (all_of_row (λ col. Unit {0}) row (λ k d w. tt))) in
+    word_at-none i j (block_entries block) (All-weaker (λ e. (block.first ≤ e.row) × (e.row < block.past)) (λ e. (eqb i e.row && eqb j e.col) ≡ false) (λ e p. let low = p.0 in let high = p.1 in grind (arith, nat_tests)) (block_entries block) in_range)

@@ -2,3 +2,4 @@ pub mod Blocks
 pub mod Content
 pub mod Order
 pub mod Positions
+pub mod RowEntries

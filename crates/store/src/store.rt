@@ -1,7 +1,6 @@
-ghost use Rattle.std.specs.Prelude.{◌≡◌, ℕ, ◌<◌, ◌≤◌, [], length, OnOk, OnErr, IfOk};
+ghost use Rattle.std.specs.Prelude.{◌≡◌, ℕ, ◌<◌, ◌≤◌, None, length, OnOk, OnErr, IfOk};
 ghost use Rattle.std.specs.List.{All};
-ghost use Rattle.model.specs.Object.{word_at, with_entry, InOrder, IsInside};
-ghost use Rattle.store.specs.Stored.{entries_in_rows, entries_in_row};
+ghost use Rattle.model.specs.Object.{entries_between, entries_of, row_entries, with_entry, InOrder, IsInside, IsWithin};
 
 use crate::entries::{append, find, put, row_at, rows_between};
 use crate::{NoMemory, Row, RowBlock};
@@ -30,11 +29,14 @@ impl Model for Store {
 }
 
 impl Store {
-    ghost use Rattle.store.specs.Rows.{block_entries, HasColumnsBelow};
+    ghost use Rattle.store.specs.Rows.{block_content, HasColumnsBelow};
+    ghost use Rattle.store.specs.Stored.{content_of};
 
     /// A store of `rows` rows and `cols` columns with no entry. It takes no memory.
     pub fn new(alloc: Global, rows: u64, cols: u64) -> Store
-        ensures { result ≡ record { rows = rows; cols = cols; entries = [] } }
+        ensures rows { result.rows ≡ rows }
+        ensures cols { result.cols ≡ cols }
+        ensures content { (i j : ℕ) → content_of result i j ≡ None }
     {
         Store {
             rows,
@@ -53,7 +55,8 @@ impl Store {
     ) -> Result<Store, NoMemory>
         requires rows { block.now.past ≤ rows }
         requires cols { All (HasColumnsBelow cols) block.now.rows.items }
-        ensures { IfOk result (λ store. store ≡ record { rows = rows; cols = cols; entries = block_entries block.now }) }
+        ensures shape { IfOk result (λ store. (store.rows ≡ rows) × (store.cols ≡ cols)) }
+        ensures content { IfOk result (λ store. (i j : ℕ) → content_of store i j ≡ block_content block.now i j) }
     {
         let mut entries = Vec::with_capacity(alloc, count(&block.rows))?;
         for row in &block.rows {
@@ -79,8 +82,7 @@ impl Store {
         ensures rows { result ≡ self.now.rows }
 
         // What is true of every store, for a caller, who sees no field.
-        ensures order { InOrder self.now.entries }
-        ensures inside { IsInside self.now.rows self.now.cols self.now.entries }
+        ensures within { IsWithin self.now.rows self.now.cols (content_of self.now) }
     {
         self.rows
     }
@@ -94,7 +96,7 @@ impl Store {
 
     /// The number of entries (GraphBLAS C API 2.0, section 4.2.5.5).
     pub fn nvals(&self) -> u64
-        ensures { result ≡ length self.now.entries }
+        ensures { result ≡ length (entries_of self.now.rows self.now.cols (content_of self.now)) }
     {
         self.entries.len() as u64
     }
@@ -102,7 +104,7 @@ impl Store {
     /// The word at row `i` and column `j`, where there is one. Its time grows with the logarithm of
     /// the number of entries.
     pub fn get(&self, i: u64, j: u64) -> Option<u64>
-        ensures { result ≡ word_at self.now.entries i j }
+        ensures { result ≡ content_of self.now i j }
     {
         find(&self.entries, i, j)
     }
@@ -110,7 +112,7 @@ impl Store {
     /// The entries of the rows in a range, in order, as they lie in the store. The range may be empty
     /// or reach beyond the rows. Its time grows with the logarithm of the number of entries.
     pub fn rows_in(&self, range: Range<u64>) -> &[Entry]
-        ensures entries { result.now ≡ entries_in_rows range.start range.end self.now.entries }
+        ensures entries { result.now ≡ entries_between range.start range.end self.now.cols (content_of self.now) }
         ensures order { InOrder result.now }
         ensures inside { IsInside self.now.rows self.now.cols result.now }
     {
@@ -120,7 +122,7 @@ impl Store {
     /// The entries of row `i`, in order, as they lie in the store. Its time grows with the logarithm of
     /// the number of entries.
     pub fn row(&self, i: u64) -> &[Entry]
-        ensures entries { result.now ≡ entries_in_row i self.now.entries }
+        ensures entries { result.now ≡ row_entries self.now.cols (content_of self.now) i }
         ensures inside { IsInside self.now.rows self.now.cols result.now }
     {
         row_at(&self.entries, i)
@@ -131,13 +133,13 @@ impl Store {
     pub fn set(&mut self, i: u64, j: u64, word: u64) -> Result<(), NoMemory>
         requires row { i < self.old.rows }
         requires col { j < self.old.cols }
-        ensures content { OnOk result ((p q : ℕ) → word_at self.new.entries p q ≡ with_entry (word_at self.old.entries) i j word p q) }
+        ensures content { OnOk result ((p q : ℕ) → content_of self.new p q ≡ with_entry (content_of self.old) i j word p q) }
         ensures rows { self.new.rows ≡ self.old.rows }
         ensures cols { self.new.cols ≡ self.old.cols }
         ensures refused { OnErr result (self.new ≡ self.old) }
 
         // Only a new entry may be refused.
-        ensures absent { OnErr result (word_at self.old.entries i j ≡ None) }
+        ensures absent { OnErr result (content_of self.old i j ≡ None) }
     {
         put(
             &mut self.entries,

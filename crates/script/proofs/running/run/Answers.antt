@@ -1,35 +1,36 @@
 -- Each turn of the loop answers one line more; what is written at any time is whole answers.
-use Rattle.std.proofs.Common.{◌≡◌, rules, arith, sym, subst, ◌++◌, []}
+use Rattle.std.proofs.Common.{◌≡◌, rules, arith, sym, subst, ap, ◌++◌, []}
 use Rattle.std.proofs.lemmas.List.{nil_from_length}
-use Rattle.model.specs.Statuses.{nothing_known}
-use Rattle.script.specs.Table.{known_in}
+use Rattle.model.specs.Run.{Environment}
+use Rattle.model.specs.Runs.{State, first_state}
+use Rattle.script.specs.Table.{state_in}
 use Rattle.script.proofs.RunLaws.{IsUnderWay, on_err, ran-all, ran-so_far, under_way-start, under_way-turn}
 use Rattle.script.proofs.running.run.Goals as goal
 
 pub returns-in_err-text-clause-err : goal.returns-in_err-text-clause-err
 returns-in_err-text-clause-err c =
-    on_err c.from_residual.result (ran-so_far c.args.script.now c.args.script.now nothing_known 1 c.args.out.now.items c.args.out.now.items (under_way-start c.args.script.now c.args.out.now.items))
+    on_err c.from_residual.result (ran-so_far c.args.script.now c.args.script.now first_state 1 c.args.out.now.items c.args.out.now.items (under_way-start c.args.script.now c.args.out.now.items))
 
 pub loop-rest-init : goal.loop-rest-init
 loop-rest-init c = record {
-  way = subst (λ known. IsUnderWay c.args.script.now c.args.script.now known 1 c.args.out.now.items c.args.out.now.items) (sym c.new-objects.ensures) (under_way-start c.args.script.now c.args.out.now.items);
+  way = subst (λ state. IsUnderWay c.args.script.now c.args.script.now state 1 c.args.out.now.items c.args.out.now.items) (sym (ap (λ (e : Environment). let s : State = record { environment = e } in s) c.new-objects.ensures)) (under_way-start c.args.script.now c.args.out.now.items);
   numbered = omega arith;
 }
 
 pub returns-in_err-answer_line-clause-err : goal.returns-in_err-answer_line-clause-err
 returns-in_err-answer_line-clause-err c =
-    on_err c.from_residual-in_err-answer_line.result (ran-so_far c.args.script.now c.loop-rest.rest.now (known_in c.loop-rest.objects) c.loop-rest.number c.args.out.now.items c.loop-rest.out.items c.loop-rest.invariant.way)
+    on_err c.from_residual-in_err-answer_line.result (ran-so_far c.args.script.now c.loop-rest.rest.now (state_in c.loop-rest.objects) c.loop-rest.number c.args.out.now.items c.loop-rest.out.items c.loop-rest.invariant.way)
 
 pub returns-in_err-extend_from_slice-clause-err : goal.returns-in_err-extend_from_slice-clause-err
 returns-in_err-extend_from_slice-clause-err c =
     let kept : c.extend_from_slice.new.self.items ≡ c.loop-rest.out.items = search rules in
-    rw kept (on_err c.from_residual-in_err-extend_from_slice.result (ran-so_far c.args.script.now c.loop-rest.rest.now (known_in c.loop-rest.objects) c.loop-rest.number c.args.out.now.items c.loop-rest.out.items c.loop-rest.invariant.way))
+    rw kept (on_err c.from_residual-in_err-extend_from_slice.result (ran-so_far c.args.script.now c.loop-rest.rest.now (state_in c.loop-rest.objects) c.loop-rest.number c.args.out.now.items c.loop-rest.out.items c.loop-rest.invariant.way))
 
 pub loop-rest-preserved : goal.loop-rest-preserved
 loop-rest-preserved c =
     let grown : c.extend_from_slice.new.self.items ≡ c.loop-rest.out.items ++ c.answer_line.new.text.items = search rules in
     record {
-      way = rw grown (under_way-turn c.args.script.now c.loop-rest.rest.now c.first_line.result.1.now c.first_line.result.0.now (known_in c.loop-rest.objects) (known_in c.answer_line.new.objects)
+      way = rw grown (under_way-turn c.args.script.now c.loop-rest.rest.now c.first_line.result.1.now c.first_line.result.0.now (state_in c.loop-rest.objects) (state_in c.answer_line.new.objects)
           c.loop-rest.number c.args.out.now.items c.loop-rest.out.items c.answer_line.new.text.items c.first_line.ensures.lines c.in_ok-answer_line.ensures c.loop-rest.invariant.way);
       numbered = omega arith;
     }
@@ -37,4 +38,4 @@ loop-rest-preserved c =
 pub returns-clause-ok : goal.returns-clause-ok
 returns-clause-ok c =
     let ended : c.loop-rest.rest.now ≡ [] = nil_from_length c.loop-rest.rest.now (search rules) in
-    ran-all c.args.script.now (known_in c.loop-rest.objects) c.loop-rest.number c.args.out.now.items c.loop-rest.out.items (rw ended at c.loop-rest.invariant.way)
+    ran-all c.args.script.now (state_in c.loop-rest.objects) c.loop-rest.number c.args.out.now.items c.loop-rest.out.items (rw ended at c.loop-rest.invariant.way)

@@ -1,7 +1,5 @@
 use Rattle.std.proofs.Common.{Some, None, ◌∙◌}
 use Rattle.std.proofs.lemmas.List.{append-nil}
-use Rattle.model.specs.Object.{InOrder, IsInside}
-use Rattle.store.specs.Stored.{entries_in_rows}
 use Rattle.spgemm.specs.Products.{IsProductRow}
 use Rattle.spgemm.proofs.Blocks.{done_none, done_more, done_all, rest_in_order}
 use Rattle.spgemm.proofs.Product.{rows_product_is}
@@ -34,7 +32,5 @@ returns-clause-words c =
     let a = c.args.a.now in
     let b = c.args.b.now in
     let range = c.args.range in
-    let order : InOrder (entries_in_rows range.start range.end a.entries) = rw c.rows_in-rest.ensures.entries at c.rows_in-rest.ensures.order in
-    let inside : IsInside a.rows a.cols (entries_in_rows range.start range.end a.entries) = rw c.rows_in-rest.ensures.entries at c.rows_in-rest.ensures.inside in
     done_all c.args.semiring range.start range.end a b c.loop-index.rows.items c.loop-index.rest.now c.loop-index.invariant c.in_default.ensures i j
-    ∙ rows_product_is ring c.args.semiring range.start range.end a.rows a.cols i j a.entries b.entries names order inside c.rows.ensures.order low high
+    ∙ rows_product_is ring c.args.semiring range.start range.end i j a b names c.rows.ensures.within low high

@@ -2,6 +2,7 @@ use Rattle.std.proofs.Common.{◌≡◌, ◌<◌, ◌&&◌, leb, ltb, ap, sym, �
 use Rattle.std.proofs.lemmas.List.Elements.{All-same, All-filter}
 use Rattle.model.specs.Object.{InOrder, Precedes}
 use Rattle.store.specs.Stored.{Stored, IsStored, entries_in_rows}
+use Rattle.store.proofs.Content.{entries_between-words}
 use Rattle.store.proofs.Order.{all_pairs_filter}
 use Rattle.store.proofs.store.Store.rows_in.Goals as goal
 use Rattle.store.proofs.store.Store.rows_in.Goals.{After-rows_between}
@@ -11,6 +12,11 @@ stored c = subst (λ (s : Stored). IsStored s.rows s.cols s.entries) c.self.view
 
 kept : (c : After-rows_between) → c.rows_between.result.now ≡ entries_in_rows c.args.range.start c.args.range.end c.args.self.now.entries
 kept c = c.rows_between.ensures ∙ ap (entries_in_rows c.args.range.start c.args.range.end) (c.deref.ensures.value ∙ ap (λ s. s.entries) c.self.view_is)
+
+pub returns-clause-entries : goal.returns-clause-entries
+returns-clause-entries c =
+    let self = c.args.self.now in
+    kept c ∙ sym (entries_between-words c.args.range.start c.args.range.end self.rows self.cols self.entries (stored c).order (stored c).inside)
 
 pub returns-clause-order : goal.returns-clause-order
 returns-clause-order c =
