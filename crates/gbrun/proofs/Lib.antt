@@ -1,3 +1,4 @@
 mod CommandLines
 mod Faults
+mod Scripts
 mod Seeds

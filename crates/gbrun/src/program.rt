@@ -4,7 +4,7 @@ ghost use Rattle.std.specs.Prelude.{OnOk, map};
 ghost use Rattle.std.specs.Option.{option_map_or};
 ghost use Rattle.std.specs.Io.KnownBytes.{Appends, Keeps};
 ghost use Rattle.gbrun.specs.Faults.{status_of};
-ghost use Rattle.gbrun.specs.Outcomes.{Grows, IsRight, IsWrong};
+ghost use Rattle.gbrun.specs.Outcomes.{IsRight, IsWrong, Runs, Serves, script_in};
 
 use crate::fault::Fault;
 use crate::files::FileSource;
@@ -33,7 +33,8 @@ pub fn execute<R: Read, F: FileSource, W: Write, E: Write>(
         ⊎ IsWrong (map (λ word. word.items) words.now) }
 
     // What is written.
-    ensures written { result ≡ 0 → Grows (W.contents out.old) (W.contents out.new) }
+    ensures written { result ≡ 0 → Serves (script_in (F.content files.now) (R.remaining input.old) (map (λ word. word.items) words.now))
+        (map (λ word. word.items) words.now) (W.contents out.old) (W.contents out.new) }
     ensures quiet { result ≡ 0 → Keeps (E.contents err.old) (E.contents err.new) }
     ensures untouched { result ≡ 2 → Keeps (W.contents out.old) (W.contents out.new) }
 {
@@ -55,7 +56,8 @@ fn answer<R: Read, F: FileSource, W: Write>(
     ensures wrong { IfErr result (λ fault. status_of fault ≡ 2
         → Any (λ word. ¬ (IsUtf8 word.items)) words.now
         ⊎ IsWrong (map (λ word. word.items) words.now)) }
-    ensures written { OnOk result (Grows (W.contents out.old) (W.contents out.new)) }
+    ensures written { OnOk result (Serves (script_in (F.content files.now) (R.remaining input.old) (map (λ word. word.items) words.now))
+        (map (λ word. word.items) words.now) (W.contents out.old) (W.contents out.new)) }
     ensures untouched { IfErr result (λ fault. status_of fault ≡ 2
         → Keeps (W.contents out.old) (W.contents out.new)) }
 {
@@ -75,7 +77,8 @@ fn run<R: Read, F: FileSource, W: Write>(
     files: &F,
     out: &mut W,
 ) -> Result<(), Fault>
-    ensures written { OnOk result (Grows (W.contents out.old) (W.contents out.new)) }
+    ensures written { OnOk result (Runs (option_map_or (λ name. F.content files.now name.now) options.now.script (R.remaining input.old))
+        (W.contents out.old) (W.contents out.new)) }
     ensures err { IfErr result (λ fault. status_of fault ≡ 1) }
 {
     let script = read_script(alloc, options.script, input, files)?;
