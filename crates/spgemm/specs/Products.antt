@@ -1,15 +1,16 @@
 -- The rows of a product.
-use Rattle.std.specs.Prelude.{ℕ, ◌≡◌, ◌<◌, List, [], ◌++◌, length, Option, Some, None, IfSome, map}
+use Rattle.std.specs.Prelude.{ℕ, ◌≡◌, ◌<◌, ◌≤◌, List, [], ◌++◌, length, Option, Some, None, IfSome, map}
 use Rattle.std.specs.List.{All}
 use Rattle.algebra.specs.declared.operators.Semiring.{Semiring}
 use Rattle.algebra.specs.Operators.{combines_by}
 use Rattle.model.specs.declared.entry.Entry.{Entry}
 use Rattle.model.specs.declared.names.Ring.{Ring}
 use Rattle.model.specs.Object.{word_at}
-use Rattle.model.specs.Product.{sum_domain}
+use Rattle.model.specs.Product.{sum_domain, product}
 use Rattle.store.specs.declared.rows.Row.{Row}
-use Rattle.store.specs.Rows.{entries_of_row, HasColumnsBelow}
-use Rattle.store.specs.Stored.{Stored, entries_in_row}
+use Rattle.store.specs.declared.rows.RowBlock.{RowBlock}
+use Rattle.store.specs.Rows.{entries_of_row, block_content, HasColumnsBelow}
+use Rattle.store.specs.Stored.{Stored, content_of, entries_in_row}
 use Rattle.spgemm.specs.declared.term.Term.{Term}
 use Rattle.spgemm.specs.Terms.{sum_at, terms_of_row}
 
@@ -51,3 +52,10 @@ pub record IsNamed (ring : Ring) (semiring : Semiring) : Type 0 where
   pub add_domain : semiring.add.op.domain ≡ sum_domain ring
   pub multiply : semiring.multiply.kind ≡ ring.multiply
   pub multiply_domain : semiring.multiply.domain ≡ ring.domain
+
+-- the rows from first up to before past of the product of A and B
+pub record IsProductBlock (semiring : Semiring) (first past : ℕ) (a b : Stored) (block : RowBlock) : Type 0 where
+  pub first_is : block.first ≡ first
+  pub past_is : block.past ≡ past
+  pub cols : All (HasColumnsBelow b.cols) block.rows.items
+  pub words : (ring : Ring) → IsNamed ring semiring → (i j : ℕ) → first ≤ i → i < past → block_content block i j ≡ product ring a.cols (content_of a) (content_of b) i j

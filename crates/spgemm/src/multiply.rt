@@ -1,14 +1,15 @@
-ghost use Rattle.std.specs.Prelude.{◌≡◌, ℕ, ◌<◌, ◌≤◌, [], IfOk, MatchOption};
+ghost use Rattle.std.specs.Prelude.{◌≡◌, ℕ, ◌<◌, ◌≤◌, true, [], IfOk, MatchOption};
 ghost use Rattle.std.specs.List.{All};
+ghost use Rattle.algebra.specs.Operators.{offers};
 ghost use Rattle.model.specs.Object.{InOrder};
 ghost use Rattle.store.specs.Rows.{block_content, HasColumnsBelow};
 ghost use Rattle.store.specs.Stored.{content_of};
 ghost use Rattle.model.specs.Product.{product};
 ghost use Rattle.model.specs.declared.names.Ring.{Ring};
-ghost use Rattle.spgemm.specs.Products.{StartsWithRow, IsNamed};
+ghost use Rattle.spgemm.specs.Products.{StartsWithRow, IsNamed, IsProductBlock};
 
 use crate::row::{Scratch, multiply_row};
-use algebra::Semiring;
+use algebra::{BinaryKind, BinaryOp, Domain, Monoid, Semiring};
 use model::Entry;
 use std::alloc::Global;
 use std::ops::Range;
@@ -32,6 +33,57 @@ pub fn multiply_rows(
     ensures past { IfOk result (λ block. block.past ≡ range.end) }
     ensures cols { IfOk result (λ block. All (HasColumnsBelow b.now.cols) block.rows.items) }
     ensures words { IfOk result (λ block. (ring : Ring) → IsNamed ring semiring → (i j : ℕ) → range.start ≤ i → i < range.end → block_content block i j ≡ product ring a.now.cols (content_of a.now) (content_of b.now) i j) }
+{
+    // In each arm the kinds are literals, and all that runs below it is inlined, so that its loops are
+    // compiled for its own operators and look none up.
+    let (add, multiply) = (semiring.add.op.kind, semiring.multiply.kind);
+    match (add, multiply, semiring.multiply.domain) {
+        (BinaryKind::Plus, BinaryKind::Times, Domain::Int64) => {
+            let plus_times = semiring_of(BinaryKind::Plus, BinaryKind::Times, Domain::Int64);
+            multiply_by(alloc, a, b, plus_times, range)
+        }
+        (BinaryKind::Min, BinaryKind::Plus, Domain::Int64) => {
+            let min_plus = semiring_of(BinaryKind::Min, BinaryKind::Plus, Domain::Int64);
+            multiply_by(alloc, a, b, min_plus, range)
+        }
+        _ => multiply_by(alloc, a, b, semiring, range),
+    }
+}
+
+/// The semiring of two operators on one domain.
+#[inline(always)]
+fn semiring_of(add: BinaryKind, multiply: BinaryKind, domain: Domain) -> Semiring
+    requires add { offers add domain ≡ true }
+    requires multiply { offers multiply domain ≡ true }
+    ensures add { result.add.op.kind ≡ add }
+    ensures add_domain { result.add.op.domain ≡ domain }
+    ensures multiply { result.multiply.kind ≡ multiply }
+    ensures multiply_domain { result.multiply.domain ≡ domain }
+{
+    Semiring {
+        add: Monoid {
+            op: BinaryOp { kind: add, domain },
+        },
+        multiply: BinaryOp {
+            kind: multiply,
+            domain,
+        },
+    }
+}
+
+/// What `multiply_rows` gives, by one semiring of its arms.
+#[inline(always)]
+fn multiply_by(
+    alloc: Global,
+    a: &Store,
+    b: &Store,
+    semiring: Semiring,
+    range: Range<u64>,
+) -> Result<RowBlock, NoMemory>
+    requires inner { a.now.cols ≡ b.now.rows }
+    requires range { range.start ≤ range.end }
+    requires rows { range.end ≤ a.now.rows }
+    ensures { IfOk result (IsProductBlock semiring range.start range.end a.now b.now) }
 {
     prove_eq!(a.cols(), b.rows());
     let (first, past) = (range.start, range.end);
@@ -60,7 +112,7 @@ fn split_row(entries: &[Entry]) -> Option<(u64, &[Entry], &[Entry])>
 #[cfg(test)]
 mod tests {
     use super::*;
-    use algebra::{BinaryKind, Domain, MonoidKind};
+    use algebra::MonoidKind;
 
     #[test]
     fn multiplies_rows_and_keeps_a_sum_of_zero(rt: HostRuntime) -> Result<(), NoMemory> {

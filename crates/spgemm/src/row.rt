@@ -27,6 +27,7 @@ impl Scratch {
 }
 
 /// The row of the product with B that a row of A gives; None where it has no entry.
+#[inline(always)]
 pub(crate) fn multiply_row(
     alloc: Global,
     index: u64,
@@ -51,7 +52,11 @@ fn row_of(alloc: Global, index: u64, sums: &[Term]) -> Result<Option<Row>, NoMem
     if sums.is_empty() {
         return Ok(None);
     }
-    let cols: Vec<u64> = sums.iter().map(|sum| sum.col).collect(alloc)?;
-    let words: Vec<u64> = sums.iter().map(|sum| sum.word).collect(alloc)?;
+    let mut cols = Vec::with_capacity(alloc, sums.len())?;
+    let mut words = Vec::with_capacity(alloc, sums.len())?;
+    for sum in sums {
+        cols.push_reserved(sum.col);
+        words.push_reserved(sum.word);
+    }
     Ok(Some(Row { index, cols, words }))
 }

@@ -1,6 +1,6 @@
 use Rattle.std.proofs.Common.{length}
 use Rattle.spgemm.proofs.Blocks.{IsDone}
-use Rattle.spgemm.proofs.multiply.multiply_rows.Given as goal
+use Rattle.spgemm.proofs.multiply.multiply_by.Given as goal
 
 abbrev pub invariant-loop-index : goal.invariant-loop-index
 invariant-loop-index l = IsDone l.semiring l.first l.past l.a l.b l.rows.items l.rest

@@ -1,9 +1,9 @@
-use Rattle.std.proofs.Common.{Some, None, ◌∙◌}
+use Rattle.std.proofs.Common.{Some, None, refl, ◌∙◌}
 use Rattle.std.proofs.lemmas.List.{append-nil}
 use Rattle.spgemm.specs.Products.{IsProductRow}
 use Rattle.spgemm.proofs.Blocks.{done_none, done_more, done_all, rest_in_order}
 use Rattle.spgemm.proofs.Product.{rows_product_is}
-use Rattle.spgemm.proofs.multiply.multiply_rows.Goals as goal
+use Rattle.spgemm.proofs.multiply.multiply_by.Goals as goal
 
 pub loop-index-init : goal.loop-index-init
 loop-index-init c =
@@ -26,11 +26,17 @@ loop-index-preserved c =
     let more = done_more c.args.semiring c.args.range.start c.args.range.end c.args.a.now c.args.b.now c.loop-index.rows.items c.loop-index.rest.now c.in-Some.index c.in-Some.row.now c.in-Some.others.now None c.loop-index.invariant c.in-Some.ensures made in
     rw append-nil at more
 
-pub returns-clause-words : goal.returns-clause-words
-returns-clause-words c =
-    λ ring names i j low high.
+pub returns : goal.returns
+returns c =
     let a = c.args.a.now in
     let b = c.args.b.now in
     let range = c.args.range in
-    done_all c.args.semiring range.start range.end a b c.loop-index.rows.items c.loop-index.rest.now c.loop-index.invariant c.in_default.ensures i j
-    ∙ rows_product_is ring c.args.semiring range.start range.end i j a b names c.rows.ensures.within low high
+    let semiring = c.args.semiring in
+    record {
+      first_is = refl;
+      past_is = refl;
+      cols = c.loop-index.invariant.cols;
+      words = λ ring names i j low high.
+          done_all semiring range.start range.end a b c.loop-index.rows.items c.loop-index.rest.now c.loop-index.invariant c.in_default.ensures i j
+          ∙ rows_product_is ring semiring range.start range.end i j a b names c.rows.ensures.within low high;
+    }
