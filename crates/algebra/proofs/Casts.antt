@@ -1,26 +1,52 @@
--- Words cast from INT64 to INT64.
-use Rattle.std.proofs.Common.{◌≡◌, ℕ, suc, ◌-◌, ◌^◌, ◌<◌, ltb, false, sym, inl, inr, arith, rules}
-use Rattle.std.proofs.lemmas.Bool.{cases_Bool, ltb-true}
+-- Words cast from one domain to another.
+use Rattle.std.proofs.Common.{◌≡◌, ℕ, zero, suc, ◌^◌, ◌<◌, refl, arith}
 use Rattle.std.proofs.lemmas.Bool.Decides.{nat_tests}
-use Rattle.std.proofs.lemmas.Int.{int_wrap_fits}
-use Rattle.std.specs.Int.{cast_signed, w64, int_wrap}
-use Rattle.std.specs.Int.RustNames.{FitsSigned}
-use Rattle.algebra.proofs.Residues.{residue_from_wrap}
-use Rattle.algebra.specs.Value.{value_of, cast_of}
-use Rattle.algebra.specs.declared.domain.Domain.TheVariants.{Int64}
+use Rattle.std.specs.Prelude.{ℤ}
+use Rattle.algebra.proofs.Residues.{residue-lt, residue-signed, signed-residue}
+use Rattle.algebra.specs.Value.{value_of, word_of, cast_of, IsWordOf}
+use Rattle.algebra.specs.declared.domain.Domain.{Domain}
+use Rattle.algebra.specs.declared.domain.Domain.TheVariants.{Bool, Int64, Uint64, User}
 
-signed-fits : (word : ℕ) → FitsSigned w64 (cast_signed w64 word)
-signed-fits word =
-    elim (cases_Bool (ltb word (2 ^ 64))) [
-      | inl small ↦ let below : word < 2 ^ 64 = ltb-true word (2 ^ 64) small in search rules
-      | inr large ↦ let wide : (2 ^ 64 - suc word) ≡ 0 = grind (arith, nat_tests) in let past : ltb word (2 ^ 63) ≡ false = grind (arith, nat_tests) in rw (past, wide) (search rules)
-    ]
+-- what holds of both words of BOOL holds of each
+pub each_truth : (P : ℕ → Type 0) → P 0 → P 1 → (word : ℕ) → word < 2 → P word
+each_truth P p q zero small = p
+each_truth P p q (suc zero) small = q
+each_truth P p q (suc (suc n)) small = absurd (omega arith)
 
--- a word stands for the same value after the cast
+-- what holds of the four pairs of words of BOOL holds of each pair
+pub each_pair : (P : ℕ → ℕ → Type 0) → P 0 0 → P 0 1 → P 1 0 → P 1 1 → (a b : ℕ) → a < 2 → b < 2 → P a b
+each_pair P none second first both a b p q =
+    each_truth (λ x. P x b) (each_truth (P 0) none second b q) (each_truth (P 1) first both b q) a p
+
+-- a word of a domain has 64 bits
+pub IsWordOf-lt : (d : Domain) (word : ℕ) → IsWordOf d word → word < 2 ^ 64
+IsWordOf-lt Bool word p = omega arith
+IsWordOf-lt Int64 word p = p
+IsWordOf-lt Uint64 word p = p
+IsWordOf-lt (User k) word p = p
+
+-- what is brought into a domain is a word of it
+pub IsWordOf-word_of : (d : Domain) (z : ℤ) → IsWordOf d (word_of d z)
+IsWordOf-word_of Bool z = grind (arith, nat_tests)
+IsWordOf-word_of Int64 z = residue-lt z
+IsWordOf-word_of Uint64 z = residue-lt z
+IsWordOf-word_of (User k) z = residue-lt z
+
+-- a cast gives a word of the domain to which it casts
+pub IsWordOf-cast : (from to : Domain) (word : ℕ) → IsWordOf to (cast_of from to word)
+IsWordOf-cast from to word = IsWordOf-word_of to (value_of from word)
+
+-- a cast of a word to its own domain changes nothing
+pub cast_own : (d : Domain) (word : ℕ) → IsWordOf d word → cast_of d d word ≡ word
+cast_own Bool word p = each_truth (λ w. cast_of Bool Bool w ≡ w) refl refl word p
+cast_own Int64 word p = residue-signed word p
+cast_own Uint64 word p = omega arith
+cast_own (User k) word p = omega arith
+
+-- a word of INT64 stands for the same value after the cast to INT64
 pub value_of-cast_int64 : (word : ℕ) → value_of Int64 (cast_of Int64 Int64 word) ≡ value_of Int64 word
-unfolding int_wrap
-value_of-cast_int64 word = int_wrap_fits w64 _ (signed-fits word)
+value_of-cast_int64 word = signed-residue word
 
--- a word of 64 bits is the same after the cast
+-- a word of 64 bits is the same after the cast from INT64 to INT64
 pub cast_int64 : (word : ℕ) → word < 2 ^ 64 → cast_of Int64 Int64 word ≡ word
-cast_int64 word small = sym (residue_from_wrap word _ small (sym (int_wrap_fits w64 _ (signed-fits word))))
+cast_int64 word small = cast_own Int64 word small

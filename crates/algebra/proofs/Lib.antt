@@ -1,3 +1,4 @@
 pub mod Casts
 pub mod Monoids
 pub mod Residues
+pub mod Words

@@ -1,135 +1,224 @@
--- The laws of the monoids that there are: what they combine words to is a word again, neither the
--- order nor the grouping matters, and the identity changes nothing.
-use Rattle.std.proofs.Common.{◌≡◌, ℕ, ◌-◌, ◌%◌, ◌^◌, ◌<◌, sym, ◌∙◌, ap, arith, rules, true, false, cond}
-use Rattle.std.proofs.Math.Nat.{add-mod-mod, mod-add-mod, mul_assoc}
-use Rattle.std.proofs.lemmas.Nat.{mul-mod_first, mul-mod_second}
-use Rattle.std.proofs.lemmas.Int.{ints, clamps, int_wrap_fits}
-use Rattle.std.proofs.lemmas.Bool.Decides.{nat_tests}
-use Rattle.std.specs.Prelude.{ℤ, pos, int_lt}
-use Rattle.std.specs.Int.{cast_signed, w64, int_min, int_wrap}
-use Rattle.std.specs.Int.RustNames.{FitsSigned}
-use Rattle.algebra.proofs.Residues.{residue-lt, residue_from_wrap, plus-words, times-words}
-use Rattle.algebra.specs.Value.{residue, value_of, word_of}
-use Rattle.algebra.specs.Monoids.{identity_of}
+-- The laws of the monoids on the words of their domains: neither the order nor the grouping matters,
+-- and the identity changes nothing.
+use Rattle.std.proofs.Common.{◌≡◌, ℕ, ◌+◌, ◌*◌, ◌-◌, ◌%◌, ◌^◌, ◌<◌, sym, ◌∙◌, ap, refl, arith, true, false, cond}
+use Rattle.std.proofs.Math.Nat.{add-mod-mod, mod-add-mod, mul_assoc, mod-eq_of_lt}
+use Rattle.std.proofs.lemmas.Nat.{mul-mod_first, mul-mod_second, or_comm, and_comm, xor_comm, or_lt, xor_lt, and_le_l, and_assoc, and_mask}
+use Rattle.std.proofs.lemmas.Nat.Bits.{same_from_bits, bit_at_or}
+use Rattle.std.proofs.lemmas.Int.{ints, clamps}
+use Rattle.std.specs.Prelude.{ℤ, pos, bit_and, bit_or, bit_xor, int_lt}
+use Rattle.std.specs.Int.{int_min, int_max, bit_at}
+use Rattle.std.specs.Int.Bits.{xor_assoc}
+use Rattle.algebra.proofs.Casts.{IsWordOf-lt, IsWordOf-word_of, cast_own, each_pair, each_truth}
+use Rattle.algebra.proofs.Words.{plus-words, times-words, min-words, max-words, or-words, and-words, xor-words}
+use Rattle.algebra.specs.Value.{residue, value_of, word_of, IsWordOf}
+use Rattle.algebra.specs.Monoids.{identity_of, greatest_of, least_of}
 use Rattle.algebra.specs.Operators.{eval_of, offers, combines_by, answer_domain}
 use Rattle.algebra.specs.declared.domain.Domain.{Domain}
 use Rattle.algebra.specs.declared.domain.Domain.TheVariants.{Bool, Int64, Uint64, User}
+use Rattle.algebra.specs.declared.kinds.BinaryKind.{BinaryKind}
 use Rattle.algebra.specs.declared.kinds.BinaryKind.TheVariants as binary
 use Rattle.algebra.specs.declared.kinds.MonoidKind.{MonoidKind}
-use Rattle.algebra.specs.declared.kinds.MonoidKind.TheVariants.{Plus, Times, Min, Max}
+use Rattle.algebra.specs.declared.kinds.MonoidKind.TheVariants.{Plus, Times, Min, Max, Bor, Band, Bxor, Lor, Land, Lxor, Lxnor}
 
--- what is brought into a domain is a word
-word_of-lt : (d : Domain) (z : ℤ) → word_of d z < 2 ^ 64
-word_of-lt Bool z = grind (arith, nat_tests)
-word_of-lt Int64 z = residue-lt z
-word_of-lt Uint64 z = residue-lt z
-word_of-lt (User k) z = residue-lt z
+-- the two groupings of three words
+abbrev Associates : BinaryKind → Domain → ℕ → ℕ → ℕ → Type 0
+Associates kind d a b c = eval_of kind d (eval_of kind d a b) c ≡ eval_of kind d a (eval_of kind d b c)
 
--- the identity is a word
-pub identity-word : (kind : MonoidKind) (d : Domain) → identity_of kind d < 2 ^ 64
-identity-word Min d = word_of-lt d _
-identity-word Max d = word_of-lt d _
-identity-word _ d = omega arith
+-- ---- sums and products
 
--- PLUS: the grouping does not matter
-plus-associates : (d : Domain) (a b c : ℕ)
-    → offers binary.Plus d ≡ true → a < 2 ^ 64 → b < 2 ^ 64 → c < 2 ^ 64
-    → eval_of binary.Plus d (eval_of binary.Plus d a b) c ≡ eval_of binary.Plus d a (eval_of binary.Plus d b c)
+plus-associates : (d : Domain) (a b c : ℕ) → offers binary.Plus d ≡ true → IsWordOf d a → IsWordOf d b → IsWordOf d c → Associates binary.Plus d a b c
 plus-associates d a b c h p q r =
-    let left = plus-words d (eval_of binary.Plus d a b) c h (word_of-lt d _) r in
-    let right = plus-words d a (eval_of binary.Plus d b c) h p (word_of-lt d _) in
-    rw (← left, ← right, ← plus-words d a b h p q, ← plus-words d b c h q r, mod-add-mod, add-mod-mod)
+    let small_a = IsWordOf-lt d a p in
+    let small_b = IsWordOf-lt d b q in
+    let small_c = IsWordOf-lt d c r in
+    let left = plus-words d (eval_of binary.Plus d a b) c h (IsWordOf-lt d _ (IsWordOf-word_of d _)) small_c in
+    let right = plus-words d a (eval_of binary.Plus d b c) h small_a (IsWordOf-lt d _ (IsWordOf-word_of d _)) in
+    rw (← left, ← right, ← plus-words d a b h small_a small_b, ← plus-words d b c h small_b small_c, mod-add-mod, add-mod-mod)
     (omega arith)
 
--- TIMES: the grouping does not matter
-times-associates : (d : Domain) (a b c : ℕ)
-    → offers binary.Times d ≡ true → a < 2 ^ 64 → b < 2 ^ 64 → c < 2 ^ 64
-    → eval_of binary.Times d (eval_of binary.Times d a b) c ≡ eval_of binary.Times d a (eval_of binary.Times d b c)
+times-associates : (d : Domain) (a b c : ℕ) → offers binary.Times d ≡ true → IsWordOf d a → IsWordOf d b → IsWordOf d c → Associates binary.Times d a b c
 times-associates d a b c h p q r =
-    let left = times-words d (eval_of binary.Times d a b) c h (word_of-lt d _) r in
-    let right = times-words d a (eval_of binary.Times d b c) h p (word_of-lt d _) in
-    rw (← left, ← right, ← times-words d a b h p q, ← times-words d b c h q r, mul-mod_first, mul-mod_second)
+    let small_a = IsWordOf-lt d a p in
+    let small_b = IsWordOf-lt d b q in
+    let small_c = IsWordOf-lt d c r in
+    let left = times-words d (eval_of binary.Times d a b) c h (IsWordOf-lt d _ (IsWordOf-word_of d _)) small_c in
+    let right = times-words d a (eval_of binary.Times d b c) h small_a (IsWordOf-lt d _ (IsWordOf-word_of d _)) in
+    rw (← left, ← right, ← times-words d a b h small_a small_b, ← times-words d b c h small_b small_c, mul-mod_first, mul-mod_second)
     (ap (λ x. x % 2 ^ 64) (mul_assoc a b c))
 
--- the minimum of whole numbers commutes
+-- ---- the least and the greatest
+
 int_min_comm : (x y : ℤ) → int_min x y ≡ int_min y x
 int_min_comm x y = omega (arith, ints, clamps)
 
--- the minimum of whole numbers associates
 int_min_assoc : (x y z : ℤ) → int_min (int_min x y) z ≡ int_min x (int_min y z)
 int_min_assoc x y z = omega (arith, ints, clamps)
 
--- the lesser of two values that fit 64 bits fits
-min-fits : (x y : ℤ) → FitsSigned w64 x → FitsSigned w64 y → FitsSigned w64 (int_min x y)
-min-fits x y f g = elim (int_lt y x) as (λ t. FitsSigned w64 (cond t y x)) [ true ↦ g | false ↦ f ]
+int_max_comm : (x y : ℤ) → int_max x y ≡ int_max y x
+int_max_comm x y = omega (arith, ints, clamps)
 
--- the value of a word fits
-signed-fits : (a : ℕ) → a < 2 ^ 64 → FitsSigned w64 (cast_signed w64 a)
-signed-fits a p = search rules
+int_max_assoc : (x y z : ℤ) → int_max (int_max x y) z ≡ int_max x (int_max y z)
+int_max_assoc x y z = omega (arith, ints, clamps)
 
 -- the value of MIN is the lesser of the two values
-min-value : (d : Domain) (a b : ℕ)
-    → offers binary.Min d ≡ true → a < 2 ^ 64 → b < 2 ^ 64
-    → value_of d (eval_of binary.Min d a b) ≡ int_min (value_of d a) (value_of d b)
-unfolding int_wrap
-min-value Bool a b h p q = cc
-min-value Int64 a b h p q = int_wrap_fits w64 _ (min-fits _ _ (signed-fits a p) (signed-fits b q))
-min-value Uint64 a b h p q = cc
-min-value (User k) a b h p q = cc
+min-value : (d : Domain) (a b : ℕ) → IsWordOf d a → IsWordOf d b → value_of d (eval_of binary.Min d a b) ≡ int_min (value_of d a) (value_of d b)
+min-value d a b p q =
+    rw (min-words d a b p q)
+    (elim (int_lt (value_of d b) (value_of d a)) as (λ t. value_of d (cond t b a) ≡ cond t (value_of d b) (value_of d a)) [ true ↦ refl | false ↦ refl ])
 
--- MIN: the grouping does not matter
-min-associates : (d : Domain) (a b c : ℕ)
-    → offers binary.Min d ≡ true → a < 2 ^ 64 → b < 2 ^ 64 → c < 2 ^ 64
-    → eval_of binary.Min d (eval_of binary.Min d a b) c ≡ eval_of binary.Min d a (eval_of binary.Min d b c)
-min-associates d a b c h p q r =
-    let grouped = int_min_assoc (value_of d a) (value_of d b) (value_of d c) in
-    ap (word_of d) (rw (min-value d a b h p q, min-value d b c h q r) grouped)
+-- the value of MAX is the greater of the two values
+max-value : (d : Domain) (a b : ℕ) → IsWordOf d a → IsWordOf d b → value_of d (eval_of binary.Max d a b) ≡ int_max (value_of d a) (value_of d b)
+max-value d a b p q =
+    rw (max-words d a b p q)
+    (elim (int_lt (value_of d b) (value_of d a)) as (λ t. value_of d (cond t a b) ≡ cond t (value_of d a) (value_of d b)) [ true ↦ refl | false ↦ refl ])
 
--- MIN: the greatest value changes nothing
-min-identity : (d : Domain) (a : ℕ)
-    → offers binary.Min d ≡ true → a < 2 ^ 64
-    → eval_of binary.Min d (identity_of Min d) a ≡ a
-min-identity Bool a h p = cc
-min-identity Int64 a h p =
-    let lesser : int_min (pos (2 ^ 63 - 1)) (cast_signed w64 a) ≡ cast_signed w64 a = omega (arith, ints, clamps) in
-    ap residue lesser ∙ sym (residue_from_wrap a _ p (sym (int_wrap_fits w64 _ (signed-fits a p))))
-min-identity Uint64 a h p = cc
-min-identity (User k) a h p = cc
+min-associates : (d : Domain) (a b c : ℕ) → IsWordOf d a → IsWordOf d b → IsWordOf d c → Associates binary.Min d a b c
+min-associates d a b c p q r =
+    ap (word_of d) (rw (min-value d a b p q, min-value d b c q r) (int_min_assoc (value_of d a) (value_of d b) (value_of d c)))
+
+max-associates : (d : Domain) (a b c : ℕ) → IsWordOf d a → IsWordOf d b → IsWordOf d c → Associates binary.Max d a b c
+max-associates d a b c p q r =
+    ap (word_of d) (rw (max-value d a b p q, max-value d b c q r) (int_max_assoc (value_of d a) (value_of d b) (value_of d c)))
+
+-- no value of a word is past the greatest
+below_greatest : (d : Domain) (a : ℕ) → IsWordOf d a → int_min (value_of d (word_of d (greatest_of d))) (value_of d a) ≡ value_of d a
+below_greatest Bool a p = each_truth (λ w. int_min (pos 1) (value_of Bool w) ≡ value_of Bool w) refl refl a p
+below_greatest Int64 a p = omega (arith, ints, clamps)
+below_greatest Uint64 a p = omega (arith, ints, clamps)
+below_greatest (User k) a p = omega (arith, ints, clamps)
+
+-- no value of a word is before the least
+above_least : (d : Domain) (a : ℕ) → IsWordOf d a → int_max (value_of d (word_of d (least_of d))) (value_of d a) ≡ value_of d a
+above_least Bool a p = each_truth (λ w. int_max (pos 0) (value_of Bool w) ≡ value_of Bool w) refl refl a p
+above_least Int64 a p = omega (arith, ints, clamps)
+above_least Uint64 a p = omega (arith, ints, clamps)
+above_least (User k) a p = omega (arith, ints, clamps)
+
+min-identity : (d : Domain) (a : ℕ) → IsWordOf d a → eval_of binary.Min d (word_of d (greatest_of d)) a ≡ a
+min-identity d a p = ap (word_of d) (below_greatest d a p) ∙ cast_own d a p
+
+max-identity : (d : Domain) (a : ℕ) → IsWordOf d a → eval_of binary.Max d (word_of d (least_of d)) a ≡ a
+max-identity d a p = ap (word_of d) (above_least d a p) ∙ cast_own d a p
+
+-- ---- bit by bit
+
+or_assoc : (a b c : ℕ) → bit_or (bit_or a b) c ≡ bit_or a (bit_or b c)
+or_assoc a b c = same_from_bits _ _ (λ i. simp bit_at_or (omega arith))
+
+or-associates : (d : Domain) (a b c : ℕ) → offers binary.Bor d ≡ true → IsWordOf d a → IsWordOf d b → IsWordOf d c → Associates binary.Bor d a b c
+or-associates d a b c h p q r =
+    let small_a = IsWordOf-lt d a p in
+    let small_b = IsWordOf-lt d b q in
+    let small_c = IsWordOf-lt d c r in
+    rw (← or-words d a b h small_a small_b, ← or-words d b c h small_b small_c,
+    ← or-words d (bit_or a b) c h (or_lt 64 a b small_a small_b) small_c, ← or-words d a (bit_or b c) h small_a (or_lt 64 b c small_b small_c))
+    (or_assoc a b c)
+
+and_lt : (a b : ℕ) → a < 2 ^ 64 → bit_and a b < 2 ^ 64
+and_lt a b p = omega (arith, and_le_l a b)
+
+and-associates : (d : Domain) (a b c : ℕ) → offers binary.Band d ≡ true → IsWordOf d a → IsWordOf d b → IsWordOf d c → Associates binary.Band d a b c
+and-associates d a b c h p q r =
+    let small_a = IsWordOf-lt d a p in
+    let small_b = IsWordOf-lt d b q in
+    let small_c = IsWordOf-lt d c r in
+    rw (← and-words d a b h small_a small_b, ← and-words d b c h small_b small_c,
+    ← and-words d (bit_and a b) c h (and_lt a b small_a) small_c, ← and-words d a (bit_and b c) h small_a (and_lt b c small_b))
+    (and_assoc c a b)
+
+xor-associates : (d : Domain) (a b c : ℕ) → offers binary.Bxor d ≡ true → IsWordOf d a → IsWordOf d b → IsWordOf d c → Associates binary.Bxor d a b c
+xor-associates d a b c h p q r =
+    let small_a = IsWordOf-lt d a p in
+    let small_b = IsWordOf-lt d b q in
+    let small_c = IsWordOf-lt d c r in
+    rw (← xor-words d a b h small_a small_b, ← xor-words d b c h small_b small_c,
+    ← xor-words d (bit_xor a b) c h (xor_lt 64 a b small_a small_b) small_c, ← xor-words d a (bit_xor b c) h small_a (xor_lt 64 b c small_b small_c))
+    (xor_assoc a b c)
+
+ones_and : (a : ℕ) → a < 2 ^ 64 → bit_and (2 ^ 64 - 1) a ≡ a
+ones_and a p = and_comm (2 ^ 64 - 1) a ∙ and_mask a 64 ∙ mod-eq_of_lt p
+
+-- ---- the monoids
 
 -- a combination of two words is a word
-pub monoid-word : (kind : MonoidKind) (d : Domain) (a b : ℕ) → eval_of (combines_by kind) d a b < 2 ^ 64
-monoid-word kind d a b = word_of-lt (answer_domain (combines_by kind) d) _
+pub monoid-word : (kind : MonoidKind) (d : Domain) (a b : ℕ) → IsWordOf d (eval_of (combines_by kind) d a b)
+monoid-word Plus d a b = IsWordOf-word_of d _
+monoid-word _ d a b = IsWordOf-word_of d _
+
+-- the identity is a word
+pub identity-word : (kind : MonoidKind) (d : Domain) → offers (combines_by kind) d ≡ true → IsWordOf d (identity_of kind d)
+identity-word Min d h = IsWordOf-word_of d (greatest_of d)
+identity-word Max d h = IsWordOf-word_of d (least_of d)
+identity-word Band Bool h = absurd (cc)
+identity-word _ Bool h = omega arith
+identity-word _ Int64 h = omega arith
+identity-word _ Uint64 h = omega arith
+identity-word _ (User k) h = omega arith
 
 -- the order of two words does not matter
 pub monoid-commutes : (kind : MonoidKind) (d : Domain) (a b : ℕ)
-    → offers (combines_by kind) d ≡ true → a < 2 ^ 64 → b < 2 ^ 64
+    → offers (combines_by kind) d ≡ true → IsWordOf d a → IsWordOf d b
     → eval_of (combines_by kind) d a b ≡ eval_of (combines_by kind) d b a
-monoid-commutes Plus d a b h p q = sym (plus-words d a b h p q) ∙ omega arith ∙ plus-words d b a h q p
-monoid-commutes Times d a b h p q = sym (times-words d a b h p q) ∙ omega arith ∙ times-words d b a h q p
+monoid-commutes Plus d a b h p q =
+    sym (plus-words d a b h (IsWordOf-lt d a p) (IsWordOf-lt d b q)) ∙ omega arith ∙ plus-words d b a h (IsWordOf-lt d b q) (IsWordOf-lt d a p)
+monoid-commutes Times d a b h p q =
+    sym (times-words d a b h (IsWordOf-lt d a p) (IsWordOf-lt d b q)) ∙ omega arith ∙ times-words d b a h (IsWordOf-lt d b q) (IsWordOf-lt d a p)
 monoid-commutes Min d a b h p q = ap (word_of d) (int_min_comm (value_of d a) (value_of d b))
-monoid-commutes _ d a b h p q = cc
+monoid-commutes Max d a b h p q = ap (word_of d) (int_max_comm (value_of d a) (value_of d b))
+monoid-commutes Bor d a b h p q = ap (λ n. word_of d (pos n)) (or_comm (residue (value_of d a)) (residue (value_of d b)))
+monoid-commutes Band d a b h p q = ap (λ n. word_of d (pos n)) (and_comm (residue (value_of d a)) (residue (value_of d b)))
+monoid-commutes Bxor d a b h p q = ap (λ n. word_of d (pos n)) (xor_comm (residue (value_of d a)) (residue (value_of d b)))
+monoid-commutes Lor d a b h p q = ap (word_of d) (int_max_comm (value_of d a) (value_of d b))
+monoid-commutes Land d a b h p q = ap (word_of d) (int_min_comm (value_of d a) (value_of d b))
+monoid-commutes Lxor Bool a b h p q =
+    each_pair (λ x y. eval_of binary.Lxor Bool x y ≡ eval_of binary.Lxor Bool y x) refl refl refl refl a b p q
+monoid-commutes Lxnor Bool a b h p q =
+    each_pair (λ x y. eval_of binary.Lxnor Bool x y ≡ eval_of binary.Lxnor Bool y x) refl refl refl refl a b p q
+monoid-commutes _ _ a b h p q = cc
 
 -- the grouping of three words does not matter
 pub monoid-associates : (kind : MonoidKind) (d : Domain) (a b c : ℕ)
-    → offers (combines_by kind) d ≡ true → a < 2 ^ 64 → b < 2 ^ 64 → c < 2 ^ 64
-    → eval_of (combines_by kind) d (eval_of (combines_by kind) d a b) c ≡ eval_of (combines_by kind) d a (eval_of (combines_by kind) d b c)
+    → offers (combines_by kind) d ≡ true → IsWordOf d a → IsWordOf d b → IsWordOf d c
+    → Associates (combines_by kind) d a b c
 monoid-associates Plus d a b c h p q r = plus-associates d a b c h p q r
 monoid-associates Times d a b c h p q r = times-associates d a b c h p q r
-monoid-associates Min d a b c h p q r = min-associates d a b c h p q r
-monoid-associates _ d a b c h p q r = cc
+monoid-associates Min d a b c h p q r = min-associates d a b c p q r
+monoid-associates Max d a b c h p q r = max-associates d a b c p q r
+monoid-associates Bor d a b c h p q r = or-associates d a b c h p q r
+monoid-associates Band d a b c h p q r = and-associates d a b c h p q r
+monoid-associates Bxor d a b c h p q r = xor-associates d a b c h p q r
+monoid-associates Lor d a b c h p q r = max-associates d a b c p q r
+monoid-associates Land d a b c h p q r = min-associates d a b c p q r
+monoid-associates Lxor Bool a b c h p q r =
+    each_truth (λ z. Associates binary.Lxor Bool a b z)
+    (each_pair (λ x y. Associates binary.Lxor Bool x y 0) refl refl refl refl a b p q)
+    (each_pair (λ x y. Associates binary.Lxor Bool x y 1) refl refl refl refl a b p q) c r
+monoid-associates Lxnor Bool a b c h p q r =
+    each_truth (λ z. Associates binary.Lxnor Bool a b z)
+    (each_pair (λ x y. Associates binary.Lxnor Bool x y 0) refl refl refl refl a b p q)
+    (each_pair (λ x y. Associates binary.Lxnor Bool x y 1) refl refl refl refl a b p q) c r
+monoid-associates _ _ a b c h p q r = cc
 
 -- the identity on the left changes no word
 pub monoid-identity : (kind : MonoidKind) (d : Domain) (a : ℕ)
-    → offers (combines_by kind) d ≡ true → a < 2 ^ 64
+    → offers (combines_by kind) d ≡ true → IsWordOf d a
     → eval_of (combines_by kind) d (identity_of kind d) a ≡ a
-monoid-identity Plus d a h p = sym (plus-words d 0 a h (omega arith) p) ∙ omega arith
-monoid-identity Times d a h p = sym (times-words d 1 a h (omega arith) p) ∙ omega arith
-monoid-identity Min d a h p = min-identity d a h p
-monoid-identity _ d a h p = cc
+monoid-identity Plus d a h p = let small = IsWordOf-lt d a p in sym (plus-words d 0 a h (omega arith) small) ∙ omega arith
+monoid-identity Times d a h p = let small = IsWordOf-lt d a p in sym (times-words d 1 a h (omega arith) small) ∙ omega arith
+monoid-identity Min d a h p = min-identity d a p
+monoid-identity Max d a h p = max-identity d a p
+monoid-identity Bor d a h p = sym (or-words d 0 a h (omega arith) (IsWordOf-lt d a p))
+monoid-identity Band d a h p = sym (and-words d (2 ^ 64 - 1) a h (omega arith) (IsWordOf-lt d a p)) ∙ ones_and a (IsWordOf-lt d a p)
+monoid-identity Bxor d a h p = sym (xor-words d 0 a h (omega arith) (IsWordOf-lt d a p))
+monoid-identity Lor Bool a h p = max-identity Bool a p
+monoid-identity Land Bool a h p = min-identity Bool a p
+monoid-identity Lxor Bool a h p = each_truth (λ w. eval_of binary.Lxor Bool 0 w ≡ w) refl refl a p
+monoid-identity Lxnor Bool a h p = each_truth (λ w. eval_of binary.Lxnor Bool 1 w ≡ w) refl refl a p
+monoid-identity _ _ a h p = cc
 
 -- the identity on the right changes no word
 pub monoid-identity_right : (kind : MonoidKind) (d : Domain) (a : ℕ)
-    → offers (combines_by kind) d ≡ true → a < 2 ^ 64
+    → offers (combines_by kind) d ≡ true → IsWordOf d a
     → eval_of (combines_by kind) d a (identity_of kind d) ≡ a
 monoid-identity_right kind d a h p =
-    monoid-commutes kind d a (identity_of kind d) h p (identity-word kind d) ∙ monoid-identity kind d a h p
+    monoid-commutes kind d a (identity_of kind d) h p (identity-word kind d h) ∙ monoid-identity kind d a h p

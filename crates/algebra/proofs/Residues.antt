@@ -1,13 +1,12 @@
--- Words modulo 2 ^ 64 against formulas on whole numbers.
-use Rattle.std.proofs.Common.{◌≡◌, ℕ, ◌+◌, ◌*◌, ◌%◌, ◌^◌, ◌<◌, sym, ◌∙◌, ap, arith, true}
+-- Words modulo 2 ^ 64 against whole numbers.
+use Rattle.std.proofs.Common.{◌≡◌, ℕ, suc, ◌-◌, ◌^◌, ◌<◌, ltb, false, sym, ◌∙◌, ap, inl, inr, arith, rules}
 use Rattle.std.specs.Prelude.{ℤ, pos, negsuc}
 use Rattle.std.specs.Int.{cast_signed, cast_unsigned, w64, int_wrap}
-use Rattle.std.proofs.lemmas.Int.{of_z-to_z, wrapping_add-bits, wrapping_mul-bits}
+use Rattle.std.specs.Int.RustNames.{FitsSigned}
+use Rattle.std.proofs.lemmas.Bool.{cases_Bool, ltb-true}
+use Rattle.std.proofs.lemmas.Bool.Decides.{nat_tests}
+use Rattle.std.proofs.lemmas.Int.{of_z-to_z, int_wrap_fits}
 use Rattle.algebra.specs.Value.{residue}
-use Rattle.algebra.specs.Operators.{eval_of, offers}
-use Rattle.algebra.specs.declared.domain.Domain.{Domain}
-use Rattle.algebra.specs.declared.domain.Domain.TheVariants.{Bool, Int64, Uint64, User}
-use Rattle.algebra.specs.declared.kinds.BinaryKind.TheVariants.{Plus, Times}
 
 -- a residue is a word
 pub residue-lt : (z : ℤ) → residue z < 2 ^ 64
@@ -20,16 +19,19 @@ unfolding int_wrap
 residue_from_wrap m z small e =
     sym (of_z-to_z w64 m small) ∙ ap (cast_unsigned w64) e ∙ of_z-to_z w64 (residue z) (residue-lt z)
 
--- the wrapping sum of two words is PLUS on each domain that has it
-pub plus-words : (d : Domain) (a b : ℕ) → offers Plus d ≡ true → a < 2 ^ 64 → b < 2 ^ 64 → (a + b) % 2 ^ 64 ≡ eval_of Plus d a b
-plus-words Bool a b h p q = cc
-plus-words Int64 a b h p q = residue_from_wrap _ _ (omega arith) (wrapping_add-bits w64 a b p q)
-plus-words Uint64 a b h p q = cc
-plus-words (User k) a b h p q = cc
+-- the signed value of any word fits 64 bits
+pub signed-fits : (word : ℕ) → FitsSigned w64 (cast_signed w64 word)
+signed-fits word =
+    elim (cases_Bool (ltb word (2 ^ 64))) [
+      | inl small ↦ let below : word < 2 ^ 64 = ltb-true word (2 ^ 64) small in search rules
+      | inr large ↦ let wide : (2 ^ 64 - suc word) ≡ 0 = grind (arith, nat_tests) in let past : ltb word (2 ^ 63) ≡ false = grind (arith, nat_tests) in rw (past, wide) (search rules)
+    ]
 
--- the wrapping product of two words is TIMES on each domain that has it
-pub times-words : (d : Domain) (a b : ℕ) → offers Times d ≡ true → a < 2 ^ 64 → b < 2 ^ 64 → (a * b) % 2 ^ 64 ≡ eval_of Times d a b
-times-words Bool a b h p q = cc
-times-words Int64 a b h p q = residue_from_wrap _ _ (omega arith) (wrapping_mul-bits w64 a b p q)
-times-words Uint64 a b h p q = cc
-times-words (User k) a b h p q = cc
+-- a signed value that is brought back into 64 bits is the same
+pub signed-residue : (word : ℕ) → cast_signed w64 (residue (cast_signed w64 word)) ≡ cast_signed w64 word
+unfolding int_wrap
+signed-residue word = int_wrap_fits w64 _ (signed-fits word)
+
+-- a word is the residue of its signed value
+pub residue-signed : (word : ℕ) → word < 2 ^ 64 → residue (cast_signed w64 word) ≡ word
+residue-signed word small = sym (residue_from_wrap word _ small (sym (int_wrap_fits w64 _ (signed-fits word))))

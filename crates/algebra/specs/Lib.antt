@@ -1,3 +1,5 @@
+pub mod IndexOperators
 pub mod Monoids
 pub mod Operators
+pub mod UnaryOperators
 pub mod Value

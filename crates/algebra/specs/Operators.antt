@@ -1,6 +1,6 @@
 -- Binary operators, monoids and semirings as formulas on whole numbers, brought into the answer's
 -- domain (GraphBLAS C API 2.0, sections 3.5.4, 3.5.5 and 3.5.6; arithmetic modulo 2 ^ 64 by this profile).
-use Rattle.std.specs.Prelude.{ℕ, ℤ, pos, ◌+ℤ◌, ◌-ℤ◌, ◌*ℤ◌, ◌-◌, ◌^◌, if◌then◌else◌, Bool, true, false, ◌&&◌, not, bit_and, bit_or, bit_xor, int_lt}
+use Rattle.std.specs.Prelude.{ℕ, ℤ, pos, ◌+ℤ◌, ◌-ℤ◌, ◌*ℤ◌, ◌-◌, ◌^◌, if◌then◌else◌, Bool, ◌&&◌, not, bit_and, bit_or, bit_xor, int_lt}
 use Rattle.std.specs.Int.{int_min, int_max}
 use Rattle.algebra.specs.declared.domain.Domain.{Domain}
 use Rattle.algebra.specs.declared.domain.Domain.TheVariants as domains
@@ -8,7 +8,7 @@ use Rattle.algebra.specs.declared.kinds.BinaryKind.{BinaryKind}
 use Rattle.algebra.specs.declared.kinds.BinaryKind.TheVariants as binary
 use Rattle.algebra.specs.declared.kinds.MonoidKind.{MonoidKind}
 use Rattle.algebra.specs.declared.kinds.MonoidKind.TheVariants as monoid
-use Rattle.algebra.specs.Value.{residue, value_of, word_of}
+use Rattle.algebra.specs.Value.{residue, value_of, word_of, is_boolean, is_built_in, is_integer}
 
 -- a test's answer as a whole number
 abbrev pub truth : Bool → ℤ
@@ -71,12 +71,18 @@ combines_by monoid.Land = binary.Land
 combines_by monoid.Lxor = binary.Lxor
 combines_by monoid.Lxnor = binary.Lxnor
 
--- the pairs of an operator and a domain that there are so far
+-- the domains on which an operator is there; a monoid is there where its operator is
 abbrev pub offers : BinaryKind → Domain → Bool
-offers binary.Plus domains.Int64 = true
-offers binary.Times domains.Int64 = true
-offers binary.Min domains.Int64 = true
-offers _ _ = false
+offers binary.First d = is_built_in d
+offers binary.Second d = is_built_in d
+offers binary.Oneb d = is_built_in d
+offers binary.Eq d = is_built_in d
+offers binary.Ne d = is_built_in d
+offers binary.Lor d = is_boolean d
+offers binary.Land d = is_boolean d
+offers binary.Lxor d = is_boolean d
+offers binary.Lxnor d = is_boolean d
+offers _ d = is_integer d
 
 -- the semirings: the operator is there, and the monoid is there on the operator's answers
 abbrev pub offers_semiring : MonoidKind → BinaryKind → Domain → Bool

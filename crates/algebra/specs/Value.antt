@@ -1,28 +1,55 @@
 -- Values as whole numbers, the words that hold them, and casts between domains
 -- (GraphBLAS C API 2.0, section 3.4, domains; modulo 2 ^ 64 by this profile).
-use Rattle.std.specs.Prelude.{ℕ, ℤ, pos, unsigned_abs, ◌==◌, ◌^◌, if◌then◌else◌}
+use Rattle.std.specs.Prelude.{ℕ, ℤ, pos, unsigned_abs, ◌==◌, ◌^◌, ◌<◌, if◌then◌else◌, Bool, true, false, ◌&&◌}
 use Rattle.std.specs.Int.{cast_signed, w64, int_rem_euclid}
 use Rattle.algebra.specs.declared.domain.Domain.{Domain}
-use Rattle.algebra.specs.declared.domain.Domain.TheVariants.{Bool, Int64, Uint64, User}
+use Rattle.algebra.specs.declared.domain.Domain.TheVariants.{Bool as Boolean, Int64, Uint64, User}
 
 -- the number from 0 to 2 ^ 64 - 1 that differs from a whole number by a multiple of 2 ^ 64
 abbrev pub residue : ℤ → ℕ
 residue z = unsigned_abs (int_rem_euclid z (pos (2 ^ 64)))
 
--- the whole number that a word stands for: in INT64 in two's complement
+-- the whole number that a word stands for: in BOOL 0 for 0 and 1 for every other word, in INT64 in
+-- two's complement
 abbrev pub value_of : Domain → ℕ → ℤ
-value_of Bool word = pos word
+value_of Boolean word = if word == 0 then pos 0 else pos 1
 value_of Int64 word = cast_signed w64 word
 value_of Uint64 word = pos word
 value_of (User k) word = pos word
 
 -- the word of a whole number that is brought into a domain: in BOOL whether it is not 0, else modulo 2 ^ 64
 abbrev pub word_of : Domain → ℤ → ℕ
-word_of Bool z = if unsigned_abs z == 0 then 0 else 1
+word_of Boolean z = if unsigned_abs z == 0 then 0 else 1
 word_of Int64 z = residue z
 word_of Uint64 z = residue z
 word_of (User k) z = residue z
 
+-- the words that hold the values of a domain: in BOOL 0 and 1, else all of 64 bits
+abbrev pub IsWordOf : Domain → ℕ → Type 0
+IsWordOf Boolean word = word < 2
+IsWordOf _ word = word < 2 ^ 64
+
 -- a word of one domain as a word of another
 abbrev pub cast_of : Domain → Domain → ℕ → ℕ
 cast_of from to word = word_of to (value_of from word)
+
+-- ---- kinds of domains
+
+abbrev pub is_boolean : Domain → Bool
+is_boolean Boolean = true
+is_boolean _ = false
+
+abbrev pub is_integer : Domain → Bool
+is_integer Int64 = true
+is_integer Uint64 = true
+is_integer _ = false
+
+-- the domains of the standard: BOOL and the integers
+abbrev pub is_built_in : Domain → Bool
+is_built_in (User k) = false
+is_built_in _ = true
+
+-- whether values of one domain can be cast to another: both are built in, or both are the same
+abbrev pub are_compatible : Domain → Domain → Bool
+are_compatible (User k) (User m) = k == m
+are_compatible a b = is_built_in a && is_built_in b

@@ -1,11 +1,107 @@
+ghost use Rattle.std.specs.Prelude.{◌≡◌, int_lt};
+ghost use Rattle.algebra.specs.Value.{are_compatible, cast_of, is_boolean, is_built_in, is_integer, value_of, word_of};
+ghost use Rattle.algebra.specs.Monoids.{greatest_of, least_of};
+ghost use Rattle.algebra.specs.Operators.{int_equal};
+
 /// The domain of an object's values (GraphBLAS C API 2.0, section 3.4).
 ///
 /// Each value is held as one 64-bit word: BOOL as 0 or 1, INT64 in two's complement, UINT64 as it is.
-/// A user domain holds any word and has no operators.
+/// Where a word of BOOL is read, every word but 0 counts as 1. A user domain holds any word and has
+/// no operators but those by position.
 #[derive(Clone, Copy, Debug, PartialEq, Eq)]
 pub enum Domain {
     Bool,
     Int64,
     Uint64,
     User(u32),
+}
+
+impl Domain {
+    /// Whether the domain is BOOL.
+    pub const fn is_boolean(self) -> bool
+        ensures { result ≡ is_boolean self }
+    {
+        matches!(self, Domain::Bool)
+    }
+
+    /// Whether the domain is INT64 or UINT64.
+    pub const fn is_integer(self) -> bool
+        ensures { result ≡ is_integer self }
+    {
+        matches!(self, Domain::Int64 | Domain::Uint64)
+    }
+
+    /// Whether the domain is one of the standard's: BOOL or an integer.
+    pub const fn is_built_in(self) -> bool
+        ensures { result ≡ is_built_in self }
+    {
+        !matches!(self, Domain::User(_))
+    }
+
+    /// The word of the least value.
+    pub(crate) const fn least(self) -> u64
+        ensures { result ≡ word_of self (least_of self) }
+    {
+        match self {
+            Domain::Int64 => i64::MIN.cast_unsigned(),
+            Domain::Bool | Domain::Uint64 | Domain::User(_) => 0,
+        }
+    }
+
+    /// The word of the greatest value.
+    pub(crate) const fn greatest(self) -> u64
+        ensures { result ≡ word_of self (greatest_of self) }
+    {
+        match self {
+            Domain::Bool => 1,
+            Domain::Int64 => i64::MAX.cast_unsigned(),
+            Domain::Uint64 | Domain::User(_) => u64::MAX,
+        }
+    }
+
+    /// Whether the value of `a` is below that of `b`.
+    #[inline(always)]
+    pub(crate) const fn is_less(self, a: u64, b: u64) -> bool
+        ensures { result ≡ int_lt (value_of self a) (value_of self b) }
+    {
+        match self {
+            Domain::Bool => a == 0 && b != 0,
+            Domain::Int64 => a.cast_signed() < b.cast_signed(),
+            Domain::Uint64 | Domain::User(_) => a < b,
+        }
+    }
+
+    /// Whether two words stand for the same value.
+    #[inline(always)]
+    pub(crate) const fn is_equal(self, a: u64, b: u64) -> bool
+        ensures { result ≡ int_equal (value_of self a) (value_of self b) }
+    {
+        match self {
+            Domain::Bool => (a == 0) == (b == 0),
+            Domain::Int64 | Domain::Uint64 | Domain::User(_) => a == b,
+        }
+    }
+}
+
+/// Whether values of one domain can be cast to the other: both are built in, or both are the same
+/// (GraphBLAS C API 2.0, section 3.4).
+pub const fn compatible(a: Domain, b: Domain) -> bool
+    ensures { result ≡ are_compatible a b }
+{
+    match (a, b) {
+        (Domain::User(a), Domain::User(b)) => a == b,
+        _ => a.is_built_in() && b.is_built_in(),
+    }
+}
+
+/// A word of the domain `from` as a word of the domain `to`: in BOOL whether the value is not 0, else
+/// the value modulo 2^64.
+#[inline(always)]
+pub const fn cast(word: u64, from: Domain, to: Domain) -> u64
+    ensures { result ≡ cast_of from to word }
+{
+    match (from, to) {
+        (Domain::Bool, _) | (_, Domain::Bool) => (word != 0) as u64,
+        _ => word,
+    }
 }

@@ -1,5 +1,15 @@
 ghost use Rattle.std.specs.Prelude.{◌≡◌};
 
+/// The names of the unary operators (GraphBLAS C API 2.0, table 3.5).
+#[derive(Clone, Copy, Debug, PartialEq, Eq)]
+pub enum UnaryKind {
+    Identity,
+    Ainv,
+    Abs,
+    Lnot,
+    Bnot,
+}
+
 /// The names of the binary operators (GraphBLAS C API 2.0, table 3.5).
 #[derive(Clone, Copy, Debug, PartialEq, Eq)]
 pub enum BinaryKind {
@@ -25,6 +35,29 @@ pub enum BinaryKind {
     Band,
     Bxor,
     Bxnor,
+}
+
+/// The names of the index operators (GraphBLAS C API 2.0, table 3.6): those by position, and the
+/// VALUE operators, which compare a value with a scalar.
+#[derive(Clone, Copy, Debug, PartialEq, Eq)]
+pub enum IndexKind {
+    RowIndex,
+    ColIndex,
+    DiagIndex,
+    Tril,
+    Triu,
+    Diag,
+    OffDiag,
+    ColLe,
+    ColGt,
+    RowLe,
+    RowGt,
+    ValueEq,
+    ValueNe,
+    ValueLt,
+    ValueLe,
+    ValueGt,
+    ValueGe,
 }
 
 /// The names of the monoids (GraphBLAS C API 2.0, table 3.7; BOR, BAND and BXOR by this profile).

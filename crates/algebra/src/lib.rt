@@ -2,10 +2,20 @@
 //! of values, each held as one 64-bit word. Everything here is total and takes no memory.
 #![tactic(auto)]
 
+mod binary;
 mod domain;
+mod index;
 mod kinds;
-mod operators;
+mod monoid;
+mod semiring;
+#[cfg(test)]
+mod tests;
+mod unary;
 
-pub use domain::Domain;
-pub use kinds::{BinaryKind, MonoidKind};
-pub use operators::{BinaryOp, Monoid, Semiring};
+pub use binary::BinaryOp;
+pub use domain::{Domain, cast, compatible};
+pub use index::IndexOp;
+pub use kinds::{BinaryKind, IndexKind, MonoidKind, UnaryKind};
+pub use monoid::Monoid;
+pub use semiring::Semiring;
+pub use unary::UnaryOp;

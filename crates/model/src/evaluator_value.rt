@@ -14,8 +14,9 @@ pub const fn value_of(domain: Domain, word: u64) -> i128
     ensures { result ≡ value_of domain word }
 {
     match domain {
+        Domain::Bool => (word != 0) as i128,
         Domain::Int64 => word.cast_signed() as i128,
-        Domain::Bool | Domain::Uint64 | Domain::User(_) => word as i128,
+        Domain::Uint64 | Domain::User(_) => word as i128,
     }
 }
 

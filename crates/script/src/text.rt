@@ -95,8 +95,9 @@ fn write_value(out: &mut Vec<u8>, domain: Domain, word: u64) -> Result<(), Alloc
 {
     let mut buffer = Buffer::new();
     let text = match domain {
+        Domain::Bool => buffer.format(u64::from(word != 0)),
         Domain::Int64 => buffer.format(word.cast_signed()),
-        Domain::Bool | Domain::Uint64 | Domain::User(_) => buffer.format(word),
+        Domain::Uint64 | Domain::User(_) => buffer.format(word),
     };
     out.extend_from_slice(text.as_bytes())
 }

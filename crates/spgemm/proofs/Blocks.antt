@@ -8,7 +8,7 @@ use Rattle.std.proofs.lemmas.Bool.{cases_Bool, cases_eq, leb-true, leb-false, eq
 use Rattle.std.proofs.lemmas.List.{append-nil, get_or_default}
 use Rattle.std.proofs.lemmas.List.Concat.{flat_map-append}
 use Rattle.std.proofs.lemmas.List.Elements.{All-nil, All-cons, All-tail, All-head, All-append, All-weaker, All-take, filter-append}
-use Rattle.algebra.specs.declared.operators.Semiring.{Semiring}
+use Rattle.algebra.specs.declared.semiring.Semiring.{Semiring}
 use Rattle.model.specs.declared.entry.Entry.{Entry}
 use Rattle.model.specs.Object.{entries_between, word_at, InOrder, Precedes}
 use Rattle.store.specs.declared.rows.Row.{Row}

@@ -2,8 +2,8 @@
 use Rattle.std.proofs.Common.{◌≡◌, ℕ, ◌<◌, ◌≤◌, true, false, cond, ◌&&◌, eqb, ltb, Bool, List, [], ◌∷◌, ◌++◌, map, Option, Some, None, refl, sym, ◌∙◌, ap}
 use Rattle.std.specs.Option.{option_map, option_and_then, option_to_list}
 use Rattle.std.specs.List.{cons_option, filter, filter_map, reduce}
-use Rattle.algebra.specs.declared.operators.BinaryOp.{BinaryOp}
-use Rattle.algebra.specs.declared.operators.Semiring.{Semiring}
+use Rattle.algebra.specs.declared.binary.BinaryOp.{BinaryOp}
+use Rattle.algebra.specs.declared.semiring.Semiring.{Semiring}
 use Rattle.model.specs.declared.entry.Entry.{Entry}
 use Rattle.model.specs.declared.names.Ring.{Ring}
 use Rattle.model.specs.Object.{Content, IsWithin, below, entries_between, row_entries}

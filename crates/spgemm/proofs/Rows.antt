@@ -8,7 +8,7 @@ use Rattle.std.proofs.lemmas.Bool.Decides.{nat_tests}
 use Rattle.std.specs.List.{All, AllPairs, Contains, filter, zip}
 use Rattle.std.proofs.lemmas.Bool.{cases_eq, eq-eqb, ne_eqb}
 use Rattle.std.proofs.lemmas.List.Elements.{All-weaker, All-map, All-contains, filter_agree}
-use Rattle.algebra.specs.declared.operators.Semiring.{Semiring}
+use Rattle.algebra.specs.declared.semiring.Semiring.{Semiring}
 use Rattle.model.specs.declared.entry.Entry.{Entry}
 use Rattle.model.specs.Object.{word_at, entry_at}
 use Rattle.store.specs.declared.rows.Row.{Row}

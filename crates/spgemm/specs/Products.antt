@@ -1,7 +1,7 @@
 -- The rows of a product.
 use Rattle.std.specs.Prelude.{ℕ, ◌≡◌, ◌<◌, ◌≤◌, List, [], ◌++◌, length, Option, Some, None, IfSome, map}
 use Rattle.std.specs.List.{All}
-use Rattle.algebra.specs.declared.operators.Semiring.{Semiring}
+use Rattle.algebra.specs.declared.semiring.Semiring.{Semiring}
 use Rattle.algebra.specs.Operators.{combines_by}
 use Rattle.model.specs.declared.entry.Entry.{Entry}
 use Rattle.model.specs.declared.names.Ring.{Ring}

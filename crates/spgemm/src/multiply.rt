@@ -1,6 +1,6 @@
 ghost use Rattle.std.specs.Prelude.{◌≡◌, ℕ, ◌<◌, ◌≤◌, true, [], IfOk, MatchOption};
 ghost use Rattle.std.specs.List.{All};
-ghost use Rattle.algebra.specs.Operators.{offers};
+ghost use Rattle.algebra.specs.Operators.{answer_domain, combines_by, offers_semiring};
 ghost use Rattle.model.specs.Object.{InOrder};
 ghost use Rattle.store.specs.Rows.{block_content, HasColumnsBelow};
 ghost use Rattle.store.specs.Stored.{content_of};
@@ -9,7 +9,7 @@ ghost use Rattle.model.specs.declared.names.Ring.{Ring};
 ghost use Rattle.spgemm.specs.Products.{StartsWithRow, IsNamed, IsProductBlock};
 
 use crate::row::{Scratch, multiply_row};
-use algebra::{BinaryKind, BinaryOp, Domain, Monoid, Semiring};
+use algebra::{BinaryKind, Domain, MonoidKind, Semiring};
 use model::Entry;
 use std::alloc::Global;
 use std::ops::Range;
@@ -36,39 +36,33 @@ pub fn multiply_rows(
 {
     // In each arm the kinds are literals, and all that runs below it is inlined, so that its loops are
     // compiled for its own operators and look none up.
-    let (add, multiply) = (semiring.add.op.kind, semiring.multiply.kind);
-    match (add, multiply, semiring.multiply.domain) {
-        (BinaryKind::Plus, BinaryKind::Times, Domain::Int64) => {
-            let plus_times = semiring_of(BinaryKind::Plus, BinaryKind::Times, Domain::Int64);
+    match (
+        semiring.add.kind,
+        semiring.multiply.kind,
+        semiring.multiply.domain,
+    ) {
+        (MonoidKind::Plus, BinaryKind::Times, Domain::Int64) => {
+            let plus_times = semiring_of(MonoidKind::Plus, BinaryKind::Times, Domain::Int64);
             multiply_by(alloc, a, b, plus_times, range)
         }
-        (BinaryKind::Min, BinaryKind::Plus, Domain::Int64) => {
-            let min_plus = semiring_of(BinaryKind::Min, BinaryKind::Plus, Domain::Int64);
+        (MonoidKind::Min, BinaryKind::Plus, Domain::Int64) => {
+            let min_plus = semiring_of(MonoidKind::Min, BinaryKind::Plus, Domain::Int64);
             multiply_by(alloc, a, b, min_plus, range)
         }
         _ => multiply_by(alloc, a, b, semiring, range),
     }
 }
 
-/// The semiring of two operators on one domain.
+/// The semiring of these kinds.
 #[inline(always)]
-fn semiring_of(add: BinaryKind, multiply: BinaryKind, domain: Domain) -> Semiring
-    requires add { offers add domain ≡ true }
-    requires multiply { offers multiply domain ≡ true }
-    ensures add { result.add.op.kind ≡ add }
-    ensures add_domain { result.add.op.domain ≡ domain }
+fn semiring_of(add: MonoidKind, multiply: BinaryKind, domain: Domain) -> Semiring
+    requires { offers_semiring add multiply domain ≡ true }
+    ensures add { result.add.op.kind ≡ combines_by add }
+    ensures add_domain { result.add.op.domain ≡ answer_domain multiply domain }
     ensures multiply { result.multiply.kind ≡ multiply }
     ensures multiply_domain { result.multiply.domain ≡ domain }
 {
-    Semiring {
-        add: Monoid {
-            op: BinaryOp { kind: add, domain },
-        },
-        multiply: BinaryOp {
-            kind: multiply,
-            domain,
-        },
-    }
+    Semiring::new(add, multiply, domain).unwrap()
 }
 
 /// What `multiply_rows` gives, by one semiring of its arms.
@@ -112,7 +106,6 @@ fn split_row(entries: &[Entry]) -> Option<(u64, &[Entry], &[Entry])>
 #[cfg(test)]
 mod tests {
     use super::*;
-    use algebra::MonoidKind;
 
     #[test]
     fn multiplies_rows_and_keeps_a_sum_of_zero(rt: HostRuntime) -> Result<(), NoMemory> {

@@ -1,0 +1,33 @@
+ghost use Rattle.std.specs.Prelude.{◌≡◌, ◌↔◌, IsTrue, IsSome, IfSome};
+ghost use Rattle.algebra.specs.Operators.{answer_domain, combines_by, offers_semiring};
+
+use crate::{BinaryKind, BinaryOp, Domain, Monoid, MonoidKind};
+
+/// A semiring: the products of an operator, summed by a monoid on the operator's answers.
+#[derive(Clone, Copy)]
+pub struct Semiring {
+    pub add: Monoid,
+    pub multiply: BinaryOp,
+}
+
+impl Semiring {
+    /// The semiring of a monoid and an operator on a domain; None where either isn't offered or the
+    /// monoid isn't on the domain of the operator's answer.
+    #[inline(always)]
+    pub const fn new(add: MonoidKind, multiply: BinaryKind, domain: Domain) -> Option<Semiring>
+        ensures offered { IsSome result ↔ IsTrue (offers_semiring add multiply domain) }
+        ensures add { IfSome result (λ ring. ring.add.op.kind ≡ combines_by add) }
+        ensures add_domain { IfSome result (λ ring. ring.add.op.domain ≡ answer_domain multiply domain) }
+        ensures add_name { IfSome result (λ ring. ring.add.kind ≡ add) }
+        ensures multiply { IfSome result (λ ring. ring.multiply.kind ≡ multiply) }
+        ensures multiply_domain { IfSome result (λ ring. ring.multiply.domain ≡ domain) }
+    {
+        let Some(multiply) = BinaryOp::new(multiply, domain) else {
+            return None;
+        };
+        let Some(add) = Monoid::new(add, multiply.answer()) else {
+            return None;
+        };
+        Some(Semiring { add, multiply })
+    }
+}
