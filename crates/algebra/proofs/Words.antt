@@ -1,17 +1,33 @@
--- What operators give as a word, beside their formulas on whole numbers.
+-- What operators give as a word: it is one of the answer's domain, and what the word instruction gives.
 use Rattle.std.proofs.Common.{◌≡◌, ℕ, ◌+◌, ◌*◌, ◌%◌, ◌^◌, ◌<◌, sym, ◌∙◌, refl, arith, true, false, cond}
 use Rattle.std.proofs.Math.Nat.{mod-eq_of_lt}
 use Rattle.std.proofs.lemmas.Int.{wrapping_add-bits, wrapping_mul-bits}
 use Rattle.std.proofs.lemmas.Nat.{or_lt, xor_lt, and_le_l}
 use Rattle.std.specs.Prelude.{pos, bit_and, bit_or, bit_xor, int_lt}
 use Rattle.std.specs.Int.{w64, int_min, int_max}
-use Rattle.algebra.proofs.Casts.{cast_own}
+use Rattle.algebra.proofs.Casts.{IsWordOf-word_of, cast_own}
 use Rattle.algebra.proofs.Residues.{residue-signed, residue_from_wrap}
-use Rattle.algebra.specs.Operators.{eval_of, offers}
+use Rattle.algebra.specs.Operators.{answer_domain, eval_of, formula, offers}
+use Rattle.algebra.specs.IndexOperators.{index_answer_domain, index_eval_of, index_formula, scalar_domain}
+use Rattle.algebra.specs.UnaryOperators.{unary_eval_of, unary_formula}
 use Rattle.algebra.specs.Value.{residue, value_of, word_of, IsWordOf}
 use Rattle.algebra.specs.declared.domain.Domain.{Domain}
 use Rattle.algebra.specs.declared.domain.Domain.TheVariants.{Bool, Int64, Uint64, User}
+use Rattle.algebra.specs.declared.kinds.BinaryKind.{BinaryKind}
+use Rattle.algebra.specs.declared.kinds.IndexKind.{IndexKind}
+use Rattle.algebra.specs.declared.kinds.UnaryKind.{UnaryKind}
 use Rattle.algebra.specs.declared.kinds.BinaryKind.TheVariants.{Plus, Times, Min, Max, Bor, Band, Bxor}
+
+-- each operator gives a word of its answer's domain
+pub IsWordOf-eval : (kind : BinaryKind) (d : Domain) (a b : ℕ) → IsWordOf (answer_domain kind d) (eval_of kind d a b)
+IsWordOf-eval kind d a b = IsWordOf-word_of (answer_domain kind d) (formula kind (value_of d a) (value_of d b))
+
+pub IsWordOf-unary_eval : (kind : UnaryKind) (d : Domain) (a : ℕ) → IsWordOf d (unary_eval_of kind d a)
+IsWordOf-unary_eval kind d a = IsWordOf-word_of d (unary_formula kind (value_of d a))
+
+pub IsWordOf-index_eval : (kind : IndexKind) (d : Domain) (a i j s : ℕ) → IsWordOf (index_answer_domain kind) (index_eval_of kind d a i j s)
+IsWordOf-index_eval kind d a i j s =
+    IsWordOf-word_of (index_answer_domain kind) (index_formula kind (value_of d a) (pos i) (pos j) (value_of (scalar_domain kind d) s))
 
 -- the wrapping sum of two words is PLUS on each domain that has it
 pub plus-words : (d : Domain) (a b : ℕ) → offers Plus d ≡ true → a < 2 ^ 64 → b < 2 ^ 64 → (a + b) % 2 ^ 64 ≡ eval_of Plus d a b

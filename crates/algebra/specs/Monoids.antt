@@ -1,10 +1,12 @@
--- The identity of each monoid as a word (GraphBLAS C API 2.0, section 3.5.4, monoids, and table 3.7;
--- BOR, BAND and BXOR by this profile).
-use Rattle.std.specs.Prelude.{ℕ, ℤ, pos, negsuc, ◌-◌, ◌^◌}
+-- The identity of each monoid as a word, and sums of words (GraphBLAS C API 2.0, section 3.5.4,
+-- monoids, and table 3.7; BOR, BAND and BXOR by this profile).
+use Rattle.std.specs.Prelude.{ℕ, ℤ, pos, negsuc, ◌-◌, ◌^◌, List, Option}
+use Rattle.std.specs.List.{reduce}
 use Rattle.algebra.specs.declared.domain.Domain.{Domain}
 use Rattle.algebra.specs.declared.domain.Domain.TheVariants as domains
 use Rattle.algebra.specs.declared.kinds.MonoidKind.{MonoidKind}
 use Rattle.algebra.specs.declared.kinds.MonoidKind.TheVariants as monoid
+use Rattle.algebra.specs.Operators.{combines_by, eval_of}
 use Rattle.algebra.specs.Value.{word_of}
 
 -- the least value of a domain: in INT64 -(2 ^ 63)
@@ -35,3 +37,7 @@ identity_of monoid.Lor d = 0
 identity_of monoid.Land d = 1
 identity_of monoid.Lxor d = 0
 identity_of monoid.Lxnor d = 1
+
+-- a monoid's sum of words, in order; there is none of no words
+abbrev pub sum_of : MonoidKind → Domain → List ℕ → Option ℕ
+sum_of kind d words = reduce (eval_of (combines_by kind) d) words

@@ -1,8 +1,9 @@
 -- The product of two matrices over a semiring (GraphBLAS C API 2.0, section 4.3.1, mxm).
-use Rattle.std.specs.Prelude.{ℕ, List, [], ◌∷◌, Option, Some, None}
+use Rattle.std.specs.Prelude.{ℕ, List, Option}
 use Rattle.std.specs.Option.{option_map, option_and_then}
-use Rattle.std.specs.List.{fold, filter_map}
+use Rattle.std.specs.List.{filter_map}
 use Rattle.algebra.specs.declared.domain.Domain.{Domain}
+use Rattle.algebra.specs.Monoids as monoids
 use Rattle.algebra.specs.Operators.{eval_of, answer_domain, combines_by}
 use Rattle.model.specs.declared.names.Ring.{Ring}
 use Rattle.model.specs.Object.{Content, below}
@@ -18,10 +19,9 @@ add_of ring = eval_of (combines_by ring.add) (sum_domain ring)
 abbrev pub multiply_of : Ring → ℕ → ℕ → ℕ
 multiply_of ring = eval_of ring.multiply ring.domain
 
--- the monoid's sum of words, in order; there is none of no words
+-- the sum of words by the semiring's monoid, in order; there is none of no words
 abbrev pub sum_of : Ring → List ℕ → Option ℕ
-sum_of ring [] = None
-sum_of ring (term ∷ terms) = Some (fold (add_of ring) term terms)
+sum_of ring words = monoids.sum_of ring.add (sum_domain ring) words
 
 -- a times b, where both are there
 abbrev pub product_of : Ring → Option ℕ → Option ℕ → Option ℕ

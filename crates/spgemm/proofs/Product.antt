@@ -52,10 +52,6 @@ terms_words op j (e ∷ es) b within =
     words_at-append j (times_row op e.word (row_entries b.cols (content_of b) e.col)) (terms_of_row op es b)
     ∙ rw (times_row_words op e.word e.col j b within, terms_words op j es b within) (cons_is_append (option_map (apply op e.word) (content_of b e.col j)) (filter_map (λ e. option_map (apply op e.word) (content_of b e.col j)) es))
 
-sum_is_reduce : (ring : Ring) (xs : List ℕ) → sum_of ring xs ≡ reduce (add_of ring) xs
-sum_is_reduce ring [] = refl
-sum_is_reduce ring (x ∷ xs) = refl
-
 -- the sum over the entries of a row is the product's
 product_at_is : (ring : Ring) (semiring : Semiring) (cols i j : ℕ) (a : Content) (b : Stored) → IsNamed ring semiring → IsWithin b.rows b.cols (content_of b) → product_at semiring (row_entries cols a i) b j ≡ product ring cols a (content_of b) i j
 unfolding product
@@ -66,7 +62,6 @@ product_at_is ring semiring cols i j a b names within =
     ap (reduce (apply semiring.add.op)) (terms_words semiring.multiply j (row_entries cols a i) b within ∙ over)
     ∙ ap (λ f. reduce f (filter_map (λ k. option_and_then (λ x. option_map (apply semiring.multiply x) (content_of b k j)) (a i k)) (below cols))) plus
     ∙ ap (λ (f : ℕ → ℕ → ℕ). reduce (add_of ring) (filter_map (λ k. option_and_then (λ x. option_map (f x) (content_of b k j)) (a i k)) (below cols))) times
-    ∙ sym (sum_is_reduce ring (terms ring cols a (content_of b) i j))
 
 -- what the entries of some rows of A make is the product, in these rows
 pub rows_product_is : (ring : Ring) (semiring : Semiring) (first past i j : ℕ) (a b : Stored) → IsNamed ring semiring → IsWithin b.rows b.cols (content_of b) → first ≤ i → i < past
