@@ -1,5 +1,5 @@
 -- A run is of the script that the words name.
-use Rattle.std.proofs.Common.{rules, ap, map, ◌≡◌, ◌∙◌, List, ℕ}
+use Rattle.std.proofs.Common.{rules, map, ◌≡◌}
 use Rattle.std.specs.Prelude.{Ok}
 use Rattle.gbrun.specs.CommandLine.{ComesOf}
 use Rattle.gbrun.specs.declared.options.Request.TheVariants.{Run}
