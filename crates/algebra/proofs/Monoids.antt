@@ -1,18 +1,18 @@
 -- The laws of the monoids on the words of their domains: neither the order nor the grouping matters,
 -- and the identity changes nothing.
-use Rattle.std.proofs.Common.{◌≡◌, ℕ, ◌+◌, ◌*◌, ◌-◌, ◌%◌, ◌^◌, ◌<◌, sym, ◌∙◌, ap, refl, arith, true, false, cond}
+use Rattle.std.proofs.Common.{◌≡◌, ℕ, ◌-◌, ◌%◌, ◌^◌, ◌<◌, sym, ◌∙◌, ap, refl, arith, true, false, cond}
 use Rattle.std.proofs.Math.Nat.{add-mod-mod, mod-add-mod, mul_assoc, mod-eq_of_lt}
 use Rattle.std.proofs.lemmas.Nat.{mul-mod_first, mul-mod_second, or_comm, and_comm, xor_comm, or_lt, xor_lt, and_le_l, and_assoc, and_mask}
 use Rattle.std.proofs.lemmas.Nat.Bits.{same_from_bits, bit_at_or}
 use Rattle.std.proofs.lemmas.Int.{ints, clamps}
 use Rattle.std.specs.Prelude.{ℤ, pos, bit_and, bit_or, bit_xor, int_lt}
-use Rattle.std.specs.Int.{int_min, int_max, bit_at}
+use Rattle.std.specs.Int.{int_min, int_max}
 use Rattle.std.specs.Int.Bits.{xor_assoc}
 use Rattle.algebra.proofs.Casts.{IsWordOf-lt, IsWordOf-word_of, cast_own, each_pair, each_truth}
 use Rattle.algebra.proofs.Words.{plus-words, times-words, min-words, max-words, or-words, and-words, xor-words}
 use Rattle.algebra.specs.Value.{residue, value_of, word_of, IsWordOf}
 use Rattle.algebra.specs.Monoids.{identity_of, greatest_of, least_of}
-use Rattle.algebra.specs.Operators.{eval_of, offers, combines_by, answer_domain}
+use Rattle.algebra.specs.Operators.{eval_of, offers, combines_by}
 use Rattle.algebra.specs.declared.domain.Domain.{Domain}
 use Rattle.algebra.specs.declared.domain.Domain.TheVariants.{Bool, Int64, Uint64, User}
 use Rattle.algebra.specs.declared.kinds.BinaryKind.{BinaryKind}
@@ -110,8 +110,12 @@ or-associates d a b c h p q r =
     let small_a = IsWordOf-lt d a p in
     let small_b = IsWordOf-lt d b q in
     let small_c = IsWordOf-lt d c r in
-    rw (← or-words d a b h small_a small_b, ← or-words d b c h small_b small_c,
-    ← or-words d (bit_or a b) c h (or_lt 64 a b small_a small_b) small_c, ← or-words d a (bit_or b c) h small_a (or_lt 64 b c small_b small_c))
+    rw (
+      ← or-words d a b h small_a small_b,
+      ← or-words d b c h small_b small_c,
+      ← or-words d (bit_or a b) c h (or_lt 64 a b small_a small_b) small_c,
+      ← or-words d a (bit_or b c) h small_a (or_lt 64 b c small_b small_c),
+    )
     (or_assoc a b c)
 
 and_lt : (a b : ℕ) → a < 2 ^ 64 → bit_and a b < 2 ^ 64
@@ -122,8 +126,12 @@ and-associates d a b c h p q r =
     let small_a = IsWordOf-lt d a p in
     let small_b = IsWordOf-lt d b q in
     let small_c = IsWordOf-lt d c r in
-    rw (← and-words d a b h small_a small_b, ← and-words d b c h small_b small_c,
-    ← and-words d (bit_and a b) c h (and_lt a b small_a) small_c, ← and-words d a (bit_and b c) h small_a (and_lt b c small_b))
+    rw (
+      ← and-words d a b h small_a small_b,
+      ← and-words d b c h small_b small_c,
+      ← and-words d (bit_and a b) c h (and_lt a b small_a) small_c,
+      ← and-words d a (bit_and b c) h small_a (and_lt b c small_b),
+    )
     (and_assoc c a b)
 
 xor-associates : (d : Domain) (a b c : ℕ) → offers binary.Bxor d ≡ true → IsWordOf d a → IsWordOf d b → IsWordOf d c → Associates binary.Bxor d a b c
@@ -131,8 +139,12 @@ xor-associates d a b c h p q r =
     let small_a = IsWordOf-lt d a p in
     let small_b = IsWordOf-lt d b q in
     let small_c = IsWordOf-lt d c r in
-    rw (← xor-words d a b h small_a small_b, ← xor-words d b c h small_b small_c,
-    ← xor-words d (bit_xor a b) c h (xor_lt 64 a b small_a small_b) small_c, ← xor-words d a (bit_xor b c) h small_a (xor_lt 64 b c small_b small_c))
+    rw (
+      ← xor-words d a b h small_a small_b,
+      ← xor-words d b c h small_b small_c,
+      ← xor-words d (bit_xor a b) c h (xor_lt 64 a b small_a small_b) small_c,
+      ← xor-words d a (bit_xor b c) h small_a (xor_lt 64 b c small_b small_c),
+    )
     (xor_assoc a b c)
 
 ones_and : (a : ℕ) → a < 2 ^ 64 → bit_and (2 ^ 64 - 1) a ≡ a

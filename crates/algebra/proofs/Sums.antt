@@ -1,9 +1,8 @@
 -- Sums of words by a monoid: neither their order nor the parts in which they are summed matter.
-use Rattle.std.proofs.Common.{◌≡◌, ℕ, zero, ◌<◌, List, [], ◌∷◌, Option, Some, None, length, true, refl, sym, ◌∙◌, ap, arith}
+use Rattle.std.proofs.Common.{◌≡◌, ℕ, zero, List, [], ◌∷◌, Some, true, refl, sym, ◌∙◌, ap, arith}
 use Rattle.std.specs.List.{All, concat, filter_map, fold}
 use Rattle.std.specs.List.Sorted.{IsPermutation}
 use Rattle.std.specs.Option.{unwrap_or}
-use Rattle.std.proofs.lemmas.List.Elements.{All-tail}
 use Rattle.std.proofs.lemmas.List.Sorted.{All-permutation, length_permutation}
 use Rattle.algebra.proofs.Folds.{CombinesWords, fold-permutation, fold-word, reduce-parts}
 use Rattle.algebra.proofs.Monoids.{monoid-word, monoid-commutes, monoid-associates, monoid-identity, identity-word}

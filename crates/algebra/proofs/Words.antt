@@ -1,10 +1,10 @@
 -- What operators give as a word: it is one of the answer's domain, and what the word instruction gives.
-use Rattle.std.proofs.Common.{◌≡◌, ℕ, ◌+◌, ◌*◌, ◌%◌, ◌^◌, ◌<◌, sym, ◌∙◌, refl, arith, true, false, cond}
+use Rattle.std.proofs.Common.{◌≡◌, ℕ, ◌+◌, ◌*◌, ◌%◌, ◌^◌, ◌<◌, sym, refl, arith, true, false, cond}
 use Rattle.std.proofs.Math.Nat.{mod-eq_of_lt}
 use Rattle.std.proofs.lemmas.Int.{wrapping_add-bits, wrapping_mul-bits}
 use Rattle.std.proofs.lemmas.Nat.{or_lt, xor_lt, and_le_l}
 use Rattle.std.specs.Prelude.{pos, bit_and, bit_or, bit_xor, int_lt}
-use Rattle.std.specs.Int.{w64, int_min, int_max}
+use Rattle.std.specs.Int.{w64}
 use Rattle.algebra.proofs.Casts.{IsWordOf-word_of, cast_own}
 use Rattle.algebra.proofs.Residues.{residue-signed, residue_from_wrap}
 use Rattle.algebra.specs.Operators.{answer_domain, eval_of, formula, offers}

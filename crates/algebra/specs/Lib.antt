@@ -1,5 +1,6 @@
 pub mod IndexOperators
 pub mod Monoids
+pub mod Names
 pub mod Operators
 pub mod UnaryOperators
 pub mod Value

@@ -7,6 +7,7 @@ mod domain;
 mod index;
 mod kinds;
 mod monoid;
+mod names;
 mod semiring;
 #[cfg(test)]
 mod tests;

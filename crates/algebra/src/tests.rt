@@ -29,6 +29,9 @@ fn tests_positions_without_wrap(rt: HostRuntime) -> Result<(), Fail> {
     assert_eq!(rt; tril.eval(0, 0, 0, u64::MAX), 0, "0 is past -1");
     let diagonal = IndexOp::new(IndexKind::DiagIndex, Domain::Bool).ok_or("DIAGINDEX")?;
     assert_eq!(rt; diagonal.eval(0, 3, 1, 1).cast_signed(), -1);
-    assert_eq!(rt; (diagonal.scalar(), diagonal.answer()), (Domain::Int64, Domain::Int64));
+    assert_eq!(rt;
+        (diagonal.scalar(), diagonal.answer()),
+        (Domain::Int64, Domain::Int64)
+    );
     Ok(())
 }

@@ -120,9 +120,8 @@ fn negative(word: &[u8]) -> Option<i128>
 pub fn domain(word: &[u8]) -> Option<Domain>
     ensures { result ≡ domain_of word.now }
 {
-    if word == b"INT64".as_slice() {
-        Some(Domain::Int64)
-    } else {
-        None
+    match Domain::from_name(word) {
+        Some(Domain::Int64) => Some(Domain::Int64),
+        _ => None,
     }
 }

@@ -6,9 +6,10 @@ use Rattle.std.specs.Str.{bytes_eq}
 use Rattle.std.proofs.lemmas.Bool.{cases_Bool}
 use Rattle.algebra.specs.declared.domain.Domain.{Domain}
 use Rattle.algebra.specs.declared.domain.Domain.TheVariants.{Int64}
+use Rattle.algebra.specs.Names.{domain_from_name}
 use Rattle.model.specs.Command.{Command, Name, Matrix, Set, Get, Nvals, Print, Mxm}
 use Rattle.model.specs.Fault.{IsOnInt64}
-use Rattle.model.specs.Grammar.{◌>>=◌, Silent, Malformed, Call, command_of, domain_of, get_of, is_called, is_none_word, is_silent, is_well_formed, matrix_of, mxm_of, name_of, nth_word, number_of, nvals_of, place_of, print_of, ring_of, reading_of, set_of, value_of_word, words_of}
+use Rattle.model.specs.Grammar.{◌>>=◌, Silent, Malformed, Call, command_of, domain_of, get_of, is_called, is_none_word, is_silent, is_well_formed, matrix_of, mxm_of, name_of, nth_word, number_of, nvals_of, only_int64, place_of, print_of, ring_of, reading_of, set_of, value_of_word, words_of}
 
 -- what holds of what the second step finds, whatever the first one found
 if_found : {A B : Type 0} (P : B → Type 0) (o : Option A) (f : A → Option B) → ((a : A) → IfSome (f a) P) → IfSome (option_and_then f o) P
@@ -24,9 +25,13 @@ if_some : {A : Type 0} (P : A → Type 0) (test : Bool) (o p : Option A) → IfS
 if_some P true o p h k = h
 if_some P false o p h k = k
 
+only_int64-int64 : (d : Domain) → IfSome (only_int64 d) (λ d. d ≡ Int64)
+only_int64-int64 Int64 = refl
+only_int64-int64 _ = tt
+
 domain-int64 : (word : List ℕ) → IfSome (domain_of word) (λ d. d ≡ Int64)
 unfolding domain_of
-domain-int64 word = if_some (λ d. d ≡ Int64) (bytes_eq word (codes "INT64")) (Some Int64) None refl tt
+domain-int64 word = if_found (λ d. d ≡ Int64) (domain_from_name word) only_int64 only_int64-int64
 
 matrix-int64 : (words : List (List ℕ)) → IfSome (matrix_of words) IsOnInt64
 unfolding matrix_of

@@ -1,15 +1,12 @@
 -- How the bytes of a script are read: lines, words, and the grammar of each command.
-use Rattle.std.specs.Prelude.{ℕ, ℤ, pos, neg_ℤ, ◌+◌, ◌-◌, ◌*◌, ◌^◌, ◌==◌, nat_le, nat_lt, not, Bool, true, ◌&&◌, ◌||◌, if◌then◌else◌, List, [], ◌∷◌, map, length, drop, slice_index, slice_index_or, Option, Some, None, codes, filter, fold, find}
+use Rattle.std.specs.Prelude.{ℕ, ℤ, pos, neg_ℤ, ◌+◌, ◌-◌, ◌*◌, ◌^◌, ◌==◌, nat_le, nat_lt, not, Bool, true, ◌&&◌, ◌||◌, if◌then◌else◌, List, [], ◌∷◌, map, length, drop, slice_index, slice_index_or, Option, Some, None, codes, filter, fold}
 use Rattle.std.specs.List.{list_all, slice_split}
 use Rattle.std.specs.Option.{option_and_then, option_map_or}
 use Rattle.std.specs.Str.{bytes_eq}
 use Rattle.std.specs.Str.Lines.{strip_carriage_return}
 use Rattle.algebra.specs.declared.domain.Domain.{Domain}
 use Rattle.algebra.specs.declared.domain.Domain.TheVariants as domains
-use Rattle.algebra.specs.declared.kinds.BinaryKind.{BinaryKind}
-use Rattle.algebra.specs.declared.kinds.BinaryKind.TheVariants as binary
-use Rattle.algebra.specs.declared.kinds.MonoidKind.{MonoidKind}
-use Rattle.algebra.specs.declared.kinds.MonoidKind.TheVariants as monoid
+use Rattle.algebra.specs.Names.{binary_from_name, domain_from_name, monoid_from_name}
 use Rattle.model.specs.declared.names.Place.{Place}
 use Rattle.model.specs.declared.names.Place.TheVariants.{One, Two}
 use Rattle.model.specs.declared.names.Ring.{Ring}
@@ -82,60 +79,14 @@ value_of_word word =
     else (number_of word >>= λ n. Some (pos n))
 
 -- the domains that scripts can name so far
+abbrev pub only_int64 : Domain → Option Domain
+only_int64 domains.Int64 = Some domains.Int64
+only_int64 _ = None
+
 unfoldable pub domain_of : List ℕ → Option Domain
-domain_of word = if bytes_eq word (codes "INT64") then Some domains.Int64 else None
+domain_of word = domain_from_name word >>= only_int64
 
 -- ---- operators, monoids and semirings
-
-abbrev pub binary_name : BinaryKind → List ℕ
-binary_name binary.First = codes "FIRST"
-binary_name binary.Second = codes "SECOND"
-binary_name binary.Oneb = codes "ONEB"
-binary_name binary.Min = codes "MIN"
-binary_name binary.Max = codes "MAX"
-binary_name binary.Plus = codes "PLUS"
-binary_name binary.Minus = codes "MINUS"
-binary_name binary.Times = codes "TIMES"
-binary_name binary.Eq = codes "EQ"
-binary_name binary.Ne = codes "NE"
-binary_name binary.Gt = codes "GT"
-binary_name binary.Lt = codes "LT"
-binary_name binary.Ge = codes "GE"
-binary_name binary.Le = codes "LE"
-binary_name binary.Lor = codes "LOR"
-binary_name binary.Land = codes "LAND"
-binary_name binary.Lxor = codes "LXOR"
-binary_name binary.Lxnor = codes "LXNOR"
-binary_name binary.Bor = codes "BOR"
-binary_name binary.Band = codes "BAND"
-binary_name binary.Bxor = codes "BXOR"
-binary_name binary.Bxnor = codes "BXNOR"
-
-abbrev pub monoid_name : MonoidKind → List ℕ
-monoid_name monoid.Plus = codes "PLUS"
-monoid_name monoid.Times = codes "TIMES"
-monoid_name monoid.Min = codes "MIN"
-monoid_name monoid.Max = codes "MAX"
-monoid_name monoid.Bor = codes "BOR"
-monoid_name monoid.Band = codes "BAND"
-monoid_name monoid.Bxor = codes "BXOR"
-monoid_name monoid.Lor = codes "LOR"
-monoid_name monoid.Land = codes "LAND"
-monoid_name monoid.Lxor = codes "LXOR"
-monoid_name monoid.Lxnor = codes "LXNOR"
-
-abbrev pub binary_kinds : List BinaryKind
-binary_kinds = binary.First ∷ binary.Second ∷ binary.Oneb ∷ binary.Min ∷ binary.Max ∷ binary.Plus ∷ binary.Minus ∷ binary.Times ∷ binary.Eq ∷ binary.Ne ∷ binary.Gt ∷ binary.Lt ∷ binary.Ge ∷ binary.Le ∷ binary.Lor ∷ binary.Land ∷ binary.Lxor ∷ binary.Lxnor ∷ binary.Bor ∷ binary.Band ∷ binary.Bxor ∷ binary.Bxnor ∷ []
-
-abbrev pub monoid_kinds : List MonoidKind
-monoid_kinds = monoid.Plus ∷ monoid.Times ∷ monoid.Min ∷ monoid.Max ∷ monoid.Bor ∷ monoid.Band ∷ monoid.Bxor ∷ monoid.Lor ∷ monoid.Land ∷ monoid.Lxor ∷ monoid.Lxnor ∷ []
-
--- the kind of a name
-unfoldable pub binary_of : List ℕ → Option BinaryKind
-binary_of word = find (λ kind. bytes_eq (binary_name kind) word) binary_kinds
-
-unfoldable pub monoid_of : List ℕ → Option MonoidKind
-monoid_of word = find (λ kind. bytes_eq (monoid_name kind) word) monoid_kinds
 
 -- the word at a place, or an empty one
 abbrev pub nth_word : List (List ℕ) → ℕ → List ℕ
@@ -146,7 +97,7 @@ unfoldable pub ring_of : List ℕ → Option Ring
 ring_of word =
     let parts = slice_split (λ b. b == 46) word in
     if length parts == 3
-    then (monoid_of (nth_word parts 0) >>= λ add. binary_of (nth_word parts 1) >>= λ multiply. domain_of (nth_word parts 2) >>= λ domain. Some (record { add = add; multiply = multiply; domain = domain }))
+    then (monoid_from_name (nth_word parts 0) >>= λ add. binary_from_name (nth_word parts 1) >>= λ multiply. domain_of (nth_word parts 2) >>= λ domain. Some (record { add = add; multiply = multiply; domain = domain }))
     else None
 
 -- ---- commands
