@@ -1,5 +1,5 @@
 -- The numbers of user domains: what digits write, and what `parse` reads of them.
-use Rattle.std.proofs.Common.{◌≡◌, ◌&&◌, ℕ, ◌<◌, ◌≤◌, ◌^◌, true, false, List, [], ◌∷◌, Some, None, Result, Ok, Err, MatchResult, length, get_or, nat_le, nat_lt, ap, refl, inl, inr, arith, rules}
+use Rattle.std.proofs.Common.{◌≡◌, ◌&&◌, ℕ, ◌<◌, ◌≤◌, ◌^◌, true, false, List, Some, None, Result, Ok, Err, MatchResult, length, nat_le, nat_lt, ap, refl, inl, inr, rules}
 use Rattle.std.specs.Char.{is_ascii_digit}
 use Rattle.std.specs.List.{list_all}
 use Rattle.std.specs.Result.{OkIff, result_ok}

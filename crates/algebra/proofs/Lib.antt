@@ -3,6 +3,7 @@ pub mod Digits
 pub mod Folds
 pub mod Monoids
 pub mod NameLaws
+pub mod OfferedTable
 pub mod Residues
 pub mod Sums
 pub mod Words

@@ -1,6 +1,6 @@
 -- Names and what they name: each kind and domain is found under its name, and what is found has it.
-use Rattle.std.proofs.Common.{◌≡◌, ℕ, ◌<◌, ◌≤◌, ◌^◌, ◌+◌, Bool, true, false, cond, List, [], ◌∷◌, ◌++◌, Option, Some, None, length, take, drop, nat_le, nat_lt, refl, ap, inl, inr, arith, rules}
-use Rattle.std.specs.Prelude.{IfSome, codes, decimal, find}
+use Rattle.std.proofs.Common.{◌≡◌, ℕ, ◌<◌, ◌^◌, true, List, [], ◌∷◌, Some, length, nat_le, nat_lt, refl, ap, inl, inr, arith}
+use Rattle.std.specs.Prelude.{IfSome, decimal, find}
 use Rattle.std.specs.Char.{is_ascii_digit}
 use Rattle.std.specs.List.{list_all}
 use Rattle.std.specs.Option.{option_map}

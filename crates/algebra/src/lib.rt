@@ -4,6 +4,8 @@
 
 mod binary;
 mod domain;
+#[cfg(test)]
+mod edge_words;
 mod index;
 mod kinds;
 mod monoid;

@@ -1,3 +1,6 @@
+use crate::edge_words::{
+    BINARY, BY_PLACE, BY_VALUE, CASTS, IDENTITIES, PAIRS, PLACES, UNARY, WORDS,
+};
 use crate::*;
 use std::test::Fail;
 
@@ -34,4 +37,97 @@ fn tests_positions_without_wrap(rt: HostRuntime) -> Result<(), Fail> {
         (Domain::Int64, Domain::Int64)
     );
     Ok(())
+}
+
+#[test]
+fn casts_edge_words(rt: HostRuntime) -> Result<(), Fail> {
+    for (from, to, wanted) in CASTS {
+        let (from, to) = (domain(from)?, domain(to)?);
+        for (word, want) in WORDS.iter().zip(&wanted) {
+            assert_eq!(rt; cast(*word, from, to), *want, "{word} from {from} to {to}");
+        }
+    }
+    Ok(())
+}
+
+#[test]
+fn evaluates_unary_operators_on_edge_words(rt: HostRuntime) -> Result<(), Fail> {
+    for (name, on, wanted) in UNARY {
+        let kind = UnaryKind::from_name(name.as_bytes()).ok_or("a kind")?;
+        let op = UnaryOp::new(kind, domain(on)?).ok_or("offered")?;
+        for (word, want) in WORDS.iter().zip(&wanted) {
+            assert_eq!(rt; op.eval(*word), *want, "{name} {on} {word}");
+        }
+    }
+    Ok(())
+}
+
+#[test]
+fn evaluates_binary_operators_on_edge_words(rt: HostRuntime) -> Result<(), Fail> {
+    for (name, on, wanted) in BINARY {
+        let kind = BinaryKind::from_name(name.as_bytes()).ok_or("a kind")?;
+        let op = BinaryOp::new(kind, domain(on)?).ok_or("offered")?;
+        for ((a, b), want) in PAIRS.iter().zip(&wanted) {
+            assert_eq!(rt; op.eval(*a, *b), *want, "{name} {on} {a} {b}");
+        }
+    }
+    Ok(())
+}
+
+#[test]
+fn evaluates_operators_by_position_on_edge_words(rt: HostRuntime) -> Result<(), Fail> {
+    for (name, wanted) in BY_PLACE {
+        let kind = IndexKind::from_name(name.as_bytes()).ok_or("a kind")?;
+        let op = IndexOp::new(kind, Domain::User(0)).ok_or("offered")?;
+        for ((i, j, s), want) in PLACES.iter().zip(&wanted) {
+            assert_eq!(rt; op.eval(0, *i, *j, *s), *want, "{name} {i} {j} {s}");
+        }
+    }
+    Ok(())
+}
+
+#[test]
+fn evaluates_value_operators_on_edge_words(rt: HostRuntime) -> Result<(), Fail> {
+    for (name, on, wanted) in BY_VALUE {
+        let kind = IndexKind::from_name(name.as_bytes()).ok_or("a kind")?;
+        let op = IndexOp::new(kind, domain(on)?).ok_or("offered")?;
+        for ((a, s), want) in PAIRS.iter().zip(&wanted) {
+            assert_eq!(rt; op.eval(*a, 0, 0, *s), *want, "{name} {on} {a} {s}");
+        }
+    }
+    Ok(())
+}
+
+#[test]
+fn gives_the_identities(rt: HostRuntime) -> Result<(), Fail> {
+    for (name, on, want) in IDENTITIES {
+        let kind = MonoidKind::from_name(name.as_bytes()).ok_or("a kind")?;
+        let monoid = Monoid::new(kind, domain(on)?).ok_or("offered")?;
+        assert_eq!(rt; monoid.identity(), want, "{name} {on}");
+    }
+    Ok(())
+}
+
+#[test]
+fn reads_and_writes_the_names_of_domains(rt: HostRuntime) -> Result<(), Fail> {
+    let alloc = rt.alloc();
+    for name in ["BOOL", "INT64", "UINT64", "USER:0", "USER:4294967295"] {
+        assert_eq!(rt; domain(name)?.to_string(alloc)?.as_str(), name);
+    }
+    assert_eq!(rt; domain("USER:0000000007")?, Domain::User(7));
+    for word in [
+        "bool",
+        "INT32",
+        "USER:",
+        "USER:+1",
+        "USER:4294967296",
+        "USER:00000000007",
+    ] {
+        assert!(rt; Domain::from_name(word.as_bytes()).is_none(), "{word}");
+    }
+    Ok(())
+}
+
+fn domain(name: &str) -> Result<Domain, Fail> {
+    Ok(Domain::from_name(name.as_bytes()).ok_or("a domain")?)
 }
