@@ -2,6 +2,7 @@
 //! of values, each held as one 64-bit word. Everything here is total and takes no memory.
 #![tactic(auto)]
 
+mod arms;
 mod binary;
 mod domain;
 #[cfg(test)]

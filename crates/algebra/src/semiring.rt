@@ -1,4 +1,4 @@
-ghost use Rattle.std.specs.Prelude.{◌≡◌, ◌↔◌, IsTrue, IsSome, IfSome};
+ghost use Rattle.std.specs.Prelude.{◌≡◌, ◌↔◌, IsTrue, IsSome, IfSome, true};
 ghost use Rattle.algebra.specs.Operators.{answer_domain, combines_by, offers_semiring};
 
 use crate::{BinaryKind, BinaryOp, Domain, Monoid, MonoidKind};
@@ -29,5 +29,19 @@ impl Semiring {
             return None;
         };
         Some(Semiring { add, multiply })
+    }
+
+    /// The semiring of kinds that are known to be offered: where they are literals, the compiler sees
+    /// through it.
+    #[inline(always)]
+    pub fn of(add: MonoidKind, multiply: BinaryKind, domain: Domain) -> Semiring
+        requires { offers_semiring add multiply domain ≡ true }
+        ensures add { result.add.op.kind ≡ combines_by add }
+        ensures add_domain { result.add.op.domain ≡ answer_domain multiply domain }
+        ensures add_name { result.add.kind ≡ add }
+        ensures multiply { result.multiply.kind ≡ multiply }
+        ensures multiply_domain { result.multiply.domain ≡ domain }
+    {
+        Semiring::new(add, multiply, domain).unwrap()
     }
 }

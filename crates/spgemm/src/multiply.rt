@@ -1,6 +1,5 @@
-ghost use Rattle.std.specs.Prelude.{◌≡◌, ℕ, ◌<◌, ◌≤◌, true, [], IfOk, MatchOption};
+ghost use Rattle.std.specs.Prelude.{◌≡◌, ℕ, ◌<◌, ◌≤◌, [], IfOk, MatchOption};
 ghost use Rattle.std.specs.List.{All};
-ghost use Rattle.algebra.specs.Operators.{answer_domain, combines_by, offers_semiring};
 ghost use Rattle.model.specs.Object.{InOrder};
 ghost use Rattle.store.specs.Rows.{block_content, HasColumnsBelow};
 ghost use Rattle.store.specs.Stored.{content_of};
@@ -9,7 +8,7 @@ ghost use Rattle.model.specs.declared.names.Ring.{Ring};
 ghost use Rattle.spgemm.specs.Products.{StartsWithRow, IsNamed, IsProductBlock};
 
 use crate::row::{Scratch, multiply_row};
-use algebra::{BinaryKind, Domain, MonoidKind, Semiring};
+use algebra::{Semiring, with_semiring};
 use model::Entry;
 use std::alloc::Global;
 use std::ops::Range;
@@ -34,35 +33,8 @@ pub fn multiply_rows(
     ensures cols { IfOk result (λ block. All (HasColumnsBelow b.now.cols) block.rows.items) }
     ensures words { IfOk result (λ block. (ring : Ring) → IsNamed ring semiring → (i j : ℕ) → range.start ≤ i → i < range.end → block_content block i j ≡ product ring a.now.cols (content_of a.now) (content_of b.now) i j) }
 {
-    // In each arm the kinds are literals, and all that runs below it is inlined, so that its loops are
-    // compiled for its own operators and look none up.
-    match (
-        semiring.add.kind,
-        semiring.multiply.kind,
-        semiring.multiply.domain,
-    ) {
-        (MonoidKind::Plus, BinaryKind::Times, Domain::Int64) => {
-            let plus_times = semiring_of(MonoidKind::Plus, BinaryKind::Times, Domain::Int64);
-            multiply_by(alloc, a, b, plus_times, range)
-        }
-        (MonoidKind::Min, BinaryKind::Plus, Domain::Int64) => {
-            let min_plus = semiring_of(MonoidKind::Min, BinaryKind::Plus, Domain::Int64);
-            multiply_by(alloc, a, b, min_plus, range)
-        }
-        _ => multiply_by(alloc, a, b, semiring, range),
-    }
-}
-
-/// The semiring of these kinds.
-#[inline(always)]
-fn semiring_of(add: MonoidKind, multiply: BinaryKind, domain: Domain) -> Semiring
-    requires { offers_semiring add multiply domain ≡ true }
-    ensures add { result.add.op.kind ≡ combines_by add }
-    ensures add_domain { result.add.op.domain ≡ answer_domain multiply domain }
-    ensures multiply { result.multiply.kind ≡ multiply }
-    ensures multiply_domain { result.multiply.domain ≡ domain }
-{
-    Semiring::new(add, multiply, domain).unwrap()
+    // All that runs below the arms is inlined, so that its loops are compiled for each.
+    with_semiring!(semiring, |own| multiply_by(alloc, a, b, own, range))
 }
 
 /// What `multiply_rows` gives, by one semiring of its arms.
@@ -106,6 +78,7 @@ fn split_row(entries: &[Entry]) -> Option<(u64, &[Entry], &[Entry])>
 #[cfg(test)]
 mod tests {
     use super::*;
+    use algebra::{BinaryKind, Domain, MonoidKind};
 
     #[test]
     fn multiplies_rows_and_keeps_a_sum_of_zero(rt: HostRuntime) -> Result<(), NoMemory> {
