@@ -227,10 +227,3 @@ monoid-identity Land Bool a h p = min-identity Bool a p
 monoid-identity Lxor Bool a h p = each_truth (λ w. eval_of binary.Lxor Bool 0 w ≡ w) refl refl a p
 monoid-identity Lxnor Bool a h p = each_truth (λ w. eval_of binary.Lxnor Bool 1 w ≡ w) refl refl a p
 monoid-identity _ _ a h p = cc
-
--- the identity on the right changes no word
-pub monoid-identity_right : (kind : MonoidKind) (d : Domain) (a : ℕ)
-    → offers (combines_by kind) d ≡ true → IsWordOf d a
-    → eval_of (combines_by kind) d a (identity_of kind d) ≡ a
-monoid-identity_right kind d a h p =
-    monoid-commutes kind d a (identity_of kind d) h p (identity-word kind d h) ∙ monoid-identity kind d a h p

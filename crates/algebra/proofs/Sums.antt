@@ -1,4 +1,5 @@
--- Sums of words by a monoid: neither their order nor the parts in which they are summed matter.
+-- The identity on the right, and sums of words by a monoid: neither the order of the words nor the parts
+-- in which they are summed matter.
 use Rattle.std.proofs.Common.{◌≡◌, ℕ, zero, List, [], ◌∷◌, Some, true, refl, sym, ◌∙◌, ap, arith}
 use Rattle.std.specs.List.{All, concat, filter_map, fold}
 use Rattle.std.specs.List.Sorted.{IsPermutation}
@@ -11,6 +12,13 @@ use Rattle.algebra.specs.Monoids.{identity_of, sum_of}
 use Rattle.algebra.specs.Operators.{eval_of, offers, combines_by}
 use Rattle.algebra.specs.declared.domain.Domain.{Domain}
 use Rattle.algebra.specs.declared.kinds.MonoidKind.{MonoidKind}
+
+-- the identity on the right changes no word
+pub monoid-identity_right : (kind : MonoidKind) (d : Domain) (a : ℕ)
+    → offers (combines_by kind) d ≡ true → IsWordOf d a
+    → eval_of (combines_by kind) d a (identity_of kind d) ≡ a
+monoid-identity_right kind d a h p =
+    monoid-commutes kind d a (identity_of kind d) h p (identity-word kind d h) ∙ monoid-identity kind d a h p
 
 monoid-laws : (kind : MonoidKind) (d : Domain) → offers (combines_by kind) d ≡ true → CombinesWords (IsWordOf d) (eval_of (combines_by kind) d)
 monoid-laws kind d h = record {

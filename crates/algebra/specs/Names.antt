@@ -20,12 +20,16 @@ use Rattle.algebra.specs.Operators.{combines_by}
 
 -- ---- domains
 
+-- what stands before the number of a user domain
+abbrev pub user_prefix : List ℕ
+user_prefix = codes "USER:"
+
 -- the name of a built-in domain, and what stands before the number of a user domain
 abbrev pub domain_word : Domain → List ℕ
 domain_word domains.Bool = codes "BOOL"
 domain_word domains.Int64 = codes "INT64"
 domain_word domains.Uint64 = codes "UINT64"
-domain_word (domains.User k) = codes "USER:"
+domain_word (domains.User k) = user_prefix
 
 abbrev pub domain_name : Domain → List ℕ
 domain_name (domains.User k) = domain_word (domains.User k) ++ decimal k
@@ -47,8 +51,8 @@ user_number digits =
 -- the domain of a name; the number of a user domain may have leading zeros
 unfoldable pub domain_from_name : List ℕ → Option Domain
 domain_from_name word =
-    if bytes_eq (take 5 word) (codes "USER:")
-    then option_map domains.User (user_number (drop 5 word))
+    if bytes_eq (take (length user_prefix) word) user_prefix
+    then option_map domains.User (user_number (drop (length user_prefix) word))
     else built_in_from_name word
 
 -- ---- unary operators

@@ -198,6 +198,9 @@ impl MonoidKind {
     }
 }
 
+/// What stands before the number of a user domain.
+const USER: &str = "USER:";
+
 const BUILT_IN_DOMAINS: [Domain; 3] = [Domain::Bool, Domain::Int64, Domain::Uint64];
 
 impl Domain {
@@ -209,7 +212,7 @@ impl Domain {
             Domain::Bool => "BOOL",
             Domain::Int64 => "INT64",
             Domain::Uint64 => "UINT64",
-            Domain::User(_) => "USER:",
+            Domain::User(_) => USER,
         }
     }
 
@@ -219,7 +222,7 @@ impl Domain {
     pub fn from_name(word: &[u8]) -> Option<Domain>
         ensures { result ≡ domain_from_name word.now }
     {
-        match word.strip_prefix(b"USER:".as_slice()) {
+        match word.strip_prefix(USER.as_bytes()) {
             Some(digits) => user_number(digits).map(Domain::User),
             None => built_in(word),
         }
