@@ -1,10 +1,10 @@
 #!/usr/bin/env python3
-"""Writes the answers of every operator and cast on edge words, as the tables of crates/algebra's tests.
+"""Writes the answers of every operator and cast on edge words, as the tables of crates/agreement's tests.
 
-The answers are computed here from the standard (GraphBLAS C API 2.0, tables 3.5 to 3.7), on Python's
+The answers are computed here from the standard (GraphBLAS C API 2.0), on Python's
 whole numbers, and not by the crate. From the top of the repository:
 
-    python3 tests/algebra/edge_words.py > crates/algebra/src/edge_words.rt
+    python3 tests/algebra/edge_words.py > crates/agreement/src/edge_words.rt
 """
 
 from itertools import product

@@ -1,9 +1,13 @@
 -- Words cast from one domain to another.
-use Rattle.std.proofs.Common.{◌≡◌, ℕ, zero, suc, ◌^◌, ◌<◌, refl, arith}
+use Rattle.std.proofs.Common.{◌≡◌, ℕ, zero, suc, ◌^◌, ◌<◌, true, refl, ap, arith}
+use Rattle.std.proofs.Math.Nat.{mod-eq_of_lt}
 use Rattle.std.proofs.lemmas.Bool.Decides.{nat_tests}
-use Rattle.std.specs.Prelude.{ℤ}
+use Rattle.std.proofs.lemmas.Int.{int_wrap_fits}
+use Rattle.std.specs.Int.{w64, int_wrap}
+use Rattle.std.specs.Int.RustNames.{FitsSigned}
+use Rattle.std.specs.Prelude.{ℤ, pos, negsuc}
 use Rattle.algebra.proofs.Residues.{residue-lt, residue-signed, signed-residue}
-use Rattle.algebra.specs.Value.{value_of, word_of, cast_of, IsWordOf}
+use Rattle.algebra.specs.Value.{cast_of, is_value_of, residue, value_of, word_of, IsWordOf}
 use Rattle.algebra.specs.declared.domain.Domain.{Domain}
 use Rattle.algebra.specs.declared.domain.Domain.TheVariants.{Bool, Int64, Uint64, User}
 
@@ -43,10 +47,30 @@ cast_own Int64 word p = residue-signed word p
 cast_own Uint64 word p = omega arith
 cast_own (User k) word p = omega arith
 
--- a word of INT64 stands for the same value after the cast to INT64
-pub value_of-cast_int64 : (word : ℕ) → value_of Int64 (cast_of Int64 Int64 word) ≡ value_of Int64 word
-value_of-cast_int64 word = signed-residue word
+-- a whole number of 64 bits with a sign fits them
+signed : (z : ℤ) → is_value_of Int64 z ≡ true → FitsSigned w64 z
+signed (pos n) h = grind (arith, nat_tests)
+signed (negsuc n) h = grind (arith, nat_tests)
 
--- a word of 64 bits is the same after the cast from INT64 to INT64
-pub cast_int64 : (word : ℕ) → word < 2 ^ 64 → cast_of Int64 Int64 word ≡ word
-cast_int64 word small = cast_own Int64 word small
+-- a whole number of 64 bits without a sign is its own residue
+unsigned : (z : ℤ) → is_value_of Uint64 z ≡ true → pos (residue z) ≡ z
+unsigned (pos n) h = let small : n < 2 ^ 64 = grind (arith, nat_tests) in ap pos (mod-eq_of_lt small)
+unsigned (negsuc n) h = absurd (cc)
+
+-- the word that holds a value of a domain stands for that value: what is set is what is got
+pub value_of-word_of : (d : Domain) (z : ℤ) → is_value_of d z ≡ true → value_of d (word_of d z) ≡ z
+unfolding int_wrap
+value_of-word_of Bool (pos zero) h = refl
+value_of-word_of Bool (pos (suc zero)) h = refl
+value_of-word_of Bool (pos (suc (suc n))) h = absurd (grind (arith, nat_tests))
+value_of-word_of Bool (negsuc n) h = absurd (cc)
+value_of-word_of Int64 z h = int_wrap_fits w64 z (signed z h)
+value_of-word_of Uint64 z h = unsigned z h
+value_of-word_of (User k) z h = unsigned z h
+
+-- a word of 64 bits stands for the same value after a cast to its own domain
+pub value_of-cast_own : (d : Domain) (word : ℕ) → word < 2 ^ 64 → value_of d (cast_of d d word) ≡ value_of d word
+value_of-cast_own Bool word small = grind (arith, nat_tests)
+value_of-cast_own Int64 word small = signed-residue word
+value_of-cast_own Uint64 word small = ap pos (mod-eq_of_lt small)
+value_of-cast_own (User k) word small = ap pos (mod-eq_of_lt small)

@@ -10,8 +10,8 @@ use Rattle.std.specs.Int.{int_min, int_max}
 use Rattle.std.specs.Int.Bits.{xor_assoc}
 use Rattle.algebra.proofs.Casts.{IsWordOf-lt, IsWordOf-word_of, cast_own, each_pair, each_truth}
 use Rattle.algebra.proofs.Words.{plus-words, times-words, min-words, max-words, or-words, and-words, xor-words}
-use Rattle.algebra.specs.Value.{residue, value_of, word_of, IsWordOf}
-use Rattle.algebra.specs.Monoids.{identity_of, greatest_of, least_of}
+use Rattle.algebra.specs.Value.{greatest_of, least_of, residue, value_of, word_of, IsWordOf}
+use Rattle.algebra.specs.Monoids.{identity_of}
 use Rattle.algebra.specs.Operators.{eval_of, offers, combines_by}
 use Rattle.algebra.specs.declared.domain.Domain.{Domain}
 use Rattle.algebra.specs.declared.domain.Domain.TheVariants.{Bool, Int64, Uint64, User}

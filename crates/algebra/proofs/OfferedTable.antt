@@ -1,5 +1,6 @@
--- What is offered, written out (GraphBLAS C API 2.0, tables 3.5 to 3.8, on the domains of this
--- profile), and compared with the definitions at every kind and domain.
+-- What is offered, written out (the operators `GrB_UnaryOp`, `GrB_BinaryOp` and `GrB_IndexUnaryOp`, the
+-- `GrB_Monoid`s and the `GrB_Semiring`s of GraphBLAS C API 2.0, on the domains of this profile), and
+-- compared with the definitions at every kind and domain.
 use Rattle.std.proofs.Common.{◌≡◌, ℕ, List, [], ◌∷◌, ◌++◌, map, codes, refl}
 use Rattle.std.specs.Prelude.{Bool, filter}
 use Rattle.algebra.specs.IndexOperators.{offers_index, index_answer_domain}

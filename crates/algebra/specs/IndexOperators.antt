@@ -1,5 +1,5 @@
 -- Index operators as formulas on whole numbers, brought into the answer's domain: of a value a, its
--- row i and column j, and a scalar s (GraphBLAS C API 2.0, section 3.5.4, index unary operators).
+-- row i and column j, and a scalar s (`GrB_IndexUnaryOp` of GraphBLAS C API 2.0).
 use Rattle.std.specs.Prelude.{ℕ, ℤ, pos, ◌+ℤ◌, ◌-ℤ◌, not, int_lt, int_le, Bool, true}
 use Rattle.algebra.specs.declared.domain.Domain.{Domain}
 use Rattle.algebra.specs.declared.domain.Domain.TheVariants as domains
@@ -49,7 +49,8 @@ scalar_domain _ d = domains.Int64
 -- scalar's domain
 abbrev pub index_eval_of : IndexKind → Domain → ℕ → ℕ → ℕ → ℕ → ℕ
 index_eval_of kind d a i j s =
-    word_of (index_answer_domain kind) (index_formula kind (value_of d a) (pos i) (pos j) (value_of (scalar_domain kind d) s))
+    word_of (index_answer_domain kind) (index_formula kind (value_of d a) (pos i) (pos j)
+    (value_of (scalar_domain kind d) s))
 
 -- the domains on which an operator is there: one by position doesn't look at the value
 abbrev pub offers_index : IndexKind → Domain → Bool

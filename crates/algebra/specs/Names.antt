@@ -1,5 +1,5 @@
--- The words that name domains and kinds, both ways (GraphBLAS C API 2.0, section 3.4 and tables 3.5 to
--- 3.7, without prefixes and types; ONEB and USER by this profile).
+-- The words that name domains and kinds, both ways: the names of GraphBLAS C API 2.0 without prefixes and
+-- types (`GrB_PLUS_INT64` is PLUS, `GrB_ONEB_T` is ONEB); USER by this profile.
 use Rattle.std.specs.Prelude.{ℕ, ◌^◌, nat_le, nat_lt, ◌&&◌, if◌then◌else◌, List, [], ◌∷◌, ◌++◌, length, take, drop, Option, Some, None, codes, decimal, find}
 use Rattle.std.specs.Char.{is_ascii_digit}
 use Rattle.std.specs.List.{list_all}
@@ -44,7 +44,8 @@ built_in_from_name word = find (λ d. bytes_eq (domain_word d) word) built_in_do
 -- the number that 1 to 10 digits write, at most 4294967295
 abbrev pub user_number : List ℕ → Option ℕ
 user_number digits =
-    if nat_le 1 (length digits) && nat_le (length digits) 10 && list_all is_ascii_digit digits && nat_lt (digits_value 10 digits) (2 ^ 32)
+    if nat_le 1 (length digits) && nat_le (length digits) 10 && list_all is_ascii_digit digits
+    && nat_lt (digits_value 10 digits) (2 ^ 32)
     then Some (digits_value 10 digits)
     else None
 
@@ -97,7 +98,9 @@ binary_name binary.Bxor = codes "BXOR"
 binary_name binary.Bxnor = codes "BXNOR"
 
 abbrev pub binary_kinds : List BinaryKind
-binary_kinds = binary.First ∷ binary.Second ∷ binary.Oneb ∷ binary.Min ∷ binary.Max ∷ binary.Plus ∷ binary.Minus ∷ binary.Times ∷ binary.Eq ∷ binary.Ne ∷ binary.Gt ∷ binary.Lt ∷ binary.Ge ∷ binary.Le ∷ binary.Lor ∷ binary.Land ∷ binary.Lxor ∷ binary.Lxnor ∷ binary.Bor ∷ binary.Band ∷ binary.Bxor ∷ binary.Bxnor ∷ []
+binary_kinds = binary.First ∷ binary.Second ∷ binary.Oneb ∷ binary.Min ∷ binary.Max ∷ binary.Plus ∷ binary.Minus
+    ∷ binary.Times ∷ binary.Eq ∷ binary.Ne ∷ binary.Gt ∷ binary.Lt ∷ binary.Ge ∷ binary.Le ∷ binary.Lor ∷ binary.Land
+    ∷ binary.Lxor ∷ binary.Lxnor ∷ binary.Bor ∷ binary.Band ∷ binary.Bxor ∷ binary.Bxnor ∷ []
 
 unfoldable pub binary_from_name : List ℕ → Option BinaryKind
 binary_from_name word = find (λ kind. bytes_eq (binary_name kind) word) binary_kinds
@@ -124,7 +127,9 @@ index_name index.ValueGt = codes "VALUEGT"
 index_name index.ValueGe = codes "VALUEGE"
 
 abbrev pub index_kinds : List IndexKind
-index_kinds = index.RowIndex ∷ index.ColIndex ∷ index.DiagIndex ∷ index.Tril ∷ index.Triu ∷ index.Diag ∷ index.OffDiag ∷ index.ColLe ∷ index.ColGt ∷ index.RowLe ∷ index.RowGt ∷ index.ValueEq ∷ index.ValueNe ∷ index.ValueLt ∷ index.ValueLe ∷ index.ValueGt ∷ index.ValueGe ∷ []
+index_kinds = index.RowIndex ∷ index.ColIndex ∷ index.DiagIndex ∷ index.Tril ∷ index.Triu ∷ index.Diag ∷ index.OffDiag
+    ∷ index.ColLe ∷ index.ColGt ∷ index.RowLe ∷ index.RowGt ∷ index.ValueEq ∷ index.ValueNe ∷ index.ValueLt
+    ∷ index.ValueLe ∷ index.ValueGt ∷ index.ValueGe ∷ []
 
 unfoldable pub index_from_name : List ℕ → Option IndexKind
 index_from_name word = find (λ kind. bytes_eq (index_name kind) word) index_kinds
@@ -135,7 +140,8 @@ abbrev pub monoid_name : MonoidKind → List ℕ
 monoid_name kind = binary_name (combines_by kind)
 
 abbrev pub monoid_kinds : List MonoidKind
-monoid_kinds = monoid.Plus ∷ monoid.Times ∷ monoid.Min ∷ monoid.Max ∷ monoid.Bor ∷ monoid.Band ∷ monoid.Bxor ∷ monoid.Lor ∷ monoid.Land ∷ monoid.Lxor ∷ monoid.Lxnor ∷ []
+monoid_kinds = monoid.Plus ∷ monoid.Times ∷ monoid.Min ∷ monoid.Max ∷ monoid.Bor ∷ monoid.Band ∷ monoid.Bxor
+    ∷ monoid.Lor ∷ monoid.Land ∷ monoid.Lxor ∷ monoid.Lxnor ∷ []
 
 unfoldable pub monoid_from_name : List ℕ → Option MonoidKind
 monoid_from_name word = find (λ kind. bytes_eq (monoid_name kind) word) monoid_kinds

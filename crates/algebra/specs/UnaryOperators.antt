@@ -1,5 +1,5 @@
--- Unary operators as formulas on whole numbers, brought into their domain
--- (GraphBLAS C API 2.0, section 3.5.4, table 3.5; arithmetic modulo 2 ^ 64 by this profile).
+-- Unary operators as formulas on whole numbers, brought into their domain (`GrB_UnaryOp` of GraphBLAS
+-- C API 2.0; arithmetic modulo 2 ^ 64 by this profile).
 use Rattle.std.specs.Prelude.{ℕ, ℤ, pos, neg_ℤ, unsigned_abs, ◌-◌, ◌^◌, Bool}
 use Rattle.algebra.specs.declared.domain.Domain.{Domain}
 use Rattle.algebra.specs.declared.kinds.UnaryKind.{UnaryKind}

@@ -1,6 +1,6 @@
--- Values as whole numbers, the words that hold them, and casts between domains
--- (GraphBLAS C API 2.0, section 3.4, domains; modulo 2 ^ 64 by this profile).
-use Rattle.std.specs.Prelude.{ℕ, ℤ, pos, unsigned_abs, ◌==◌, ◌^◌, ◌<◌, if◌then◌else◌, Bool, true, false, ◌&&◌}
+-- Values as whole numbers, the words that hold them, and casts between domains (`GrB_Type` of GraphBLAS
+-- C API 2.0; modulo 2 ^ 64 by this profile).
+use Rattle.std.specs.Prelude.{ℕ, ℤ, pos, negsuc, unsigned_abs, int_le, ◌==◌, ◌-◌, ◌^◌, ◌<◌, if◌then◌else◌, Bool, true, false, ◌&&◌}
 use Rattle.std.specs.Int.{cast_signed, w64, int_rem_euclid}
 use Rattle.algebra.specs.declared.domain.Domain.{Domain}
 use Rattle.algebra.specs.declared.domain.Domain.TheVariants.{Bool as Boolean, Int64, Uint64, User}
@@ -24,10 +24,31 @@ word_of Int64 z = residue z
 word_of Uint64 z = residue z
 word_of (User k) z = residue z
 
--- the words that hold the values of a domain: in BOOL 0 and 1, else all of 64 bits
+-- the least value of a domain: in INT64 -(2 ^ 63)
+abbrev pub least_of : Domain → ℤ
+least_of Boolean = pos 0
+least_of Int64 = negsuc (2 ^ 63 - 1)
+least_of Uint64 = pos 0
+least_of (User k) = pos 0
+
+-- the greatest value of a domain: in INT64 2 ^ 63 - 1
+abbrev pub greatest_of : Domain → ℤ
+greatest_of Boolean = pos 1
+greatest_of Int64 = pos (2 ^ 63 - 1)
+greatest_of Uint64 = pos (2 ^ 64 - 1)
+greatest_of (User k) = pos (2 ^ 64 - 1)
+
+-- whether a whole number is a value of a domain
+abbrev pub is_value_of : Domain → ℤ → Bool
+is_value_of d z = int_le (least_of d) z && int_le z (greatest_of d)
+
+-- how many words hold values of a domain: in BOOL 0 and 1, else all of 64 bits
+abbrev pub words_in : Domain → ℕ
+words_in Boolean = 2
+words_in _ = 2 ^ 64
+
 abbrev pub IsWordOf : Domain → ℕ → Type 0
-IsWordOf Boolean word = word < 2
-IsWordOf _ word = word < 2 ^ 64
+IsWordOf d word = word < words_in d
 
 -- a word of one domain as a word of another
 abbrev pub cast_of : Domain → Domain → ℕ → ℕ
@@ -53,3 +74,10 @@ is_built_in _ = true
 abbrev pub are_compatible : Domain → Domain → Bool
 are_compatible (User k) (User m) = k == m
 are_compatible a b = is_built_in a && is_built_in b
+
+abbrev pub same_domain : Domain → Domain → Bool
+same_domain Boolean Boolean = true
+same_domain Int64 Int64 = true
+same_domain Uint64 Uint64 = true
+same_domain (User k) (User m) = k == m
+same_domain _ _ = false

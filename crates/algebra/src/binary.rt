@@ -20,6 +20,21 @@ impl BinaryKind {
             _ => domain.is_integer(),
         }
     }
+
+    /// The domain of the answer on a domain: BOOL for a comparison, else that of the inputs.
+    pub const fn answer(self, domain: Domain) -> Domain
+        ensures { result ≡ answer_domain self domain }
+    {
+        match self {
+            BinaryKind::Eq
+            | BinaryKind::Ne
+            | BinaryKind::Gt
+            | BinaryKind::Lt
+            | BinaryKind::Ge
+            | BinaryKind::Le => Domain::Bool,
+            _ => domain,
+        }
+    }
 }
 
 /// A binary operator on one domain: both its inputs are of it.
@@ -49,15 +64,7 @@ impl BinaryOp {
     pub const fn answer(self) -> Domain
         ensures { result ≡ answer_domain self.kind self.domain }
     {
-        match self.kind {
-            BinaryKind::Eq
-            | BinaryKind::Ne
-            | BinaryKind::Gt
-            | BinaryKind::Lt
-            | BinaryKind::Ge
-            | BinaryKind::Le => Domain::Bool,
-            _ => self.domain,
-        }
+        self.kind.answer(self.domain)
     }
 
     /// What the operator gives for two words of its domain.

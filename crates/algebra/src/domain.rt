@@ -1,9 +1,8 @@
-ghost use Rattle.std.specs.Prelude.{◌≡◌, int_lt};
-ghost use Rattle.algebra.specs.Value.{are_compatible, cast_of, is_boolean, is_built_in, is_integer, value_of, word_of};
-ghost use Rattle.algebra.specs.Monoids.{greatest_of, least_of};
+ghost use Rattle.std.specs.Prelude.{◌≡◌, int_lt, true, false, MatchOption};
+ghost use Rattle.algebra.specs.Value.{are_compatible, cast_of, greatest_of, is_boolean, is_built_in, is_integer, same_domain, is_value_of, least_of, value_of, word_of};
 ghost use Rattle.algebra.specs.Operators.{int_equal};
 
-/// The domain of an object's values (GraphBLAS C API 2.0, section 3.4).
+/// The domain of an object's values (`GrB_Type` of GraphBLAS C API 2.0).
 ///
 /// Each value is held as one 64-bit word: BOOL as 0 or 1, INT64 in two's complement, UINT64 as it is.
 /// Where a word of BOOL is read, every word but 0 counts as 1. A user domain holds any word and has
@@ -36,6 +35,50 @@ impl Domain {
         ensures { result ≡ is_built_in self }
     {
         !matches!(self, Domain::User(_))
+    }
+
+    /// The whole number that a word stands for.
+    pub const fn value_of(self, word: u64) -> i128
+        ensures { result ≡ value_of self word }
+    {
+        match self {
+            Domain::Bool => (word != 0) as i128,
+            Domain::Int64 => word.cast_signed() as i128,
+            Domain::Uint64 | Domain::User(_) => word as i128,
+        }
+    }
+
+    /// The word that holds a whole number; None where the number is no value of the domain.
+    pub const fn word_of(self, value: i128) -> Option<u64>
+        ensures { MatchOption result
+            (is_value_of self value ≡ false)
+            (λ word. (is_value_of self value ≡ true) × (word ≡ word_of self value)) }
+    {
+        match self {
+            Domain::Bool if 0 <= value && value <= 1 => Some(value as u64),
+            Domain::Bool => None,
+            Domain::Int64 if i64::MIN as i128 <= value && value <= i64::MAX as i128 => {
+                Some((value as i64).cast_unsigned())
+            }
+            Domain::Int64 => None,
+            Domain::Uint64 | Domain::User(_) if 0 <= value && value <= u64::MAX as i128 => {
+                Some(value as u64)
+            }
+            Domain::Uint64 | Domain::User(_) => None,
+        }
+    }
+
+    /// Whether both domains are the same.
+    pub const fn is_same(self, other: Domain) -> bool
+        ensures { result ≡ same_domain self other }
+    {
+        match (self, other) {
+            (Domain::Bool, Domain::Bool)
+            | (Domain::Int64, Domain::Int64)
+            | (Domain::Uint64, Domain::Uint64) => true,
+            (Domain::User(number), Domain::User(other)) => number == other,
+            _ => false,
+        }
     }
 
     /// The word of the least value.
@@ -83,8 +126,7 @@ impl Domain {
     }
 }
 
-/// Whether values of one domain can be cast to the other: both are built in, or both are the same
-/// (GraphBLAS C API 2.0, section 3.4).
+/// Whether values of one domain can be cast to the other: both are built in, or both are the same.
 pub const fn compatible(a: Domain, b: Domain) -> bool
     ensures { result ≡ are_compatible a b }
 {

@@ -1,6 +1,6 @@
 ghost use Rattle.std.specs.Prelude.{◌≡◌};
 
-/// The names of the unary operators (GraphBLAS C API 2.0, table 3.5).
+/// The names of the unary operators (`GrB_UnaryOp` of GraphBLAS C API 2.0).
 #[derive(Clone, Copy, Debug, PartialEq, Eq)]
 pub enum UnaryKind {
     Identity,
@@ -10,7 +10,7 @@ pub enum UnaryKind {
     Bnot,
 }
 
-/// The names of the binary operators (GraphBLAS C API 2.0, table 3.5).
+/// The names of the binary operators (`GrB_BinaryOp` of GraphBLAS C API 2.0).
 #[derive(Clone, Copy, Debug, PartialEq, Eq)]
 pub enum BinaryKind {
     First,
@@ -37,8 +37,8 @@ pub enum BinaryKind {
     Bxnor,
 }
 
-/// The names of the index operators (GraphBLAS C API 2.0, table 3.6): those by position, and the
-/// VALUE operators, which compare a value with a scalar.
+/// The names of the index operators (`GrB_IndexUnaryOp` of GraphBLAS C API 2.0): those by position,
+/// and the VALUE operators, which compare a value with a scalar.
 #[derive(Clone, Copy, Debug, PartialEq, Eq)]
 pub enum IndexKind {
     RowIndex,
@@ -60,7 +60,8 @@ pub enum IndexKind {
     ValueGe,
 }
 
-/// The names of the monoids (GraphBLAS C API 2.0, table 3.7; BOR, BAND and BXOR by this profile).
+/// The names of the monoids (`GrB_Monoid` of GraphBLAS C API 2.0; as monoids BOR, BAND and BXOR are
+/// this profile's).
 #[derive(Clone, Copy, Debug, PartialEq, Eq)]
 pub enum MonoidKind {
     Plus,

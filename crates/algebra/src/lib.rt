@@ -1,19 +1,16 @@
-//! Domains, casts, operators, monoids and semirings (GraphBLAS C API 2.0, chapter 3): the arithmetic
-//! of values, each held as one 64-bit word. Everything here is total and takes no memory.
+//! Domains, casts, operators, monoids and semirings (GraphBLAS C API 2.0): the arithmetic of values,
+//! each held as one 64-bit word. Everything here is total and takes no memory.
 #![tactic(auto)]
 
 mod arms;
 mod binary;
 mod domain;
-#[cfg(test)]
-mod edge_words;
 mod index;
 mod kinds;
 mod monoid;
 mod names;
+mod operator_names;
 mod semiring;
-#[cfg(test)]
-mod tests;
 mod unary;
 
 pub use binary::BinaryOp;
@@ -21,5 +18,6 @@ pub use domain::{Domain, cast, compatible};
 pub use index::IndexOp;
 pub use kinds::{BinaryKind, IndexKind, MonoidKind, UnaryKind};
 pub use monoid::Monoid;
+pub use operator_names::{IndexName, MonoidName, OpName, RingName, UnaryName};
 pub use semiring::Semiring;
 pub use unary::UnaryOp;

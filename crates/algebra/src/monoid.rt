@@ -4,7 +4,8 @@ ghost use Rattle.algebra.specs.Operators.{combines_by, offers};
 
 use crate::{BinaryOp, Domain, MonoidKind};
 
-/// A monoid: an operator that is associative and commutative, with an identity.
+/// A monoid: an operator that is associative and commutative on the words of its domain, with an
+/// identity there.
 #[derive(Clone, Copy)]
 pub struct Monoid {
     pub kind: MonoidKind,

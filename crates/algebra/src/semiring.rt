@@ -3,11 +3,13 @@ ghost use Rattle.algebra.specs.Operators.{answer_domain, combines_by, offers_sem
 
 use crate::{BinaryKind, BinaryOp, Domain, Monoid, MonoidKind};
 
-/// A semiring: the products of an operator, summed by a monoid on the operator's answers.
+/// A semiring: the products of an operator, summed by a monoid on the operator's answers
+/// (`GrB_Semiring` of GraphBLAS C API 2.0).
 #[derive(Clone, Copy)]
 pub struct Semiring {
     pub add: Monoid,
     pub multiply: BinaryOp,
+    pub ghost adds_answers: { add.op.domain ≡ answer_domain multiply.kind multiply.domain },
 }
 
 impl Semiring {

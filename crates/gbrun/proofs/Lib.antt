@@ -1,4 +1,4 @@
 mod CommandLines
+mod Endings
 mod Faults
-mod Scripts
 mod Seeds

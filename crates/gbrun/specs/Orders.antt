@@ -11,7 +11,8 @@ use Rattle.gbrun.specs.declared.order.Order.TheVariants.{First, Last, Seed}
 -- the number below 2^64 that 1 to 20 decimal digits write
 abbrev pub seed_of : List ℕ → Option ℕ
 seed_of digits =
-    if list_all is_ascii_digit digits && nat_lt 0 (length digits) && nat_le (length digits) 20 && nat_lt (digits_value 10 digits) (2 ^ 64)
+    if list_all is_ascii_digit digits && nat_lt 0 (length digits) && nat_le (length digits) 20
+    && nat_lt (digits_value 10 digits) (2 ^ 64)
     then Some (digits_value 10 digits)
     else None
 

@@ -1,36 +1,95 @@
--- Which command lines the program carries out, which it refuses, and what output does.
-use Rattle.std.specs.Prelude.{ℕ, ◌≡◌, ◌⊎◌, [], codes, List, Option, None, IfSome, is_some, true}
+-- How the program ends: on which words, and what output and standard error then hold.
+use Rattle.std.specs.Prelude.{ℕ, ◌≡◌, ◌⊎◌, [], codes, List, take, Option, None, IfSome, is_some, true, All, Any, IsUtf8, Result, Ok, Err}
 use Rattle.std.specs.Option.{option_map_or}
-use Rattle.std.specs.Io.KnownBytes.{Appends}
-use Rattle.clap.specs.Kinds.{IsAmong}
+use Rattle.std.specs.Io.KnownBytes.{Appends, Keeps}
 use Rattle.clap.specs.Words.{Text, fault_of}
-use Rattle.clap.specs.declared.error.kind.ErrorKind.TheVariants.{DisplayHelp}
-use Rattle.model.specs.Grammar.{lines_of}
+use Rattle.model.specs.Grammar.{readings_of}
 use Rattle.model.specs.Runs.{Ran}
-use Rattle.gbrun.specs.CommandLine.{IsMistake, command_line, order_in, text_of}
+use Rattle.model.specs.declared.memory.NoMemory.{NoMemory}
+use Rattle.gbrun.specs.CommandLine.{IsMistake, IsRequest, command_line, order_in, text_of}
+use Rattle.gbrun.specs.Faults.{line_of, status_of}
+use Rattle.gbrun.specs.Writing.{Begins, Grows}
+use Rattle.gbrun.specs.declared.fault.Fault.{Fault}
+use Rattle.gbrun.specs.declared.fault.Fault.TheVariants.{CommandLine, BadOrder, UnreadableScript, OutOfMemory, OutOfMemoryUndelivered, UnwritableOutput}
 
--- the words ask for help, or for a run in an order that there is
-abbrev pub IsRight : List Text → Type 0
-IsRight words = IsAmong DisplayHelp (fault_of command_line words)
-    ⊎ ((fault_of command_line words ≡ []) × (is_some (order_in words) ≡ true))
+-- ---- what the words ask for
 
--- the words are no command line, or name no order
-abbrev pub IsWrong : List Text → Type 0
-IsWrong words = IsMistake (fault_of command_line words)
-    ⊎ ((fault_of command_line words ≡ []) × (order_in words ≡ None))
+-- the words are text, and ask for the help or the version
+abbrev pub AsksText : List Text → Type 0
+AsksText words = All IsUtf8 words × IsRequest (fault_of command_line words)
 
--- known bytes stay at the front
-abbrev pub Grows : Option (List ℕ) → Option (List ℕ) → Type 0
-Grows old new = (more : List ℕ) × Appends old new more
+-- they ask for a run, in an order that there is
+abbrev pub AsksRun : List Text → Type 0
+AsksRun words = All IsUtf8 words × (fault_of command_line words ≡ []) × (is_some (order_in words) ≡ true)
+
+-- they ask for a run, in an order that there isn't
+abbrev pub AsksBadOrder : List Text → Type 0
+AsksBadOrder words = All IsUtf8 words × (fault_of command_line words ≡ []) × (order_in words ≡ None)
+
+-- some word isn't text, or they are no command line
+abbrev pub AsksNothing : List Text → Type 0
+AsksNothing words = Any (λ word. ¬ (IsUtf8 word)) words ⊎ (All IsUtf8 words × IsMistake (fault_of command_line words))
+
+-- ---- what a run of a script writes
 
 -- the bytes of the script that the words name, where they are known: of a file, or what the input still has
 abbrev pub script_in : (List ℕ → Option (List ℕ)) → Option (List ℕ) → List Text → Option (List ℕ)
 script_in content input words = option_map_or content (text_of (codes "script") words) input
 
--- output grows by what a run of the script writes
-abbrev pub Runs : Option (List ℕ) → Option (List ℕ) → Option (List ℕ) → Type 0
-Runs script old new = (written : List ℕ) × Appends old new written × IfSome script (λ bytes. Ran (lines_of bytes) [] written)
+-- these are the bytes of the script, as far as those are known
+abbrev pub IsScript : Option (List ℕ) → List ℕ → Type 0
+IsScript script bytes = IfSome script (λ known. bytes ≡ known)
 
--- the words ask for help, and output grows; or it grows by what a run of their script writes
-abbrev pub Serves : Option (List ℕ) → List Text → Option (List ℕ) → Option (List ℕ) → Type 0
-Serves script words old new = (IsAmong DisplayHelp (fault_of command_line words) × Grows old new) ⊎ Runs script old new
+-- a run of the script writes this
+abbrev pub Runs : Option (List ℕ) → List ℕ → Type 0
+Runs script written = (bytes : List ℕ) × IsScript script bytes × Ran (readings_of bytes) [] written
+
+-- a run of its first n lines does, for some n
+abbrev pub RunsFirst : Option (List ℕ) → List ℕ → Type 0
+RunsFirst script written =
+    (bytes : List ℕ) × IsScript script bytes × ((n : ℕ) × Ran (take n (readings_of bytes)) [] written)
+
+-- ---- how the program ends
+
+-- What becomes of the answers that a run made, and what is told. All of them are delivered, also where memory ran out,
+-- or else the fault says that output refused some.
+abbrev pub Finishes : Result (Unit {0}) NoMemory → List ℕ → Option (List ℕ) → Option (List ℕ)
+    → Result (Unit {0}) Fault → Type 0
+Finishes (Ok _) answers old new (Ok _) = Appends old new answers
+Finishes (Ok _) answers old new (Err UnwritableOutput) = Begins answers old new
+Finishes (Err _) answers old new (Err OutOfMemory) = Appends old new answers
+Finishes (Err _) answers old new (Err OutOfMemoryUndelivered) = Begins answers old new
+Finishes _ _ _ _ _ = ⊥
+
+-- how a run of a script ends, and what output then holds
+abbrev pub RunEnds : Option (List ℕ) → Option (List ℕ) → Option (List ℕ) → Result (Unit {0}) Fault → Type 0
+RunEnds script old new (Ok _) = (written : List ℕ) × Runs script written × Appends old new written
+RunEnds script old new (Err UnreadableScript) = Keeps old new
+RunEnds script old new (Err OutOfMemory) = (written : List ℕ) × RunsFirst script written × Appends old new written
+RunEnds script old new (Err OutOfMemoryUndelivered) =
+    (written : List ℕ) × RunsFirst script written × Begins written old new
+RunEnds script old new (Err UnwritableOutput) = (written : List ℕ) × Runs script written × Begins written old new
+RunEnds script old new (Err _) = ⊥
+
+-- how a text to print ends
+abbrev pub TextEnds : Option (List ℕ) → Option (List ℕ) → Result (Unit {0}) Fault → Type 0
+TextEnds old new (Ok _) = Grows old new
+TextEnds old new (Err UnwritableOutput) = Grows old new
+TextEnds old new (Err _) = ⊥
+
+-- How the program ends on words, where the script that they name is this. Words that are wrong, or memory that runs out
+-- before the run, leave output as it was.
+abbrev pub Ends : List Text → Option (List ℕ) → Option (List ℕ) → Option (List ℕ) → Result (Unit {0}) Fault → Type 0
+Ends words script old new (Err (CommandLine _)) = AsksNothing words × Keeps old new
+Ends words script old new (Err BadOrder) = AsksBadOrder words × Keeps old new
+Ends words script old new (Err OutOfMemory) = Keeps old new ⊎ (AsksRun words × RunEnds script old new (Err OutOfMemory))
+Ends words script old new end = (AsksText words × TextEnds old new end) ⊎ (AsksRun words × RunEnds script old new end)
+
+abbrev pub status_after : Result (Unit {0}) Fault → ℕ
+status_after (Ok _) = 0
+status_after (Err fault) = status_of fault
+
+-- standard error gets the fault's line, or a beginning of it where it refuses bytes
+abbrev pub Tells : Result (Unit {0}) Fault → Option (List ℕ) → Option (List ℕ) → Type 0
+Tells (Ok _) old new = Keeps old new
+Tells (Err fault) old new = Begins (line_of fault) old new

@@ -1,8 +1,10 @@
 //! Why the program fails, and what it says of that.
-ghost use Rattle.std.specs.Prelude.{◌≡◌, ◌≢◌, ◌≤◌};
+ghost use Rattle.std.specs.Prelude.{◌≡◌};
 ghost use Rattle.gbrun.specs.Faults.{line_of, status_of};
+ghost use Rattle.gbrun.specs.Writing.{Begins};
 ghost use Rattle.gbrun.specs.declared.fault.Fault.TheVariants.{OutOfMemory};
 
+use crate::delivery::deliver;
 use std::alloc::{AllocError, AllocFailed};
 use std::io::Write;
 use thiserror::Error;
@@ -17,8 +19,11 @@ pub enum Fault {
     BadOrder,
     /// The script could not be read, or memory could not hold it.
     UnreadableScript,
-    /// Memory ran out.
+    /// Memory ran out. Where that was in a run, output has the answers that were whole.
     OutOfMemory,
+    /// Memory ran out in a run, and output refused answers that were whole. Memory is told, since
+    /// it came first.
+    OutOfMemoryUndelivered,
     /// Standard output refused bytes.
     UnwritableOutput,
 }
@@ -30,7 +35,10 @@ impl Fault {
     {
         match self {
             Fault::CommandLine(_) | Fault::BadOrder => 2,
-            Fault::UnreadableScript | Fault::OutOfMemory | Fault::UnwritableOutput => 1,
+            Fault::UnreadableScript
+            | Fault::OutOfMemory
+            | Fault::OutOfMemoryUndelivered
+            | Fault::UnwritableOutput => 1,
         }
     }
 
@@ -42,7 +50,7 @@ impl Fault {
             Fault::CommandLine(text) => text.as_str(),
             Fault::BadOrder => "gbrun: bad order\n",
             Fault::UnreadableScript => "gbrun: cannot read script\n",
-            Fault::OutOfMemory => "gbrun: out of memory\n",
+            Fault::OutOfMemory | Fault::OutOfMemoryUndelivered => "gbrun: out of memory\n",
             Fault::UnwritableOutput => "gbrun: cannot write output\n",
         }
     }
@@ -50,10 +58,10 @@ impl Fault {
     /// Writes the line, and gives the exit status. An error of `err` is dropped, since there is
     /// nowhere left to tell of it.
     pub fn report<E: Write>(&self, err: &mut E) -> u8
-        ensures { result ≡ status_of self.now }
+        ensures status { result ≡ status_of self.now }
+        ensures told { Begins (line_of self.now) (E.contents err.old) (E.contents err.new) }
     {
-        let _ = err.write_all(self.line().as_bytes());
-        let _ = err.flush();
+        let _ = deliver(err, self.line().as_bytes());
         self.status()
     }
 }

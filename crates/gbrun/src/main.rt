@@ -2,6 +2,7 @@
 //! input.
 #![tactic(auto)]
 
+mod delivery;
 mod fault;
 mod files;
 mod options;

@@ -2,8 +2,9 @@
 ghost use Rattle.std.specs.Prelude.{◌≡◌, ◌⊎◌, All, Any, IfErr, IfOk, OnOk, IsUtf8, None};
 ghost use Rattle.std.specs.Prelude.{codes, false, map, option_and_then};
 ghost use Rattle.clap.specs.Words.{FailsBy, app_of, fault_of, first_value, found_of, kind_of};
-ghost use Rattle.clap.specs.Words.{rule_of};
-ghost use Rattle.gbrun.specs.CommandLine.{ComesOf, Chooses, Tells, command_line, text_of};
+ghost use Rattle.clap.specs.Words.{one_text, rule_of};
+ghost use Rattle.gbrun.specs.CommandLine.{ComesOf, Chooses, LeadsTo, command_line, number_text_of};
+ghost use Rattle.gbrun.specs.CommandLine.{text_of};
 ghost use Rattle.gbrun.specs.CommandLine.{order_rule, rows_rule, script_rule, workers_rule};
 ghost use Rattle.gbrun.specs.Faults.{IsCommandLine};
 ghost use Rattle.gbrun.specs.Orders.{order_of};
@@ -17,8 +18,8 @@ use std::alloc::{AllocError, Global};
 /// What the command line asks for.
 #[derive(Drop)]
 pub enum Request<'a> {
-    /// To print this text.
-    Help(String),
+    /// To print this text: the help or the version.
+    Print(String),
     /// To run a script.
     Run(Options<'a>),
 }
@@ -80,6 +81,10 @@ pub fn parse<'a>(alloc: Global, words: &'a [&'a str]) -> Result<Request<'a>, Fau
 
 fn matches<'a>(alloc: Global, words: &'a [&'a str]) -> Result<ArgMatches<'a>, Error>
     ensures fails { FailsBy (fault_of command_line (map (λ word. word.now) words.entry.now)) result }
+    ensures workers { IfOk result (λ matches. one_text (found_of matches) (codes "workers")
+        ≡ number_text_of (codes "workers") (map (λ word. word.now) words.entry.now)) }
+    ensures rows { IfOk result (λ matches. one_text (found_of matches) (codes "rows")
+        ≡ number_text_of (codes "rows") (map (λ word. word.now) words.entry.now)) }
     ensures order { IfOk result (λ matches. first_value (found_of matches) (codes "order")
         ≡ text_of (codes "order") (map (λ word. word.now) words.entry.now)) }
     ensures script { IfOk result (λ matches. first_value (found_of matches) (codes "script")
@@ -92,6 +97,7 @@ fn command<'a>(alloc: Global) -> Result<Command<'a>, AllocError>
     ensures { IfOk result (λ command. app_of command ≡ command_line) }
 {
     Command::new(alloc, "gbrun")
+        .version("0.1.0")
         .about("Runs a script of GraphBLAS calls")
         .no_binary_name(true)
         .arg(workers(alloc))?
@@ -145,7 +151,9 @@ fn script<'a>(alloc: Global) -> Arg<'a>
 }
 
 fn chosen<'a>(matches: &ArgMatches<'a>) -> Result<Options<'a>, Fault>
-    ensures ok { IfOk result (Chooses (first_value (found_of matches.now) (codes "order"))
+    ensures ok { IfOk result (Chooses (one_text (found_of matches.now) (codes "workers"))
+        (one_text (found_of matches.now) (codes "rows"))
+        (first_value (found_of matches.now) (codes "order"))
         (first_value (found_of matches.now) (codes "script"))) }
     ensures err { IfErr result (λ fault. (fault ≡ Fault.BadOrder)
         × (option_and_then order_of (first_value (found_of matches.now) (codes "order")) ≡ None)) }
@@ -159,13 +167,15 @@ fn chosen<'a>(matches: &ArgMatches<'a>) -> Result<Options<'a>, Fault>
     })
 }
 
-// Where clap gives no matches, it asks to print help or tells what is wrong.
+// Where clap gives no matches, it has a text to print or tells what is wrong.
 fn told<'a>(alloc: Global, error: &Error) -> Result<Request<'a>, Fault>
-    ensures { Tells (kind_of error.now) result }
+    ensures { LeadsTo (kind_of error.now) result }
 {
     match error.kind() {
         ErrorKind::OutOfMemory => Err(Fault::OutOfMemory),
-        ErrorKind::DisplayHelp => Ok(Request::Help(error.to_string(alloc)?)),
+        ErrorKind::DisplayHelp | ErrorKind::DisplayVersion => {
+            Ok(Request::Print(error.to_string(alloc)?))
+        }
         _ => Err(Fault::CommandLine(error.to_string(alloc)?)),
     }
 }

@@ -1,21 +1,26 @@
 //! The program, over any input, files and output.
-ghost use Rattle.std.specs.Prelude.{◌≡◌, ◌≤◌, ◌⊎◌, All, Any, IfErr, IfOk, IfSome, IsUtf8};
-ghost use Rattle.std.specs.Prelude.{OnOk, map};
+ghost use Rattle.std.specs.Prelude.{◌≡◌, IfErr, IfOk, OnOk, Result, map};
 ghost use Rattle.std.specs.Option.{option_map_or};
-ghost use Rattle.std.specs.Io.KnownBytes.{Appends, Keeps};
-ghost use Rattle.gbrun.specs.Faults.{status_of};
-ghost use Rattle.gbrun.specs.Outcomes.{IsRight, IsWrong, Runs, Serves, script_in};
+ghost use Rattle.std.specs.Io.KnownBytes.{Appends};
+ghost use Rattle.gbrun.specs.Outcomes.{Ends, Finishes, IsScript, RunEnds, Tells, TextEnds};
+ghost use Rattle.gbrun.specs.Outcomes.{script_in, status_after};
+ghost use Rattle.gbrun.specs.declared.fault.Fault.{Fault};
 
+use crate::delivery::deliver;
 use crate::fault::Fault;
 use crate::files::FileSource;
 use crate::options;
-use crate::options::{Options, Request};
+use crate::options::Request;
+use model::NoMemory;
 use std::alloc::Global;
-use std::io;
 use std::io::{Read, Write};
 
 /// Runs the program on the words after its name, and gives its exit status. What stops it is told
 /// in a line on `err`.
+///
+/// The contract: there is an end, Ok or a fault, that these words, this script and what `out` holds
+/// admit (`Ends`); the status is that end's, and `err` gets its line, or a beginning of it, and
+/// nothing else.
 pub fn execute<R: Read, F: FileSource, W: Write, E: Write>(
     alloc: Global,
     words: &[Vec<u8>],
@@ -24,69 +29,74 @@ pub fn execute<R: Read, F: FileSource, W: Write, E: Write>(
     out: &mut W,
     err: &mut E,
 ) -> u8
-    ensures status { result ≤ 2 }
-
-    // Which words end in 0 and which in 2. Any may end in 1, as memory, files and output may fail.
-    ensures text { result ≡ 0 → All (λ word. IsUtf8 word.items) words.now }
-    ensures right { result ≡ 0 → IsRight (map (λ word. word.items) words.now) }
-    ensures wrong { result ≡ 2 → Any (λ word. ¬ (IsUtf8 word.items)) words.now
-        ⊎ IsWrong (map (λ word. word.items) words.now) }
-
-    // What is written.
-    ensures written { result ≡ 0 → Serves (script_in (F.content files.now) (R.remaining input.old) (map (λ word. word.items) words.now))
-        (map (λ word. word.items) words.now) (W.contents out.old) (W.contents out.new) }
-    ensures quiet { result ≡ 0 → Keeps (E.contents err.old) (E.contents err.new) }
-    ensures untouched { result ≡ 2 → Keeps (W.contents out.old) (W.contents out.new) }
+    ensures { (end : Result (Unit {0}) Fault) × (result ≡ status_after end)
+        × Ends (map (λ word. word.items) words.now)
+        (script_in (F.content files.now) (R.remaining input.old) (map (λ word. word.items) words.now))
+        (W.contents out.old) (W.contents out.new) end
+        × Tells end (E.contents err.old) (E.contents err.new) }
 {
-    match answer(alloc, words, input, files, out) {
+    match serve(alloc, words, input, files, out) {
         Ok(()) => 0,
         Err(fault) => fault.report(err),
     }
 }
 
-fn answer<R: Read, F: FileSource, W: Write>(
+/// Does what the words after the program's name ask for.
+pub fn serve<R: Read, F: FileSource, W: Write>(
     alloc: Global,
     words: &[Vec<u8>],
     input: &mut R,
     files: &F,
     out: &mut W,
 ) -> Result<(), Fault>
-    ensures text { OnOk result (All (λ word. IsUtf8 word.items) words.now) }
-    ensures right { OnOk result (IsRight (map (λ word. word.items) words.now)) }
-    ensures wrong { IfErr result (λ fault. status_of fault ≡ 2
-        → Any (λ word. ¬ (IsUtf8 word.items)) words.now
-        ⊎ IsWrong (map (λ word. word.items) words.now)) }
-    ensures written { OnOk result (Serves (script_in (F.content files.now) (R.remaining input.old) (map (λ word. word.items) words.now))
-        (map (λ word. word.items) words.now) (W.contents out.old) (W.contents out.new)) }
-    ensures untouched { IfErr result (λ fault. status_of fault ≡ 2
-        → Keeps (W.contents out.old) (W.contents out.new)) }
+    ensures { Ends (map (λ word. word.items) words.now)
+        (script_in (F.content files.now) (R.remaining input.old) (map (λ word. word.items) words.now))
+        (W.contents out.old) (W.contents out.new) result }
 {
     let texts = options::texts(alloc, words)?;
     match options::parse(alloc, texts.as_slice())? {
-        Request::Help(text) => deliver(out, text.as_bytes()),
-        Request::Run(options) => run(alloc, &options, input, files, out),
+        Request::Print(text) => print(out, text.as_bytes()),
+        Request::Run(options) => run(alloc, options.script, input, files, out),
     }
 }
 
-// The answers that were whole when memory ran out are delivered too, and that memory ran out is
-// told first.
+fn print<W: Write>(out: &mut W, text: &[u8]) -> Result<(), Fault>
+    ensures ends { TextEnds (W.contents out.old) (W.contents out.new) result }
+    ensures whole { OnOk result (Appends (W.contents out.old) (W.contents out.new) text.now) }
+{
+    deliver(out, text).map_err(|_| Fault::UnwritableOutput)
+}
+
 fn run<R: Read, F: FileSource, W: Write>(
     alloc: Global,
-    options: &Options<'_>,
+    name: Option<&str>,
     input: &mut R,
     files: &F,
     out: &mut W,
 ) -> Result<(), Fault>
-    ensures written { OnOk result (Runs (option_map_or (λ name. F.content files.now name.now) options.now.script (R.remaining input.old))
-        (W.contents out.old) (W.contents out.new)) }
-    ensures err { IfErr result (λ fault. status_of fault ≡ 1) }
+    ensures { RunEnds (option_map_or (λ name. F.content files.now name.now) name.entry (R.remaining input.old))
+        (W.contents out.old) (W.contents out.new) result }
 {
-    let script = read_script(alloc, options.script, input, files)?;
+    let script = read_script(alloc, name, input, files)?;
     let mut answers = Vec::new(alloc);
     let ended = script::run(alloc, script.as_slice(), &mut answers);
-    let delivered = deliver(out, answers.as_slice());
-    ended.map_err(|_| Fault::OutOfMemory)?;
-    delivered
+    finish(out, answers.as_slice(), ended)
+}
+
+// Delivers the answers that a run made. Where memory ran out they are those that were whole.
+pub(crate) fn finish<W: Write>(
+    out: &mut W,
+    answers: &[u8],
+    ended: Result<(), NoMemory>,
+) -> Result<(), Fault>
+    ensures { Finishes ended answers.now (W.contents out.old) (W.contents out.new) result }
+{
+    match (ended, deliver(out, answers)) {
+        (Ok(()), Ok(())) => Ok(()),
+        (Ok(()), Err(_)) => Err(Fault::UnwritableOutput),
+        (Err(_), Ok(())) => Err(Fault::OutOfMemory),
+        (Err(_), Err(_)) => Err(Fault::OutOfMemoryUndelivered),
+    }
 }
 
 fn read_script<R: Read, F: FileSource>(
@@ -95,9 +105,8 @@ fn read_script<R: Read, F: FileSource>(
     input: &mut R,
     files: &F,
 ) -> Result<Vec<u8>, Fault>
-    ensures known { IfOk result (λ script. IfSome
-        (option_map_or (λ name. F.content files.now name.now) name.entry (R.remaining input.old))
-        (λ bytes. script.items ≡ bytes)) }
+    ensures known { IfOk result (λ script. IsScript
+        (option_map_or (λ name. F.content files.now name.now) name.entry (R.remaining input.old)) script.items) }
     ensures err { IfErr result (λ fault. fault ≡ Fault.UnreadableScript) }
 {
     let read = match name {
@@ -108,18 +117,4 @@ fn read_script<R: Read, F: FileSource>(
         }
     };
     read.map_err(|_| Fault::UnreadableScript)
-}
-
-fn deliver<W: Write>(out: &mut W, bytes: &[u8]) -> Result<(), Fault>
-    ensures ok { OnOk result (Appends (W.contents out.old) (W.contents out.new) bytes.now) }
-    ensures err { IfErr result (λ fault. fault ≡ Fault.UnwritableOutput) }
-{
-    write_out(out, bytes).map_err(|_| Fault::UnwritableOutput)
-}
-
-fn write_out<W: Write>(out: &mut W, bytes: &[u8]) -> io::Result<()>
-    ensures { OnOk result (Appends (W.contents out.old) (W.contents out.new) bytes.now) }
-{
-    out.write_all(bytes)?;
-    out.flush()
 }

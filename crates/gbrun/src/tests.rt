@@ -1,7 +1,9 @@
 //! The program over readers, writers and files in memory.
+use crate::fault::Fault;
 use crate::files::FileSource;
-use crate::program::execute;
+use crate::program::{execute, finish};
 use crate::words::of_process;
+use model::NoMemory;
 use std::alloc::{AllocError, Global};
 use std::env::{Env, FillError};
 use std::io;
@@ -13,6 +15,8 @@ const STORED: &str =
 const NO_SCRIPT: &str = "gbrun: cannot read script\n";
 
 const NO_OUTPUT: &str = "gbrun: cannot write output\n";
+
+const NO_MEMORY: &str = "gbrun: out of memory\n";
 
 const BAD_ORDER: &str = "gbrun: bad order\n";
 
@@ -48,11 +52,13 @@ impl Read for Input<'_> {
     }
 }
 
-// Takes at most `most` bytes a write, and fails at one write or at a flush.
+// Takes at most `most` bytes a write, is interrupted once if it is to be, and fails at one write
+// or at a flush.
 #[derive(Drop)]
 struct Output {
     bytes: Vec<u8>,
     most: usize,
+    is_interrupted: bool,
     writes: u32,
     fails_at: Option<u32>,
     flush_fails: bool,
@@ -64,6 +70,7 @@ impl Output {
         Output {
             bytes: Vec::new(alloc),
             most: usize::MAX,
+            is_interrupted: false,
             writes: 0,
             fails_at: None,
             flush_fails: false,
@@ -74,6 +81,10 @@ impl Output {
 
 impl Write for Output {
     fn write(&mut self, buf: &[u8]) -> io::Result<usize> {
+        if self.is_interrupted {
+            self.is_interrupted = false;
+            return Err(io::Error::from(ErrorKind::Interrupted));
+        }
         if self.fails_at == Some(self.writes) {
             return Err(io::Error::from(ErrorKind::BrokenPipe));
         }
@@ -297,6 +308,32 @@ fn prints_help(rt: HostRuntime) -> Result<(), AllocError> {
 }
 
 #[test]
+fn prints_the_version(rt: HostRuntime) -> Result<(), AllocError> {
+    let alloc = rt.alloc();
+    for line in ["--version", "-V", "--rows 2 --version missing"] {
+        let outcome = run(alloc, line, STORED)?;
+        assert!(rt; outcome.is(0, b"gbrun 0.1.0\n", ""), "at {line:?}");
+        assert!(rt; outcome.out.is_flushed, "at {line:?}");
+    }
+    Ok(())
+}
+
+#[test]
+fn delivers_the_answers_that_were_whole_when_memory_ran_out(rt: HostRuntime) {
+    let alloc = rt.alloc();
+    let mut out = Output::new(alloc);
+    let told = finish(&mut out, b"1 OK\n", Err(NoMemory));
+    assert!(rt; matches!(told, Err(Fault::OutOfMemory)));
+    assert!(rt; out.bytes.as_slice() == b"1 OK\n".as_slice() && out.is_flushed);
+    let (mut closed, mut err) = (Output::new(alloc), Output::new(alloc));
+    closed.fails_at = Some(0);
+    let told = finish(&mut closed, b"1 OK\n", Err(NoMemory));
+    assert!(rt; matches!(&told, Err(Fault::OutOfMemoryUndelivered)));
+    let status = told.map_or_else(|fault| fault.report(&mut err), |_| 0);
+    assert!(rt; status == 1 && err.bytes.as_slice() == NO_MEMORY.as_bytes());
+}
+
+#[test]
 fn tells_an_unreadable_script(rt: HostRuntime) -> Result<(), AllocError> {
     let alloc = rt.alloc();
     for step in [0, 1, 5, 20] {
@@ -335,8 +372,13 @@ fn tells_an_output_that_fails(rt: HostRuntime) -> Result<(), AllocError> {
     unflushed.flush_fails = true;
     let outcome = run_into(alloc, "", Input::new(STORED), unflushed, Output::new(alloc))?;
     assert!(rt; outcome.is(1, stored.as_slice(), NO_OUTPUT));
+    let mut full = Output::new(alloc);
+    full.most = 0;
+    let outcome = run_into(alloc, "stored", Input::new(""), full, Output::new(alloc))?;
+    assert!(rt; outcome.is(1, b"", NO_OUTPUT));
     let (mut slow, mut slow_err) = (Output::new(alloc), Output::new(alloc));
     slow.most = 1;
+    slow.is_interrupted = true;
     slow_err.most = 1;
     let outcome = run_into(alloc, "stored", Input::new(""), slow, slow_err)?;
     assert!(rt; outcome.is(0, stored.as_slice(), ""));

@@ -1,3 +1,4 @@
+//! Why a line can't be read.
 ghost use Rattle.std.specs.Prelude.{◌≡◌};
 
 use std::alloc::AllocError;

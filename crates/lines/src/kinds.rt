@@ -1,45 +1,119 @@
-ghost use Rattle.std.specs.Prelude.{◌≡◌, ◌==◌, ◌∷◌, [], MatchOption};
+//! Words with parts: the names of operators and semirings, and flags.
+ghost use Rattle.std.specs.Prelude.{◌≡◌, ◌==◌, ◌∷◌, [], ◌<◌, length, IfSome, MatchOption};
 ghost use Rattle.std.specs.List.{position, slice_split};
-ghost use Rattle.model.specs.Grammar.{ring_of};
+ghost use Rattle.model.specs.Grammar.{desc_of, flag_added, flags_added, op_name_of, ring_name_of};
 
 use crate::words;
-use algebra::{BinaryKind, MonoidKind};
-use model::Ring;
+use algebra::{BinaryKind, MonoidKind, OpName, RingName};
+use model::Desc;
 
-/// Where the first point of a word is.
-fn point_in(word: &[u8]) -> Option<usize>
-    ensures { result ≡ position (λ b. b == 46) word.now }
+/// Where a byte first is in a word.
+fn first_in(byte: u8, word: &[u8]) -> Option<usize>
+    ensures { result ≡ position (λ b. b == byte) word.now }
 {
-    word.iter().position(|byte| *byte == b'.')
+    word.iter().position(|b| *b == byte)
 }
 
-/// What stands before the first point of a word, and what stands after it.
-fn cut(word: &[u8]) -> Option<(&[u8], &[u8])>
-    ensures { MatchOption result (slice_split (λ b. b == 46) word.now ≡ word.now ∷ [])
-        (λ parts. slice_split (λ b. b == 46) word.now ≡ parts.0.now ∷ slice_split (λ b. b == 46) parts.1.now) }
+/// What stands before the first of a byte in a word, and what stands after it.
+fn cut(byte: u8, word: &[u8]) -> Option<(&[u8], &[u8])>
+    ensures parts { MatchOption result (slice_split (λ b. b == byte) word.now ≡ word.now ∷ [])
+        (λ parts. slice_split (λ b. b == byte) word.now ≡ parts.0.now ∷ slice_split (λ b. b == byte) parts.1.now) }
+    ensures shorter { IfSome result (λ parts. length parts.1.now < length word.now) }
 {
-    match point_in(word) {
+    match first_in(byte, word) {
         Some(at) => Some((&word[..at], &word[at + 1..])),
         None => None,
     }
 }
 
 /// A word that names a semiring: a monoid, an operator and a domain, with points between them.
-#[tactic(auto, unfolding(model::specs::Grammar::ring_of))]
-pub fn ring(word: &[u8]) -> Option<Ring>
-    ensures { result ≡ ring_of word.now }
+#[tactic(auto, unfolding(model::specs::Grammar::ring_name_of))]
+pub fn ring_name(word: &[u8]) -> Option<RingName>
+    ensures { result ≡ ring_name_of word.now }
 {
-    let (add, rest) = cut(word)?;
-    let (multiply, domain) = cut(rest)?;
-    if let Some(_) = cut(domain) {
+    let (add, rest) = cut(b'.', word)?;
+    let (multiply, domain) = cut(b'.', rest)?;
+    if let Some(_) = cut(b'.', domain) {
         return None;
     }
     let add = MonoidKind::from_name(add)?;
     let multiply = BinaryKind::from_name(multiply)?;
     let domain = words::domain(domain)?;
-    Some(Ring {
+    Some(RingName {
         add,
         multiply,
         domain,
     })
+}
+
+/// A word that names an operator: a kind and a domain, with a point between them.
+#[tactic(auto, unfolding(model::specs::Grammar::op_name_of))]
+pub fn op_name(word: &[u8]) -> Option<OpName>
+    ensures { result ≡ op_name_of word.now }
+{
+    let (kind, domain) = cut(b'.', word)?;
+    if let Some(_) = cut(b'.', domain) {
+        return None;
+    }
+    let kind = BinaryKind::from_name(kind)?;
+    let domain = words::domain(domain)?;
+    Some(OpName { kind, domain })
+}
+
+/// A descriptor with one flag more, which it didn't have.
+#[tactic(auto, unfolding(model::specs::Grammar::flag_added))]
+fn flag_added(desc: Desc, word: &[u8]) -> Option<Desc>
+    ensures { result ≡ flag_added desc word.now }
+{
+    match word {
+        b"R" if !desc.replace => Some(Desc {
+            replace: true,
+            ..desc
+        }),
+        b"S" if !desc.structure => Some(Desc {
+            structure: true,
+            ..desc
+        }),
+        b"C" if !desc.complement => Some(Desc {
+            complement: true,
+            ..desc
+        }),
+        b"T0" if !desc.turn_first => Some(Desc {
+            turn_first: true,
+            ..desc
+        }),
+        b"T1" if !desc.turn_second => Some(Desc {
+            turn_second: true,
+            ..desc
+        }),
+        _ => None,
+    }
+}
+
+/// A descriptor with the flags that commas part. As no flag comes twice, there are few steps.
+fn flags_added(desc: Desc, word: &[u8]) -> Option<Desc>
+    ensures { result ≡ flags_added desc (slice_split (λ b. b == 44) word.now) }
+{
+    match cut(b',', word) {
+        Some((flag, others)) => flags_added(flag_added(desc, flag)?, others),
+        None => flag_added(desc, word),
+    }
+}
+
+/// A word of flags.
+#[tactic(auto, unfolding(model::specs::Grammar::desc_of))]
+pub fn desc(word: &[u8]) -> Option<Desc>
+    ensures { result ≡ desc_of word.now }
+{
+    let none = Desc {
+        replace: false,
+        structure: false,
+        complement: false,
+        turn_first: false,
+        turn_second: false,
+    };
+    if word == b"-".as_slice() {
+        return Some(none);
+    }
+    flags_added(none, word)
 }

@@ -4,9 +4,8 @@
 mod fault;
 mod kinds;
 mod line;
+mod operations;
 mod parse;
-#[cfg(test)]
-mod tests;
 mod words;
 
 pub use fault::LineFault;

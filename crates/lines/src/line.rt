@@ -1,9 +1,12 @@
-use model::Command;
+//! What a line of a script is.
+
+use model::Call;
 
 /// What a line of a script is.
-#[derive(Clone, Copy, Debug)]
+#[derive(Clone, Copy)]
 pub enum Line<'a> {
     /// Blank or a comment: it has no answer.
     Silent,
-    Call(Command<'a>),
+    /// A call, whose names borrow from the line.
+    Call(Call<&'a str, &'a str>),
 }

@@ -1,16 +1,15 @@
+//! Lines, and the calls but for operations.
 ghost use Rattle.std.specs.Prelude.{◌≡◌, ◌==◌, ◌||◌, ◌+◌, ◌<◌, ◌≤◌, map, length, OnSome, find, not};
 ghost use Rattle.std.specs.List.{list_all};
 ghost use Rattle.std.specs.Option.{option_map, option_map_or};
 ghost use Rattle.lines.specs.Meaning.{Reads};
-ghost use Rattle.model.specs.Call.{call_of};
-ghost use Rattle.model.specs.Grammar.{command_of, get_of, is_blank, is_none_word, is_plain, is_silent, is_well_formed, matrix_of, mxm_of, nvals_of, place_of, print_of, reading_of, set_of, words_of};
+ghost use Rattle.model.specs.Grammar.{call_of, get_of, is_blank, is_plain, is_silent, is_well_formed, matrix_of, nvals_of, place_of, print_of, reading_of, set_of, words_of};
+ghost use Rattle.model.specs.Renamed.{renamed};
 
-use crate::{Line, LineFault, kinds, words};
-use model::{Command, Place};
+use crate::operations::operate;
+use crate::{Line, LineFault, words};
+use model::{Call, LONGEST_LINE, Place, Shape};
 use std::alloc::Global;
-
-/// The greatest length of a command's line, in bytes, without its line end.
-const LONGEST_LINE: usize = 65_536;
 
 /// Reads one line of a script, without its line end.
 ///
@@ -28,8 +27,8 @@ pub fn parse_line(alloc: Global, line: &[u8]) -> Result<Line<'_>, LineFault>
         return Err(LineFault::Syntax);
     }
     let words = words::words_of(alloc, line)?;
-    match command(words.as_slice()) {
-        Some(command) => Ok(Line::Call(command)),
+    match call(words.as_slice()) {
+        Some(call) => Ok(Line::Call(call)),
         None => Err(LineFault::Syntax),
     }
 }
@@ -66,11 +65,15 @@ fn are_plain(line: &[u8]) -> bool
 }
 
 /// What the words of a line call.
-#[tactic(auto, unfolding(model::specs::Grammar::command_of))]
-fn command<'a>(words: &[&'a [u8]]) -> Option<Command<'a>>
-    ensures { option_map call_of result ≡ command_of (map (λ word. word.now) words.now) }
+#[tactic(auto, unfolding(model::specs::Grammar::call_of))]
+fn call<'a>(words: &[&'a [u8]]) -> Option<Call<&'a str, &'a str>>
+    ensures { option_map (renamed (λ name. name.now) (λ name. name.now)) result
+        ≡ call_of (map (λ word. word.now) words.now) }
 {
-    let called = *words.first()?;
+    if words.is_empty() {
+        return None;
+    }
+    let called = words[0];
     if called == b"matrix".as_slice() {
         matrix(words)
     } else if called == b"set".as_slice() {
@@ -81,17 +84,16 @@ fn command<'a>(words: &[&'a [u8]]) -> Option<Command<'a>>
         nvals(words)
     } else if called == b"print".as_slice() {
         print(words)
-    } else if called == b"mxm".as_slice() {
-        mxm(words)
     } else {
-        None
+        operate(words)
     }
 }
 
 /// `matrix NAME DOMAIN NUM NUM`
 #[tactic(auto, unfolding(model::specs::Grammar::matrix_of))]
-fn matrix<'a>(words: &[&'a [u8]]) -> Option<Command<'a>>
-    ensures { option_map call_of result ≡ matrix_of (map (λ word. word.now) words.now) }
+fn matrix<'a>(words: &[&'a [u8]]) -> Option<Call<&'a str, &'a str>>
+    ensures { option_map (renamed (λ name. name.now) (λ name. name.now)) result
+        ≡ matrix_of (map (λ word. word.now) words.now) }
 {
     if words.len() != 5 {
         return None;
@@ -100,11 +102,10 @@ fn matrix<'a>(words: &[&'a [u8]]) -> Option<Command<'a>>
     let domain = words::domain(words[2])?;
     let rows = words::number(words[3])?;
     let cols = words::number(words[4])?;
-    Some(Command::Matrix {
+    Some(Call::Create {
         name,
         domain,
-        rows,
-        cols,
+        shape: Shape::Two(rows, cols),
     })
 }
 
@@ -128,72 +129,53 @@ fn place(words: &[&[u8]], rest: usize) -> Option<Place>
 
 /// `set NAME NUM VALUE` or `set NAME NUM NUM VALUE`
 #[tactic(auto, unfolding(model::specs::Grammar::set_of))]
-fn set<'a>(words: &[&'a [u8]]) -> Option<Command<'a>>
-    ensures { option_map call_of result ≡ set_of (map (λ word. word.now) words.now) }
+fn set<'a>(words: &[&'a [u8]]) -> Option<Call<&'a str, &'a str>>
+    ensures { option_map (renamed (λ name. name.now) (λ name. name.now)) result
+        ≡ set_of (map (λ word. word.now) words.now) }
 {
     let place = place(words, 1)?;
-    let name = words::name(words[1])?;
+    let object = words::name(words[1])?;
     let value = words::value(words[words.len() - 1])?;
-    Some(Command::Set { name, place, value })
+    Some(Call::Set {
+        object,
+        place,
+        value,
+    })
 }
 
 /// `get NAME NUM` or `get NAME NUM NUM`
 #[tactic(auto, unfolding(model::specs::Grammar::get_of))]
-fn get<'a>(words: &[&'a [u8]]) -> Option<Command<'a>>
-    ensures { option_map call_of result ≡ get_of (map (λ word. word.now) words.now) }
+fn get<'a>(words: &[&'a [u8]]) -> Option<Call<&'a str, &'a str>>
+    ensures { option_map (renamed (λ name. name.now) (λ name. name.now)) result
+        ≡ get_of (map (λ word. word.now) words.now) }
 {
     let place = place(words, 0)?;
-    let name = words::name(words[1])?;
-    Some(Command::Get { name, place })
+    let object = words::name(words[1])?;
+    Some(Call::Get { object, place })
 }
 
 /// `nvals NAME`
 #[tactic(auto, unfolding(model::specs::Grammar::nvals_of))]
-fn nvals<'a>(words: &[&'a [u8]]) -> Option<Command<'a>>
-    ensures { option_map call_of result ≡ nvals_of (map (λ word. word.now) words.now) }
+fn nvals<'a>(words: &[&'a [u8]]) -> Option<Call<&'a str, &'a str>>
+    ensures { option_map (renamed (λ name. name.now) (λ name. name.now)) result
+        ≡ nvals_of (map (λ word. word.now) words.now) }
 {
     if words.len() != 2 {
         return None;
     }
-    let name = words::name(words[1])?;
-    Some(Command::Nvals { name })
+    let object = words::name(words[1])?;
+    Some(Call::Nvals { object })
 }
 
 /// `print NAME`
 #[tactic(auto, unfolding(model::specs::Grammar::print_of))]
-fn print<'a>(words: &[&'a [u8]]) -> Option<Command<'a>>
-    ensures { option_map call_of result ≡ print_of (map (λ word. word.now) words.now) }
+fn print<'a>(words: &[&'a [u8]]) -> Option<Call<&'a str, &'a str>>
+    ensures { option_map (renamed (λ name. name.now) (λ name. name.now)) result
+        ≡ print_of (map (λ word. word.now) words.now) }
 {
     if words.len() != 2 {
         return None;
     }
-    let name = words::name(words[1])?;
-    Some(Command::Print { name })
-}
-
-/// `mxm C MASK ACCUM RING A B DESC`, so far without a mask, an accumulator and flags
-#[tactic(auto, unfolding(model::specs::Grammar::mxm_of))]
-fn mxm<'a>(words: &[&'a [u8]]) -> Option<Command<'a>>
-    ensures { option_map call_of result ≡ mxm_of (map (λ word. word.now) words.now) }
-{
-    if words.len() != 8 || !is_none(words[2]) || !is_none(words[3]) || !is_none(words[7]) {
-        return None;
-    }
-    let output = words::name(words[1])?;
-    let ring = kinds::ring(words[4])?;
-    let first = words::name(words[5])?;
-    let second = words::name(words[6])?;
-    Some(Command::Mxm {
-        output,
-        ring,
-        first,
-        second,
-    })
-}
-
-/// Whether a word stands for no mask, no accumulator or no flags.
-fn is_none(word: &[u8]) -> bool
-    ensures { result ≡ is_none_word word.now }
-{
-    word == b"-".as_slice()
+    let object = words::name(words[1])?;
+    Some(Call::Print { object })
 }

@@ -1,9 +1,11 @@
+//! The words of a line, and what each says alone.
 ghost use Rattle.std.specs.Prelude.{◌≡◌, ◌+◌, ◌-◌, ◌*◌, ◌<◌, ◌≤◌, ◌^◌, ◌==◌, ◌||◌, IfOk, map, length, filter, not, IsTrue, if◌then◌else◌, ◌&&◌, nat_le, neg_ℤ, pos};
 ghost use Rattle.std.specs.List.{list_all};
 ghost use Rattle.std.specs.Option.{option_map};
 ghost use Rattle.model.specs.Grammar.{digits_value, domain_of, is_blank, is_digit, is_letter, is_name, is_number, name_of, number_of, value_of_word, words_of};
 
 use algebra::Domain;
+use model::{LONGEST_NAME, domain_has_come};
 use std::alloc::{AllocError, Global};
 
 /// Whether a byte parts words.
@@ -22,7 +24,7 @@ pub fn words_of(alloc: Global, line: &[u8]) -> Result<Vec<&[u8]>, AllocError>
         .collect(alloc)
 }
 
-/// A word that is a name: an ASCII letter, and at most 31 letters, digits and underscores.
+/// A word that is a name: an ASCII letter, and then letters, digits and underscores.
 #[tactic(auto, unfolding(model::specs::Grammar::name_of))]
 pub fn name(word: &[u8]) -> Option<&str>
     ensures { option_map (λ name. name.now) result ≡ name_of word.now }
@@ -36,7 +38,10 @@ pub fn name(word: &[u8]) -> Option<&str>
 fn is_name(word: &[u8]) -> bool
     ensures { result ≡ is_name word.now }
 {
-    !word.is_empty() && word[0].is_ascii_alphabetic() && are_name_bytes(word) && word.len() <= 32
+    !word.is_empty()
+        && word[0].is_ascii_alphabetic()
+        && are_name_bytes(word)
+        && word.len() <= LONGEST_NAME
 }
 
 fn are_name_bytes(word: &[u8]) -> bool
@@ -107,7 +112,8 @@ pub fn value(word: &[u8]) -> Option<i128>
 
 /// The value of the digits behind a `-`.
 fn negative(word: &[u8]) -> Option<i128>
-    ensures { result ≡ (if is_number word.now && nat_le (digits_value word.now) (2 ^ 63) then Some (neg_ℤ (pos (digits_value word.now))) else None) }
+    ensures { result ≡ (if is_number word.now && nat_le (digits_value word.now) (2 ^ 63)
+        then Some (neg_ℤ (pos (digits_value word.now))) else None) }
 {
     match digits(word) {
         Some(magnitude) if magnitude <= 1 << 63 => Some(-(magnitude as i128)),
@@ -115,13 +121,14 @@ fn negative(word: &[u8]) -> Option<i128>
     }
 }
 
-/// A word that names a domain. INT64 is the only one that scripts have so far.
+/// A word that names a domain, where scripts can name it so far.
 #[tactic(auto, unfolding(model::specs::Grammar::domain_of))]
 pub fn domain(word: &[u8]) -> Option<Domain>
     ensures { result ≡ domain_of word.now }
 {
-    match Domain::from_name(word) {
-        Some(Domain::Int64) => Some(Domain::Int64),
-        _ => None,
+    let domain = Domain::from_name(word)?;
+    if !domain_has_come(domain) {
+        return None;
     }
+    Some(domain)
 }

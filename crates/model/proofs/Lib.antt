@@ -1,7 +1,8 @@
-pub mod CastLaws
 pub mod EnvironmentLaws
-pub mod GrammarLaws
-pub mod GridLaws
+pub mod ObjectLaws
 pub mod ProductLaws
+pub mod ResultLaws
 pub mod Rows
 pub mod RunLaws
+pub mod StepLaws
+pub mod WriteBackLaws

@@ -1,37 +1,14 @@
--- Products, one term after the other, and what they have outside the shape.
-use Rattle.std.proofs.Common.{◌≡◌, ℕ, ◌+◌, Bool, true, false, cond, ◌&&◌, List, [], ◌∷◌, ◌++◌, Option, Some, None, refl, sym, ◌∙◌, ap, inl, inr}
-use Rattle.std.specs.Prelude.{nat_lt}
+-- Products, one term after the other, what they have outside the shape, and their words.
+use Rattle.std.proofs.Common.{◌≡◌, ℕ, ◌∷◌, true, List, [], Option, Some, None, refl, ap}
 use Rattle.std.specs.List.{cons_option, filter_map}
-use Rattle.std.specs.Option.{option_and_then, option_map}
-use Rattle.std.proofs.lemmas.List.{append-nil}
-use Rattle.std.proofs.lemmas.List.Sums.{fold-append}
-use Rattle.model.specs.declared.names.Ring.{Ring}
-use Rattle.model.specs.declared.evaluator_object.PlainObject.{PlainObject}
-use Rattle.model.specs.Evaluated.{added, content_in, object_of, product_in}
-use Rattle.model.specs.Object.{Content, below, count_from, entries_of, word_at}
-use Rattle.algebra.specs.declared.domain.Domain.{Domain}
-use Rattle.algebra.specs.declared.kinds.BinaryKind.{BinaryKind}
-use Rattle.std.proofs.lemmas.Bool.{cases_Bool}
-use Rattle.algebra.specs.Value.{cast_of}
-use Rattle.algebra.specs.Operators.{combines_by, eval_of}
-use Rattle.model.specs.Product.{add_of, sum_domain, product, product_of, sum_of, terms}
-use Rattle.model.proofs.GridLaws.{filter_map-below-more, listed-whole}
-use Rattle.model.proofs.EnvironmentLaws.{objects_equal}
-
-sum-more : (ring : Ring) (ts : List ℕ) (t : Option ℕ) → sum_of ring (ts ++ cons_option t []) ≡ added (add_of ring) (sum_of ring ts) t
-sum-more ring ts None = ap (sum_of ring) (append-nil ts)
-sum-more ring [] (Some t) = refl
-sum-more ring (u ∷ us) (Some t) = ap Some (fold-append (add_of ring) u us (t ∷ []))
-
-pub product-start : (ring : Ring) (a b : Content) (i j : ℕ) → None ≡ product ring 0 a b i j
-unfolding product count_from
-product-start ring a b i j = refl
-
--- one column of the first and one row of the second more
-pub product-more : (ring : Ring) (n : ℕ) (a b : Content) (i j : ℕ) → product ring (n + 1) a b i j ≡ added (add_of ring) (product ring n a b i j) (product_of ring (a i n) (b n j))
-unfolding product
-product-more ring n a b i j =
-    ap (sum_of ring) (filter_map-below-more (λ k. product_of ring (a i k) (b k j)) n) ∙ sum-more ring (terms ring n a b i j) (product_of ring (a i n) (b n j))
+use Rattle.algebra.proofs.Sums.{sum-word}
+use Rattle.algebra.proofs.Words.{IsWordOf-eval}
+use Rattle.algebra.specs.declared.operator_names.RingName.{RingName}
+use Rattle.algebra.specs.Operators.{combines_by, offers}
+use Rattle.algebra.specs.Value.{IsWordOf}
+use Rattle.model.specs.Entries.{below}
+use Rattle.model.specs.Object.{AreWordsOf, Content}
+use Rattle.model.specs.Product.{multiply_of, product, product_of, sum_domain, sum_of, terms}
 
 -- ---- where there is no term
 
@@ -39,44 +16,48 @@ filter_map-none : {Y : Type 0} (h : ℕ → Option Y) (ks : List ℕ) → ((k : 
 filter_map-none h [] none = refl
 filter_map-none h (k ∷ ks) none = rw (none k) (filter_map-none h ks none)
 
-pub product-none : (ring : Ring) (n : ℕ) (a b : Content) (i j : ℕ) → ((k : ℕ) → product_of ring (a i k) (b k j) ≡ None) → product ring n a b i j ≡ None
+pub product-none : (ring : RingName) (n : ℕ) (a b : Content) (i j : ℕ) → ((k : ℕ) → product_of ring (a i k) (b k j) ≡ None) → product ring n a b i j ≡ None
 unfolding product
 product-none ring n a b i j none = ap (sum_of ring) (filter_map-none (λ k. product_of ring (a i k) (b k j)) (below n) none)
 
-pub times-none : (ring : Ring) (a : Option ℕ) → product_of ring a None ≡ None
+pub times-none : (ring : RingName) (a : Option ℕ) → product_of ring a None ≡ None
 times-none ring None = refl
 times-none ring (Some x) = refl
 
--- a turn of the loop over the terms
-pub term-added : (ring : Ring) (add multiply : BinaryKind) (sums inputs : Domain) (n : ℕ) (a b : Content) (i j : ℕ) (x y term sum new : Option ℕ)
-    → add ≡ combines_by ring.add → sums ≡ sum_domain ring → multiply ≡ ring.multiply → inputs ≡ ring.domain
-    → x ≡ a i n → y ≡ b n j → term ≡ option_and_then (λ u. option_map (eval_of multiply inputs u) y) x
-    → sum ≡ product ring n a b i j → new ≡ added (eval_of add sums) sum term
-    → new ≡ product ring (n + 1) a b i j
-term-added ring add multiply sums inputs n a b i j x y term sum new e1 e2 e3 e4 e5 e6 e7 e8 e9 =
-    e9 ∙ rw (e7, e1, e2, e3, e4, e5, e6, e8) (sym (product-more ring n a b i j))
+-- nothing in the row of the first
+pub product-no_row : (ring : RingName) (n : ℕ) (a b : Content) (i j : ℕ) → ((k : ℕ) → a i k ≡ None) → product ring n a b i j ≡ None
+product-no_row ring n a b i j none = product-none ring n a b i j (λ k. rw (none k) refl)
 
-no_row : (from to : Domain) (test : Bool) (o : Option ℕ) (ring : Ring) (b : Option ℕ) → product_of ring (option_map (cast_of from to) (cond (false && test) o None)) b ≡ None
-no_row from to test o ring b = refl
+-- nothing in the column of the second
+pub product-no_col : (ring : RingName) (n : ℕ) (a b : Content) (i j : ℕ) → ((k : ℕ) → b k j ≡ None) → product ring n a b i j ≡ None
+product-no_col ring n a b i j none = product-none ring n a b i j (λ k. rw (none k) (times-none ring (a i k)))
 
-no_col : (from to : Domain) (test : Bool) (o : Option ℕ) (ring : Ring) (a : Option ℕ) → product_of ring a (option_map (cast_of from to) (cond (test && false) o None)) ≡ None
-no_col from to true o ring a = times-none ring a
-no_col from to false o ring a = times-none ring a
+-- ---- the sums are words
 
--- a product has nothing outside the rows of the first and the columns of the second
-pub outside_product : (domain : Domain) (ring : Ring) (a b : PlainObject) (i j : ℕ) → (nat_lt i a.rows && nat_lt j b.cols) ≡ false → product_in domain ring a b i j ≡ None
-outside_product domain ring a b i j outside =
-    ap (option_map (cast_of (sum_domain ring) domain)) (product-none ring a.cols (content_in ring.domain a) (content_in ring.domain b) i j (λ k.
-    elim (cases_Bool (nat_lt i a.rows)) [
-      | inl low ↦ let past : nat_lt j b.cols ≡ false = rw low at outside in
-          rw past (no_col b.domain ring.domain (nat_lt k b.rows) (word_at b.entries.items k j) ring (content_in ring.domain a i k))
-      | inr past ↦ rw past refl
-    ]))
+term_word : (ring : RingName) (a b : Option ℕ) (t : ℕ) → product_of ring a b ≡ Some t → IsWordOf (sum_domain ring) t
+term_word ring None b t is = absurd (cc)
+term_word ring (Some x) None t is = absurd (cc)
+term_word ring (Some x) (Some y) t is =
+    let same : multiply_of ring x y ≡ t = cc in
+    rw same at (IsWordOf-eval ring.multiply ring.domain x y)
 
--- an object that lists the entries of a product has that product
-pub product-object : (c y a b : PlainObject) (ring : Ring) → y.domain ≡ c.domain → y.rows ≡ c.rows → y.cols ≡ c.cols → c.rows ≡ a.rows → c.cols ≡ b.cols
-    → y.entries.items ≡ entries_of c.rows c.cols (product_in c.domain ring a b)
-    → object_of y ≡ record (object_of c) { content = product_in c.domain ring a b }
-product-object c y a b ring same_domain same_rows same_cols rows cols lists =
-    objects_equal (object_of y) (record (object_of c) { content = product_in c.domain ring a b }) same_domain (rw (same_rows, same_cols) refl)
-    (λ i j. rw (same_rows, same_cols, lists) (listed-whole c.rows c.cols (product_in c.domain ring a b) i j (λ outside. outside_product c.domain ring a b i j (rw (rows, cols) at outside))))
+sum_word : (ring : RingName) (words : List ℕ) (sum : ℕ) → offers (combines_by ring.add) (sum_domain ring) ≡ true
+    → ((word : ℕ) (words' : List ℕ) → words ≡ word ∷ words' → IsWordOf (sum_domain ring) word) → sum_of ring words ≡ Some sum → IsWordOf (sum_domain ring) sum
+sum_word ring [] sum offered first is = absurd (cc)
+sum_word ring (word ∷ words) sum offered first is = sum-word ring.add (sum_domain ring) word words sum offered (first word words refl) is
+
+first_term : (ring : RingName) (a b : ℕ → Option ℕ) (ks : List ℕ) (word : ℕ) (words : List ℕ) → filter_map (λ k. product_of ring (a k) (b k)) ks ≡ word ∷ words → IsWordOf (sum_domain ring) word
+first_term ring a b [] word words is = absurd (cc)
+first_term ring a b (k ∷ ks) word words is =
+    let found : (t : Option ℕ) → product_of ring (a k) (b k) ≡ t → cons_option t (filter_map (λ k. product_of ring (a k) (b k)) ks) ≡ word ∷ words → IsWordOf (sum_domain ring) word =
+    λ t. elim t as (λ t. product_of ring (a k) (b k) ≡ t → cons_option t (filter_map (λ k. product_of ring (a k) (b k)) ks) ≡ word ∷ words → IsWordOf (sum_domain ring) word) [
+      | None ↦ λ none rest. first_term ring a b ks word words rest
+      | Some x ↦ λ some rest. let same : x ≡ word = cc in term_word ring (a k) (b k) word (rw same at some)
+    ] in
+    found (product_of ring (a k) (b k)) refl is
+
+-- a product's words are words of the domain of its sums
+pub product-words : (ring : RingName) (n : ℕ) (a b : Content) → offers (combines_by ring.add) (sum_domain ring) ≡ true → AreWordsOf (sum_domain ring) (product ring n a b)
+unfolding product
+product-words ring n a b offered i j word is =
+    sum_word ring (terms ring n a b i j) word offered (λ first others same. first_term ring (λ k. a i k) (λ k. b k j) (below n) first others same) is

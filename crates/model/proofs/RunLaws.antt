@@ -1,35 +1,72 @@
--- A run in which memory is never refused is the run in which each call is done at once.
-use Rattle.std.proofs.Common.{◌≡◌, ◌≢◌, ℕ, ◌+◌, List, [], ◌∷◌, ◌++◌, refl, ◌∙◌, ap, inl, inr}
+-- A run in which memory is never wanting is the run in which each call is done at once, and whether it was wanting
+-- can be seen in what is written.
+use Rattle.std.proofs.Common.{◌≡◌, ◌≢◌, ℕ, ◌+◌, List, [], ◌∷◌, ◌++◌, refl, sym, subst, ◌∙◌, ap, inl, inr, append_assoc}
+use Rattle.std.specs.Prelude.{codes, decimal}
 use Rattle.std.specs.List.{flat_map}
-use Rattle.std.proofs.lemmas.List.Elements.{All-head, All-tail}
-use Rattle.model.specs.declared.status.Status.TheVariants.{OutOfMemory}
-use Rattle.model.specs.Run.{answers_from, out_of_lines}
-use Rattle.model.specs.Runs.{State, first_state, IsRun, HadMemory, Ran, out_of_memory}
-use Rattle.model.specs.Text.{Answer, answer_text}
+use Rattle.std.proofs.lemmas.List.{append_cancel_left}
+use Rattle.std.proofs.lemmas.List.Elements.{All-cons, All-head, All-nil, All-tail}
+use Rattle.model.specs.declared.status.Status.{Status}
+use Rattle.model.specs.declared.status.Status.TheVariants.{InvalidObject, OutOfMemory}
+use Rattle.model.specs.Grammar.{Reading}
+use Rattle.model.specs.Run.{answers_from, out_of_readings}
+use Rattle.model.specs.Runs.{State, first_state, HadMemory, HasWord, IsRun, Ran, TellsOfNoWant, out_of_memory}
+use Rattle.model.specs.Text.{Answer, answer_text, ended, status_name}
+
+abbrev IsNoWant : Answer → Type 0
+IsNoWant a = (a.status ≢ OutOfMemory) × (a.status ≢ InvalidObject)
 
 had_memory-right : (xs ys : List Answer) → HadMemory (xs ++ ys) → HadMemory ys
 had_memory-right [] ys h = h
-had_memory-right (x ∷ xs) ys h = had_memory-right xs ys (All-tail (λ a. a.status ≢ OutOfMemory) x (xs ++ ys) h)
+had_memory-right (x ∷ xs) ys h = had_memory-right xs ys (All-tail IsNoWant x (xs ++ ys) h)
 
-pub run-at_once : (number : ℕ) (before : State) (lines : List (List ℕ)) (answers : List Answer) → IsRun number before lines answers → HadMemory answers → answers ≡ answers_from number before.environment lines
+pub run-at_once : (number : ℕ) (before : State) (readings : List Reading) (answers : List Answer) → IsRun number before readings answers → HadMemory answers → answers ≡ answers_from number before.environment readings
 unfolding IsRun answers_from
 run-at_once number before [] answers none had = none
-run-at_once number before (line ∷ lines) answers (said, after, later, turned, run, split) had =
+run-at_once number before (reading ∷ readings) answers (said, after, later, turned, run, split) had =
     let had_all : HadMemory (said ++ later) = rw split at had in
-    let rest : later ≡ answers_from (number + 1) after.environment lines = run-at_once (number + 1) after lines later run (had_memory-right said later had_all) in
+    let rest : later ≡ answers_from (number + 1) after.environment readings = run-at_once (number + 1) after readings later run (had_memory-right said later had_all) in
     elim turned [
-      | inl done ↦ split ∙ rw (rest, ap (λ p. p.0) done, ap (λ p. p.1) done) refl
+      | inl done ↦ split ∙ rw (rest, done.0, ap (λ (s : State). s.environment) done.1) refl
       | inr refused ↦
           let told : HadMemory (out_of_memory number ∷ later) = rw refused.1 at had_all in
-          absurd (All-head (λ a. a.status ≢ OutOfMemory) (out_of_memory number) later told refl)
+          absurd ((All-head IsNoWant (out_of_memory number) later told).0 refl)
     ]
 
+-- ---- in bytes
+
+word_behind : (word before text : List ℕ) → HasWord word text → HasWord word (before ++ text)
+word_behind word before text (front, back, is) = (before ++ front, back, rw (is, append_assoc) refl)
+
+-- the text of an answer has the name of its status
+status_in_text : (a : Answer) (rest : List ℕ) → HasWord (status_name a.status) (answer_text a ++ rest)
+unfolding answer_text
+status_in_text a rest =
+    (decimal a.number ++ 32 ∷ [], 10 ∷ (flat_map ended a.data_lines ++ rest), simp append_assoc)
+
+-- where the bytes tell of no want of memory, no answer does
+had_memory : (answers : List Answer) → TellsOfNoWant (flat_map answer_text answers) → HadMemory answers
+had_memory [] none = All-nil IsNoWant
+had_memory (a ∷ answers) none =
+    let later = flat_map answer_text answers in
+    let here : (s : Status) → a.status ≡ s → HasWord (status_name s) (answer_text a ++ later) = λ s is. subst (λ (t : Status). HasWord (status_name t) (answer_text a ++ later)) is (status_in_text a later) in
+    let others : TellsOfNoWant later = record {
+      no_refusal = λ has. none.no_refusal (word_behind (codes "OUT_OF_MEMORY") (answer_text a) later has);
+      no_failure = λ has. none.no_failure (word_behind (codes "INVALID_OBJECT") (answer_text a) later has);
+    } in
+    All-cons IsNoWant a answers (λ is. none.no_refusal (here OutOfMemory is), λ is. none.no_failure (here InvalidObject is)) (had_memory answers others)
+
 -- what is written by a run
-pub ran : (lines : List (List ℕ)) (old new : List ℕ) (answers : List Answer) → IsRun 1 first_state lines answers → new ≡ old ++ flat_map answer_text answers → Ran lines old new
-unfolding out_of_lines
-ran lines old new answers run written = record {
-  answers = answers;
-  run = run;
-  written = written;
-  at_once = λ had. written ∙ ap (λ all. old ++ flat_map answer_text all) (run-at_once 1 first_state lines answers run had);
-}
+pub ran : (readings : List Reading) (old new : List ℕ) (answers : List Answer) → IsRun 1 first_state readings answers → new ≡ old ++ flat_map answer_text answers → Ran readings old new
+unfolding out_of_readings
+ran readings old new answers run written =
+    let at_once : HadMemory answers → new ≡ old ++ out_of_readings readings =
+    λ had. written ∙ ap (λ all. old ++ flat_map answer_text all) (run-at_once 1 first_state readings answers run had) in
+    record {
+      answers = answers;
+      run = run;
+      written = written;
+      at_once = at_once;
+      in_bytes = λ text is none.
+          let same : text ≡ flat_map answer_text answers = append_cancel_left old text (flat_map answer_text answers) (sym is ∙ written) in
+          append_cancel_left old text (out_of_readings readings) (sym is ∙ at_once (had_memory answers (rw same at none)));
+    }

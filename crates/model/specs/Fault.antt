@@ -1,151 +1,139 @@
--- Which error a call answers (GraphBLAS C API 2.0, section 2.5.2 and the return values of each method;
--- the order among several is this project's).
-use Rattle.std.specs.Prelude.{ℕ, ℤ, pos, negsuc, ◌≡◌, ◌==◌, nat_le, nat_lt, not, Bool, true, false, ◌&&◌, ◌||◌, if◌then◌else◌, List, [], ◌∷◌, Option, Some, None, is_some, int_le}
-use Rattle.std.specs.Option.{option_map_or}
+-- Which error a call answers (the return values of each method of the GraphBLAS C API; the order among
+-- several is this project's).
+use Rattle.std.specs.Prelude.{ℕ, ◌&&◌, ◌||◌, not, Bool, true, false, is_none, is_some, nat_le, List, [], ◌∷◌, Option, Some, None, if◌then◌else◌}
+use Rattle.std.specs.List.{find, list_all}
+use Rattle.std.specs.Option.{option_map, option_map_or}
 use Rattle.algebra.specs.declared.domain.Domain.{Domain}
 use Rattle.algebra.specs.declared.domain.Domain.TheVariants as domains
-use Rattle.algebra.specs.declared.kinds.BinaryKind.{BinaryKind}
-use Rattle.algebra.specs.declared.kinds.BinaryKind.TheVariants as binary
-use Rattle.algebra.specs.declared.kinds.MonoidKind.{MonoidKind}
-use Rattle.algebra.specs.declared.kinds.MonoidKind.TheVariants as monoid
+use Rattle.algebra.specs.declared.operator_names.OpName.{OpName}
+use Rattle.algebra.specs.Operators.{answer_domain, offers}
+use Rattle.algebra.specs.Value.{are_compatible, is_built_in, is_value_of, same_domain}
+use Rattle.model.specs.declared.call.Call.{Call}
+use Rattle.model.specs.declared.call.Call.TheVariants.{Create, Set, Get, Operate}
+use Rattle.model.specs.declared.call.Desc.{Desc}
+use Rattle.model.specs.declared.call.Operation.{Operation}
+use Rattle.model.specs.declared.call.Out.{Out}
+use Rattle.model.specs.declared.call.Plan.{Plan}
+use Rattle.model.specs.declared.limits.TheConstants.{GREATEST_DIMENSION, MOST_OBJECTS}
+use Rattle.model.specs.declared.shape.Shape.{Shape}
+use Rattle.model.specs.declared.shape.Shape.TheVariants.{One}
+use Rattle.model.specs.declared.shape.Signature.{Signature}
 use Rattle.model.specs.declared.status.Status.{Status}
 use Rattle.model.specs.declared.status.Status.TheVariants as status
-use Rattle.model.specs.declared.names.Place.{Place}
-use Rattle.model.specs.declared.names.Place.TheVariants.{One, Two}
-use Rattle.model.specs.declared.names.Ring.{Ring}
-use Rattle.model.specs.Command.{Command, Name, Matrix, Set, Get, Nvals, Print, Mxm}
-use Rattle.model.specs.Object.{Object, Shape, Content}
-use Rattle.model.specs.Object as object
+use Rattle.model.specs.Come.{operation_has_come, out_has_come}
+use Rattle.model.specs.Object.{Object, col_of, cols_of, empty_object, is_inside, is_of_kind, row_of, rows_of, same_kind, same_shape, signature_of, turned_signature}
+use Rattle.model.specs.Renamed.{objects_of, renamed}
+use Rattle.model.specs.Table.{is_offered, plan_of, turned}
 
--- ---- what is known of objects without their values
+-- the order of the checks; that a line is no call is found before them
+abbrev pub order : List Status
+order =
+    status.NameTaken ∷ status.UninitializedObject ∷ status.WrongKind ∷ status.NoFile ∷ status.BadFile
+    ∷ status.NotImplemented ∷ status.DomainMismatch ∷ status.DimensionMismatch ∷ status.InvalidIndex
+    ∷ status.IndexOutOfBounds ∷ status.InvalidValue ∷ []
 
-pub record Signature : Type 0 where
-  pub domain : Domain
-  pub shape : Shape
-
--- which names are taken, by objects of which domains and shapes, and how many
-pub record Known : Type 0 where
-  pub signature : Name → Option Signature
-  pub count : ℕ
-
-abbrev pub signature_of : Object → Signature
-signature_of o = record { domain = o.domain; shape = o.shape }
-
--- ---- limits
-
-abbrev pub greatest_dimension : ℕ
-greatest_dimension = 4294967296
-
-abbrev pub most_objects : ℕ
-most_objects = 1024
+-- the first of the order whose test fails
+abbrev pub first_of : (Status → Bool) → Option Status
+first_of fails = find fails order
 
 -- whether a number is a dimension
 abbrev pub is_dimension : ℕ → Bool
-is_dimension n = nat_le 1 n && nat_le n greatest_dimension
+is_dimension n = nat_le 1 n && nat_le n GREATEST_DIMENSION
 
--- whether a whole number is a value of the domain
-abbrev pub is_value_of : Domain → ℤ → Bool
-is_value_of domains.Bool z = int_le (pos 0) z && int_le z (pos 1)
-is_value_of domains.Int64 z = int_le (negsuc 9223372036854775807) z && int_le z (pos 9223372036854775807)
-is_value_of domains.Uint64 z = int_le (pos 0) z && int_le z (pos 18446744073709551615)
-is_value_of (domains.User k) z = int_le (pos 0) z && int_le z (pos 18446744073709551615)
+abbrev pub are_dimensions : Shape → Bool
+are_dimensions shape = is_dimension (rows_of shape) && is_dimension (cols_of shape)
 
-abbrev pub is_listed : MonoidKind → BinaryKind → Domain → Bool
-is_listed monoid.Plus binary.Times domains.Int64 = true
-is_listed monoid.Min binary.Plus domains.Int64 = true
-is_listed _ _ _ = false
+-- ---- operations
 
--- the semirings that calls can use so far
-abbrev pub has_come : Ring → Bool
-has_come ring = is_listed ring.add ring.multiply ring.domain
+-- an object serves as a mask by its values where they can be cast to BOOL, and by its structure always
+abbrev pub serves_as_mask : Desc → Signature → Bool
+serves_as_mask desc mask = desc.structure || is_built_in mask.domain
 
--- a new object is on the one domain that scripts can name so far
-abbrev pub IsOnInt64 : Command → Type 0
-IsOnInt64 (Matrix name domain rows cols) = domain ≡ domains.Int64
-IsOnInt64 _ = Unit {0}
+-- an accumulator is an operator of the output's domain to that domain
+abbrev pub accumulates : Domain → OpName → Bool
+accumulates domain op =
+    offers op.kind op.domain && same_domain op.domain domain && same_domain (answer_domain op.kind op.domain) domain
 
--- ---- places and shapes
+-- whether a mask, where there is one, passes a test
+abbrev pub mask_passes : (Signature → Bool) → Out Signature → Bool
+mask_passes test out = option_map_or test out.mask true
 
--- whether a place has as many indices as a shape has dimensions
-abbrev pub is_of_kind : Place → Shape → Bool
-is_of_kind (One i) (object.Vector n) = true
-is_of_kind (Two i j) (object.Matrix m n) = true
-is_of_kind _ _ = false
+-- which tests an operation fails whose plan this is
+abbrev pub plan_fails : Out Signature → Plan → Status → Bool
+plan_fails out plan status.WrongKind =
+    not (plan.kinds && same_kind plan.shape out.c.shape && mask_passes (λ m. same_kind m.shape out.c.shape) out)
+plan_fails out plan status.DomainMismatch =
+    not (mask_passes (serves_as_mask out.desc) out && plan.compatible && are_compatible plan.domain out.c.domain)
+plan_fails out plan status.DimensionMismatch =
+    not (mask_passes (λ m. same_shape m.shape out.c.shape) out && same_shape plan.shape out.c.shape && plan.fits)
+plan_fails out plan status.InvalidValue = not plan.values
+plan_fails out plan _ = false
 
--- whether each index is below its dimension
-abbrev pub is_inside : Place → Shape → Bool
-is_inside (One i) (object.Vector n) = nat_lt i n
-is_inside (Two i j) (object.Matrix m n) = nat_lt i m && nat_lt j n
-is_inside _ _ = false
+-- whether all operators are there, and have come
+abbrev pub is_implemented : Out Signature → Operation Signature → Bool
+is_implemented out operation =
+    is_offered operation && operation_has_come operation && out_has_come out
+    && option_map_or (accumulates out.c.domain) out.accum true
 
-abbrev pub row_of : Place → ℕ
-row_of (One i) = i
-row_of (Two i j) = i
+-- what an operation says of its inputs, which are turned first
+abbrev pub plan_in : Desc → Operation Signature → Plan
+plan_in desc operation = plan_of (turned turned_signature desc operation)
 
-abbrev pub col_of : Place → ℕ
-col_of (One i) = 0
-col_of (Two i j) = j
+-- which tests an operation fails
+abbrev pub operation_fails : Out Signature → Operation Signature → Status → Bool
+operation_fails out operation status.NotImplemented = not (is_implemented out operation)
+operation_fails out operation s = plan_fails out (plan_in out.desc operation) s
 
-abbrev pub is_matrix : Shape → Bool
-is_matrix (object.Matrix m n) = true
-is_matrix _ = false
+-- the fault of an operation whose objects are there
+unfoldable pub operation_fault : Out Signature → Operation Signature → Option Status
+operation_fault out operation = first_of (operation_fails out operation)
 
-abbrev pub rows_of : Shape → ℕ
-rows_of (object.Matrix m n) = m
-rows_of (object.Vector n) = n
+-- ---- calls
 
-abbrev pub cols_of : Shape → ℕ
-cols_of (object.Matrix m n) = n
-cols_of (object.Vector n) = 1
+-- which tests a call fails on objects that are there; `count` is the number of objects, and a new name
+-- stands for whether it is taken
+abbrev pub test_fails : ℕ → Call Signature Bool → Status → Bool
+test_fails count (Create taken domain shape) status.NameTaken = taken
+test_fails count (Create taken domain shape) status.NotImplemented = nat_le MOST_OBJECTS count
+test_fails count (Create taken domain shape) status.InvalidValue = not (are_dimensions shape)
+test_fails count (Set o place value) status.WrongKind = not (is_of_kind place o.shape)
+test_fails count (Set o place value) status.InvalidIndex = not (is_inside place o.shape)
+test_fails count (Set o place value) status.InvalidValue = not (is_value_of o.domain value)
+test_fails count (Get o place) status.WrongKind = not (is_of_kind place o.shape)
+test_fails count (Get o place) status.InvalidIndex = not (is_inside place o.shape)
+test_fails count (Operate out operation) s = operation_fails out operation s
+test_fails count _ _ = false
 
--- ---- faults
+-- what stands for an object that isn't there, where no test but the one for that is told
+abbrev pub no_object : Object
+no_object = empty_object domains.Bool (One 0)
 
--- the first fault whose test holds
-abbrev pub first_fault : List (Bool × Status) → Option Status
-first_fault [] = None
-first_fault (fault ∷ faults) = if fault.0 then Some fault.1 else first_fault faults
+abbrev pub found_object : Option Object → Object
+found_object o = option_map_or (λ o. o) o no_object
 
--- the fault of a call on an object: that there is none of its name, or else
-abbrev pub on_object : Known → Name → (Signature → Option Status) → Option Status
-on_object known name rest = option_map_or rest (known.signature name) (Some status.UninitializedObject)
+abbrev pub found_signature : Option Signature → Signature
+found_signature s = option_map_or (λ s. s) s (signature_of no_object)
 
--- the fault of making an object of some rows and columns under a name
-abbrev pub create_fault : Known → Name → ℕ → ℕ → Option Status
-create_fault known name rows cols = first_fault (
-    (is_some (known.signature name), status.NameTaken)
-    ∷ (nat_le most_objects known.count, status.NotImplemented)
-    ∷ (not (is_dimension rows) || not (is_dimension cols), status.InvalidValue)
-    ∷ [])
+-- whether each object that the call names is there
+abbrev pub are_there : {X N : Type 0} → Call (Option X) N → Bool
+are_there call = list_all is_some (objects_of call)
 
--- the fault of setting a value in an object
-abbrev pub set_fault : Place → ℤ → Signature → Option Status
-set_fault place value o = first_fault (
-    (not (is_of_kind place o.shape), status.WrongKind)
-    ∷ (not (is_inside place o.shape), status.InvalidIndex)
-    ∷ (not (is_value_of o.domain value), status.InvalidValue)
-    ∷ [])
+-- which tests a call fails
+abbrev pub call_fails : ℕ → Call (Option Signature) Bool → Status → Bool
+call_fails count call status.UninitializedObject = not (are_there call)
+call_fails count call s = test_fails count (renamed found_signature (λ taken. taken) call) s
 
--- the fault of asking for one value of an object
-abbrev pub get_fault : Place → Signature → Option Status
-get_fault place o = first_fault (
-    (not (is_of_kind place o.shape), status.WrongKind)
-    ∷ (not (is_inside place o.shape), status.InvalidIndex)
-    ∷ [])
+-- the fault that depends on names, domains, shapes and the number of objects alone
+unfoldable pub early_fault : ℕ → Call (Option Signature) Bool → Option Status
+early_fault count call = first_of (call_fails count call)
 
--- the fault of multiplying a by b into c
-abbrev pub mxm_fault : Ring → Signature → Signature → Signature → Option Status
-mxm_fault ring c a b = first_fault (
-    (not (is_matrix c.shape) || not (is_matrix a.shape) || not (is_matrix b.shape), status.WrongKind)
-    ∷ (not (has_come ring), status.NotImplemented)
-    ∷ (not (cols_of a.shape == rows_of b.shape) || not (rows_of c.shape == rows_of a.shape) || not (cols_of c.shape == cols_of b.shape), status.DimensionMismatch)
-    ∷ [])
+-- the fault that depends on values
+abbrev pub late_fault : {N : Type 0} → Call Object N → Option Status
+late_fault (Get o place) = if is_none (o.content (row_of place) (col_of place)) then Some status.NoValue else None
+late_fault _ = None
 
--- the fault of a call that depends on names, domains, shapes and the number of objects alone
-unfoldable pub early_fault : Known → Command → Option Status
-early_fault known (Matrix name domain rows cols) = create_fault known name rows cols
-early_fault known (Set name place value) = on_object known name (set_fault place value)
-early_fault known (Get name place) = on_object known name (get_fault place)
-early_fault known (Nvals name) = on_object known name (λ o. None)
-early_fault known (Print name) = on_object known name (λ o. None)
-early_fault known (Mxm output ring first second) =
-    on_object known output (λ c. on_object known first (λ a. on_object known second (λ b. mxm_fault ring c a b)))
+-- the fault of a call, if it has one
+abbrev pub fault_of : ℕ → Call (Option Object) Bool → Option Status
+fault_of count call =
+    option_map_or Some (early_fault count (renamed (option_map signature_of) (λ taken. taken) call))
+    (late_fault (renamed found_object (λ taken. taken) call))

@@ -1,16 +1,28 @@
--- How the bytes of a script are read: lines, words, and the grammar of each command.
-use Rattle.std.specs.Prelude.{ℕ, ℤ, pos, neg_ℤ, ◌+◌, ◌-◌, ◌*◌, ◌^◌, ◌==◌, nat_le, nat_lt, not, Bool, true, ◌&&◌, ◌||◌, if◌then◌else◌, List, [], ◌∷◌, map, length, drop, slice_index, slice_index_or, Option, Some, None, codes, filter, fold}
+-- How the bytes of a script are read: lines, words, and the grammar of each call.
+use Rattle.std.specs.Prelude.{ℕ, ℤ, pos, neg_ℤ, ◌+◌, ◌-◌, ◌*◌, ◌^◌, ◌==◌, nat_le, nat_lt, not, Bool, true, false, ◌&&◌, ◌||◌, if◌then◌else◌, List, [], ◌∷◌, map, length, drop, slice_index, slice_index_or, Option, Some, None, codes, filter, fold}
 use Rattle.std.specs.List.{list_all, slice_split}
 use Rattle.std.specs.Option.{option_and_then, option_map_or}
 use Rattle.std.specs.Str.{bytes_eq}
 use Rattle.std.specs.Str.Lines.{strip_carriage_return}
 use Rattle.algebra.specs.declared.domain.Domain.{Domain}
-use Rattle.algebra.specs.declared.domain.Domain.TheVariants as domains
+use Rattle.algebra.specs.declared.operator_names.OpName.{OpName}
+use Rattle.algebra.specs.declared.operator_names.RingName.{RingName}
 use Rattle.algebra.specs.Names.{binary_from_name, domain_from_name, monoid_from_name}
-use Rattle.model.specs.declared.names.Place.{Place}
-use Rattle.model.specs.declared.names.Place.TheVariants.{One, Two}
-use Rattle.model.specs.declared.names.Ring.{Ring}
-use Rattle.model.specs.Command.{Command, Name, Matrix, Set, Get, Nvals, Print, Mxm}
+use Rattle.model.specs.declared.call.Call.{Call}
+use Rattle.model.specs.declared.call.Call.TheVariants.{Create, Set, Get, Nvals, Print, Operate}
+use Rattle.model.specs.declared.call.Desc.{Desc}
+use Rattle.model.specs.declared.call.Operation.{Operation}
+use Rattle.model.specs.declared.call.Operation.TheVariants.{Multiply}
+use Rattle.model.specs.declared.call.Out.{Out}
+use Rattle.model.specs.declared.limits.TheConstants.{LONGEST_LINE, LONGEST_NAME}
+use Rattle.model.specs.declared.shape.Place.{Place}
+use Rattle.model.specs.declared.shape.Place.TheVariants.{One, Two}
+use Rattle.model.specs.declared.shape.Shape.TheVariants as shape
+use Rattle.model.specs.Come.{domain_has_come, out_has_come}
+
+-- an object's name, as bytes
+abbrev pub Name : Type 0
+Name = List ℕ
 
 -- ---- lines and words
 
@@ -36,9 +48,6 @@ words_of line = filter (λ word. not (length word == 0)) (slice_split is_blank l
 abbrev pub is_plain : ℕ → Bool
 is_plain b = (b == 9) || (nat_le 32 b && nat_le b 126)
 
-abbrev pub longest_line : ℕ
-longest_line = 65536
-
 -- ---- kinds of words
 
 -- steps that may find nothing
@@ -52,9 +61,10 @@ is_digit b = nat_le 48 b && nat_le b 57
 abbrev pub is_letter : ℕ → Bool
 is_letter b = (nat_le 65 b && nat_le b 90) || (nat_le 97 b && nat_le b 122)
 
--- a letter, and at most 31 letters, digits and underscores
+-- a letter, and then letters, digits and underscores
 abbrev pub is_name : List ℕ → Bool
-is_name word = is_letter (slice_index word 0) && list_all (λ b. is_letter b || is_digit b || (b == 95)) word && nat_le (length word) 32
+is_name word = is_letter (slice_index word 0) && list_all (λ b. is_letter b || is_digit b || (b == 95)) word
+    && nat_le (length word) LONGEST_NAME
 
 unfoldable pub name_of : List ℕ → Option Name
 name_of word = if is_name word then Some word else None
@@ -75,16 +85,16 @@ number_of word = if is_number word && nat_lt (digits_value word) (2 ^ 64) then S
 unfoldable pub value_of_word : List ℕ → Option ℤ
 value_of_word word =
     if slice_index word 0 == 45
-    then (if is_number (drop 1 word) && nat_le (digits_value (drop 1 word)) (2 ^ 63) then Some (neg_ℤ (pos (digits_value (drop 1 word)))) else None)
+    then (if is_number (drop 1 word) && nat_le (digits_value (drop 1 word)) (2 ^ 63)
+    then Some (neg_ℤ (pos (digits_value (drop 1 word)))) else None)
     else (number_of word >>= λ n. Some (pos n))
 
--- the domains that scripts can name so far
-abbrev pub only_int64 : Domain → Option Domain
-only_int64 domains.Int64 = Some domains.Int64
-only_int64 _ = None
+-- what a reader finds, where it passes a test
+abbrev pub where_it : {A : Type 0} → (A → Bool) → Option A → Option A
+where_it passes found = found >>= λ x. if passes x then Some x else None
 
 unfoldable pub domain_of : List ℕ → Option Domain
-domain_of word = domain_from_name word >>= only_int64
+domain_of word = where_it domain_has_come (domain_from_name word)
 
 -- ---- operators, monoids and semirings
 
@@ -92,15 +102,29 @@ domain_of word = domain_from_name word >>= only_int64
 abbrev pub nth_word : List (List ℕ) → ℕ → List ℕ
 nth_word words k = slice_index_or words k []
 
--- the names of a monoid, an operator and a domain, with points between them
-unfoldable pub ring_of : List ℕ → Option Ring
-ring_of word =
-    let parts = slice_split (λ b. b == 46) word in
-    if length parts == 3
-    then (monoid_from_name (nth_word parts 0) >>= λ add. binary_from_name (nth_word parts 1) >>= λ multiply. domain_of (nth_word parts 2) >>= λ domain. Some (record { add = add; multiply = multiply; domain = domain }))
+-- what points part
+abbrev pub parts_of : List ℕ → List (List ℕ)
+parts_of word = slice_split (λ b. b == 46) word
+
+-- the names of an operator and a domain
+unfoldable pub op_name_of : List ℕ → Option OpName
+op_name_of word =
+    let parts = parts_of word in
+    if length parts == 2
+    then (binary_from_name (nth_word parts 0) >>= λ kind. domain_of (nth_word parts 1) >>= λ domain.
+    Some (record { kind = kind; domain = domain }))
     else None
 
--- ---- commands
+-- the names of a monoid, an operator and a domain
+unfoldable pub ring_name_of : List ℕ → Option RingName
+ring_name_of word =
+    let parts = parts_of word in
+    if length parts == 3
+    then (monoid_from_name (nth_word parts 0) >>= λ add. binary_from_name (nth_word parts 1) >>= λ multiply.
+    domain_of (nth_word parts 2) >>= λ domain. Some (record { add = add; multiply = multiply; domain = domain }))
+    else None
+
+-- ---- places
 
 -- one index or two
 abbrev pub one_of : List ℕ → Option Place
@@ -109,15 +133,15 @@ one_of word = number_of word >>= λ i. Some (One i)
 abbrev pub two_of : List ℕ → List ℕ → Option Place
 two_of row col = number_of row >>= λ i. number_of col >>= λ j. Some (Two i j)
 
--- `-`: no mask, no accumulator, no flags
-abbrev pub is_none_word : List ℕ → Bool
-is_none_word word = bytes_eq word (codes "-")
+-- ---- calls, each by its first word
 
 -- matrix NAME DOMAIN NUM NUM
-unfoldable pub matrix_of : List (List ℕ) → Option Command
+unfoldable pub matrix_of : List (List ℕ) → Option (Call Name Name)
 matrix_of words =
     if length words == 5
-    then (name_of (nth_word words 1) >>= λ name. domain_of (nth_word words 2) >>= λ domain. number_of (nth_word words 3) >>= λ rows. number_of (nth_word words 4) >>= λ cols. Some (Matrix name domain rows cols))
+    then (name_of (nth_word words 1) >>= λ name. domain_of (nth_word words 2) >>= λ domain.
+    number_of (nth_word words 3) >>= λ rows. number_of (nth_word words 4) >>= λ cols.
+    Some (Create name domain (shape.Two rows cols)))
     else None
 
 -- the place between a name and the last words
@@ -128,42 +152,92 @@ place_of words rest =
     else None
 
 -- set NAME NUM VALUE, or NAME NUM NUM VALUE
-unfoldable pub set_of : List (List ℕ) → Option Command
-set_of words = place_of words 1 >>= λ place. name_of (nth_word words 1) >>= λ name. value_of_word (nth_word words (length words - 1)) >>= λ value. Some (Set name place value)
+unfoldable pub set_of : List (List ℕ) → Option (Call Name Name)
+set_of words = place_of words 1 >>= λ place. name_of (nth_word words 1) >>= λ name.
+    value_of_word (nth_word words (length words - 1)) >>= λ value. Some (Set name place value)
 
 -- get NAME NUM, or NAME NUM NUM
-unfoldable pub get_of : List (List ℕ) → Option Command
+unfoldable pub get_of : List (List ℕ) → Option (Call Name Name)
 get_of words = place_of words 0 >>= λ place. name_of (nth_word words 1) >>= λ name. Some (Get name place)
 
 -- nvals NAME
-unfoldable pub nvals_of : List (List ℕ) → Option Command
+unfoldable pub nvals_of : List (List ℕ) → Option (Call Name Name)
 nvals_of words = if length words == 2 then (name_of (nth_word words 1) >>= λ name. Some (Nvals name)) else None
 
 -- print NAME
-unfoldable pub print_of : List (List ℕ) → Option Command
+unfoldable pub print_of : List (List ℕ) → Option (Call Name Name)
 print_of words = if length words == 2 then (name_of (nth_word words 1) >>= λ name. Some (Print name)) else None
 
--- mxm C MASK ACCUM RING A B DESC
-unfoldable pub mxm_of : List (List ℕ) → Option Command
-mxm_of words =
-    if (length words == 8) && is_none_word (nth_word words 2) && is_none_word (nth_word words 3) && is_none_word (nth_word words 7)
-    then (name_of (nth_word words 1) >>= λ output. ring_of (nth_word words 4) >>= λ ring. name_of (nth_word words 5) >>= λ first. name_of (nth_word words 6) >>= λ second. Some (Mxm output ring first second))
+-- ---- operations: C MASK ACCUM .. DESC
+
+-- `-`: no mask, no accumulator, no flags
+abbrev pub is_none_word : List ℕ → Bool
+is_none_word word = bytes_eq word (codes "-")
+
+-- `-`, or what a word says
+abbrev pub perhaps : {A : Type 0} → (List ℕ → Option A) → List ℕ → Option (Option A)
+perhaps read word = if is_none_word word then Some None else (read word >>= λ x. Some (Some x))
+
+abbrev pub no_flags : Desc
+no_flags = record { replace = false; structure = false; complement = false; turn_first = false; turn_second = false }
+
+-- one flag more, which wasn't there
+unfoldable pub flag_added : Desc → List ℕ → Option Desc
+flag_added desc word =
+    if bytes_eq word (codes "R") then (if desc.replace then None else Some (record desc { replace = true }))
+    else if bytes_eq word (codes "S") then (if desc.structure then None else Some (record desc { structure = true }))
+    else if bytes_eq word (codes "C") then (if desc.complement then None else Some (record desc { complement = true }))
+    else if bytes_eq word (codes "T0") then (if desc.turn_first then None else Some (record desc { turn_first = true }))
+    else if bytes_eq word (codes "T1") then (if desc.turn_second then None else Some (record desc { turn_second = true }))
+    else None
+
+abbrev pub flags_added : Desc → List (List ℕ) → Option Desc
+flags_added desc [] = Some desc
+flags_added desc (word ∷ words) = flag_added desc word >>= λ more. flags_added more words
+
+-- `-`, or flags with commas between them, each at most once
+unfoldable pub desc_of : List ℕ → Option Desc
+desc_of word = if is_none_word word then Some no_flags else flags_added no_flags (slice_split (λ b. b == 44) word)
+
+-- C, MASK, ACCUM and the last word, DESC
+unfoldable pub out_of_words : List (List ℕ) → Option (Out Name)
+out_of_words words = if not (nat_le 5 (length words)) then None else
+    (name_of (nth_word words 1) >>= λ c. perhaps name_of (nth_word words 2) >>= λ mask.
+    perhaps op_name_of (nth_word words 3) >>= λ accum.
+    desc_of (nth_word words (length words - 1)) >>= λ desc.
+    Some (record { c = c; mask = mask; accum = accum; desc = desc }))
+
+-- RING A B
+unfoldable pub multiply_of : List (List ℕ) → Option (Operation Name)
+multiply_of words =
+    if length words == 8
+    then (ring_name_of (nth_word words 4) >>= λ ring. name_of (nth_word words 5) >>= λ a.
+    name_of (nth_word words 6) >>= λ b. Some (Multiply ring a b))
     else None
 
 -- whether the first word is a name
 abbrev pub is_called : List (List ℕ) → List ℕ → Bool
 is_called words name = bytes_eq (nth_word words 0) name
 
+-- the words between ACCUM and DESC, by the first word
+unfoldable pub operation_of : List (List ℕ) → Option (Operation Name)
+operation_of words =
+    if is_called words (codes "mxm") then multiply_of words
+    else None
+
+unfoldable pub operate_of : List (List ℕ) → Option (Call Name Name)
+operate_of words = operation_of words >>= λ operation. where_it out_has_come (out_of_words words) >>= λ out.
+    Some (Operate out operation)
+
 -- what the words of a line call
-unfoldable pub command_of : List (List ℕ) → Option Command
-command_of words =
+unfoldable pub call_of : List (List ℕ) → Option (Call Name Name)
+call_of words =
     if is_called words (codes "matrix") then matrix_of words
     else if is_called words (codes "set") then set_of words
     else if is_called words (codes "get") then get_of words
     else if is_called words (codes "nvals") then nvals_of words
     else if is_called words (codes "print") then print_of words
-    else if is_called words (codes "mxm") then mxm_of words
-    else None
+    else operate_of words
 
 -- ---- one line
 
@@ -171,7 +245,7 @@ command_of words =
 pub data Reading : Type 0 where
   Silent : Reading
   Malformed : Reading
-  Call : Command → Reading
+  Called : Call Name Name → Reading
 
 -- no words, or a first word that begins with `#`
 abbrev pub is_silent : List (List ℕ) → Bool
@@ -179,10 +253,14 @@ is_silent [] = true
 is_silent (word ∷ words) = slice_index word 0 == 35
 
 abbrev pub is_well_formed : List ℕ → Bool
-is_well_formed line = nat_le (length line) longest_line && list_all is_plain line
+is_well_formed line = nat_le (length line) LONGEST_LINE && list_all is_plain line
 
 unfoldable pub reading_of : List ℕ → Reading
 reading_of line =
     if is_silent (words_of line) then Silent
-    else if is_well_formed line then option_map_or Call (command_of (words_of line)) Malformed
+    else if is_well_formed line then option_map_or Called (call_of (words_of line)) Malformed
     else Malformed
+
+-- what the lines of a script are
+unfoldable pub readings_of : List ℕ → List Reading
+readings_of script = map reading_of (lines_of script)

@@ -1,10 +1,13 @@
-pub mod Call
-pub mod Command
-pub mod Evaluated
+pub mod Come
+pub mod Entries
 pub mod Fault
 pub mod Grammar
 pub mod Object
+pub mod Operations
 pub mod Product
+pub mod Renamed
 pub mod Run
 pub mod Runs
+pub mod Table
 pub mod Text
+pub mod WriteBack

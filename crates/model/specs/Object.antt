@@ -1,25 +1,72 @@
 -- Objects: a domain, a shape, and a finite map from positions inside the shape to words
--- (GraphBLAS C API 2.0, sections 3.5.2 and 3.5.3: a matrix or vector is a set of tuples, at most one at an index).
-use Rattle.std.specs.Prelude.{ℕ, zero, suc, ◌+◌, ◌-◌, ◌<◌, ◌≡◌, ◌⊎◌, ◌&&◌, ◌==◌, false, nat_lt, if◌then◌else◌, List, [], ◌∷◌, Option, Some, None}
+-- (GrB_Matrix, GrB_Vector: a set of tuples, at most one at an index), and their shapes and positions.
+use Rattle.std.specs.Prelude.{ℕ, ◌≡◌, ◌==◌, ◌&&◌, nat_lt, Bool, true, false, if◌then◌else◌, Option, Some, None}
 use Rattle.std.specs.Option.{option_map}
-use Rattle.std.specs.List.{All, AllPairs, filter_map, flat_map}
+use Rattle.algebra.specs.Value.{IsWordOf, cast_of}
 use Rattle.algebra.specs.declared.domain.Domain.{Domain}
-use Rattle.algebra.specs.Value.{cast_of}
-use Rattle.model.specs.declared.entry.Entry.{Entry}
+use Rattle.model.specs.declared.shape.Place.{Place}
+use Rattle.model.specs.declared.shape.Place.TheVariants as place
+use Rattle.model.specs.declared.shape.Shape.{Shape}
+use Rattle.model.specs.declared.shape.Shape.TheVariants.{One, Two}
+use Rattle.model.specs.declared.shape.Signature.{Signature}
 
--- a vector's size, or a matrix's rows and columns
-pub data Shape : Type 0 where
-  Vector : ℕ → Shape
-  Matrix : ℕ → ℕ → Shape
+-- ---- shapes
+
+abbrev pub is_matrix : Shape → Bool
+is_matrix (Two m n) = true
+is_matrix (One n) = false
+
+-- a vector is a column
+abbrev pub rows_of : Shape → ℕ
+rows_of (Two m n) = m
+rows_of (One n) = n
+
+abbrev pub cols_of : Shape → ℕ
+cols_of (Two m n) = n
+cols_of (One n) = 1
+
+-- both are vectors', or both are matrices'
+abbrev pub same_kind : Shape → Shape → Bool
+same_kind (One m) (One n) = true
+same_kind (Two m n) (Two k l) = true
+same_kind _ _ = false
+
+abbrev pub same_shape : Shape → Shape → Bool
+same_shape (One m) (One n) = m == n
+same_shape (Two m n) (Two k l) = (m == k) && (n == l)
+same_shape _ _ = false
+
+abbrev pub turned_shape : Shape → Shape
+turned_shape (Two m n) = Two n m
+turned_shape (One n) = One n
+
+-- ---- positions
+
+-- whether a place has as many indices as a shape has dimensions
+abbrev pub is_of_kind : Place → Shape → Bool
+is_of_kind (place.One i) (One n) = true
+is_of_kind (place.Two i j) (Two m n) = true
+is_of_kind _ _ = false
+
+-- whether each index is below its dimension
+abbrev pub is_inside : Place → Shape → Bool
+is_inside (place.One i) (One n) = nat_lt i n
+is_inside (place.Two i j) (Two m n) = nat_lt i m && nat_lt j n
+is_inside _ _ = false
+
+abbrev pub row_of : Place → ℕ
+row_of (place.One i) = i
+row_of (place.Two i j) = i
+
+abbrev pub col_of : Place → ℕ
+col_of (place.One i) = 0
+col_of (place.Two i j) = j
+
+-- ---- maps
 
 -- the word at each row and column, where there is one; a vector's are in column 0
 abbrev pub Content : Type 0
 Content = ℕ → ℕ → Option ℕ
-
-pub record Object : Type 0 where
-  pub domain : Domain
-  pub shape : Shape
-  pub content : Content
 
 -- nothing is stored
 abbrev pub no_content : Content
@@ -29,53 +76,51 @@ no_content = λ i j. None
 abbrev pub with_entry : Content → ℕ → ℕ → ℕ → Content
 with_entry c row col word = λ i j. if (i == row) && (j == col) then Some word else c i j
 
--- a map that has nothing outside a shape of so many rows and columns
-abbrev pub IsWithin : ℕ → ℕ → Content → Type 0
-IsWithin rows cols c = (i j : ℕ) → (nat_lt i rows && nat_lt j cols) ≡ false → c i j ≡ None
-
 -- each value cast from one domain to another
 abbrev pub cast_content : Domain → Domain → Content → Content
 cast_content from to c = λ i j. option_map (cast_of from to) (c i j)
 
--- ---- lists of entries
+abbrev pub turned_content : Content → Content
+turned_content c = λ i j. c j i
 
--- the map that a list of entries stands for
-unfoldable pub word_at : List Entry → Content
-word_at [] i j = None
-word_at (e ∷ es) i j = if (i == e.row) && (j == e.col) then Some e.word else word_at es i j
+-- a map that has nothing outside a shape of so many rows and columns
+abbrev pub IsWithin : ℕ → ℕ → Content → Type 0
+IsWithin rows cols c = (i j : ℕ) → (nat_lt i rows && nat_lt j cols) ≡ false → c i j ≡ None
 
--- e stands before f, row by row
-abbrev pub Precedes : Entry → Entry → Type 0
-Precedes e f = (e.row < f.row) ⊎ ((e.row ≡ f.row) × (e.col < f.col))
+-- each word of a map is one of a domain
+abbrev pub AreWordsOf : Domain → Content → Type 0
+AreWordsOf domain c = (i j word : ℕ) → c i j ≡ Some word → IsWordOf domain word
 
--- each entry stands before all later ones, so there is at most one at a position
-abbrev pub InOrder : List Entry → Type 0
-InOrder es = AllPairs Precedes es
+-- ---- objects
 
--- each entry lies inside a shape of so many rows and columns
-abbrev pub IsInside : ℕ → ℕ → List Entry → Type 0
-IsInside rows cols es = All (λ e. (e.row < rows) × (e.col < cols)) es
+pub record Object : Type 0 where
+  pub domain : Domain
+  pub shape : Shape
+  pub content : Content
 
--- n numbers, from the first on
-unfoldable pub count_from : ℕ → ℕ → List ℕ
-count_from first zero = []
-count_from first (suc n) = first ∷ count_from (first + 1) n
+-- the map lies inside the shape, and its words are values of the domain
+pub record IsObject (o : Object) : Type 0 where
+  pub within : IsWithin (rows_of o.shape) (cols_of o.shape) o.content
+  pub words : AreWordsOf o.domain o.content
 
--- the numbers below n
-abbrev pub below : ℕ → List ℕ
-below n = count_from 0 n
+abbrev pub signature_of : Object → Signature
+signature_of o = record { domain = o.domain; shape = o.shape }
 
-abbrev pub entry_at : ℕ → ℕ → ℕ → Entry
-entry_at i j word = record { row = i; col = j; word = word }
+-- an object without entries
+abbrev pub empty_object : Domain → Shape → Object
+empty_object domain shape = record { domain = domain; shape = shape; content = no_content }
 
--- the entries of one row of a map with so many columns, in order
-abbrev pub row_entries : ℕ → Content → ℕ → List Entry
-row_entries cols c i = filter_map (λ j. option_map (entry_at i j) (c i j)) (below cols)
+-- the transpose of a matrix, and a vector as it is (GrB_TRAN)
+abbrev pub turned_signature : Signature → Signature
+turned_signature s = record { domain = s.domain; shape = turned_shape s.shape }
 
--- the entries of a map inside a shape, row by row
-unfoldable pub entries_of : ℕ → ℕ → Content → List Entry
-entries_of rows cols c = flat_map (row_entries cols c) (below rows)
+abbrev pub turned_object : Object → Object
+turned_object o = record {
+  domain = o.domain;
+  shape = turned_shape o.shape;
+  content = if is_matrix o.shape then turned_content o.content else o.content;
+}
 
--- the entries of the rows from first up to before past, row by row
-unfoldable pub entries_between : ℕ → ℕ → ℕ → Content → List Entry
-entries_between first past cols c = flat_map (row_entries cols c) (count_from first (past - first))
+-- an object's values in another domain
+abbrev pub in_domain : Domain → Object → Content
+in_domain domain o = cast_content o.domain domain o.content

@@ -1,88 +1,98 @@
--- What calls do when each is done at once, one at a time (GraphBLAS C API 2.0, section 2.5.1, blocking mode).
-use Rattle.std.specs.Prelude.{ℕ, ◌+◌, if◌then◌else◌, List, [], ◌∷◌, ◌++◌, length, Option, Some, None, is_none, decimal}
+-- What calls do when each is done at once, one at a time (blocking mode: GrB_BLOCKING).
+use Rattle.std.specs.Prelude.{ℕ, ◌+◌, Bool, if◌then◌else◌, is_some, List, [], ◌∷◌, ◌++◌, length, Option, Some, None, decimal}
 use Rattle.std.specs.List.{flat_map}
-use Rattle.std.specs.Option.{option_map, option_map_or}
+use Rattle.std.specs.Option.{option_map_or}
 use Rattle.std.specs.Str.{bytes_eq}
-use Rattle.algebra.specs.Value.{word_of}
-use Rattle.model.specs.declared.status.Status.{Status}
+use Rattle.model.specs.declared.call.Call.{Call}
+use Rattle.model.specs.declared.call.Call.TheVariants.{Create, Get, Nvals, Print}
 use Rattle.model.specs.declared.status.Status.TheVariants as status
-use Rattle.model.specs.Command.{Command, Name, Matrix, Set, Get, Nvals, Print, Mxm}
-use Rattle.model.specs.Fault.{Known, signature_of, early_fault, row_of, col_of, rows_of, cols_of}
-use Rattle.model.specs.Grammar.{Reading, Silent, Malformed, Call, reading_of, lines_of}
-use Rattle.model.specs.Object as object
-use Rattle.model.specs.Object.{Object, no_content, with_entry, cast_content, entries_of}
-use Rattle.model.specs.Product.{product, sum_domain}
+use Rattle.model.specs.Entries.{entries_of}
+use Rattle.model.specs.Fault.{fault_of, found_object}
+use Rattle.model.specs.Grammar.{Name, Reading, Silent, Malformed, Called, readings_of}
+use Rattle.model.specs.Object.{Content, Object, col_of, cols_of, empty_object, row_of, rows_of}
+use Rattle.model.specs.Renamed.{output_of, renamed}
 use Rattle.model.specs.Text.{Answer, answer_text, canonical_lines, value_text}
+use Rattle.model.specs.WriteBack.{left_by}
 
--- the objects by their names, and how many they are
-pub record Environment : Type 0 where
-  pub find_object : Name → Option Object
+-- ---- environments
+
+-- the objects by their names, of whatever kind these are, and how many they are
+pub record Environment (K : Type 0) : Type 0 where
+  pub find_object : K → Option Object
   pub count : ℕ
 
-abbrev pub no_objects : Environment
+abbrev pub no_objects : {K : Type 0} → Environment K
 no_objects = record { find_object = λ name. None; count = 0 }
 
+abbrev pub object_at : {K : Type 0} → Environment K → K → Object
+object_at env name = found_object (env.find_object name)
+
+-- a call on what its names stand for; a new name stands for whether it is taken
+abbrev pub seen : {K : Type 0} → Environment K → Call K K → Call (Option Object) Bool
+seen env call = renamed env.find_object (λ name. is_some (env.find_object name)) call
+
+-- a call on its objects
+abbrev pub on_objects : {K N : Type 0} → Environment K → Call K N → Call Object N
+on_objects env call = renamed (object_at env) (λ name. name) call
+
 -- one name stands for an object, and the others for what they stood for
-abbrev pub with_object : Environment → Name → Object → ℕ → Environment
-with_object env name o count = record { find_object = λ other. if bytes_eq name other then Some o else env.find_object other; count = count }
+abbrev pub with_object : {K : Type 0} → (K → K → Bool) → Environment K → K → Object → ℕ → Environment K
+with_object same env name o count = record {
+  find_object = λ other. if same name other then Some o else env.find_object other;
+  count = count;
+}
 
--- the objects without their values
-abbrev pub known_of : Environment → Known
-known_of env = record { signature = λ name. option_map signature_of (env.find_object name); count = env.count }
+-- the object of a name has another map
+abbrev pub with_content : {K : Type 0} → (K → K → Bool) → Environment K → K → Content → Environment K
+with_content same env name c = with_object same env name (record (object_at env name) { content = c }) env.count
 
--- the fault that depends on values
-abbrev pub late_fault : Environment → Command → Option Status
-late_fault env (Get name place) = option_map_or (λ o. if is_none (o.content (row_of place) (col_of place)) then Some status.NoValue else None) (env.find_object name) None
-late_fault env _ = None
+-- what an accepted call leaves: one more object, or another map in its output; `same` tells whether two
+-- names are the same
+unfoldable pub effect : {K : Type 0} → (K → K → Bool) → Environment K → Call K K → Environment K
+effect same env (Create name domain shape) = with_object same env name (empty_object domain shape) (env.count + 1)
+effect same env call = option_map_or (λ name. with_content same env name (left_by (on_objects env call)))
+    (output_of call) env
 
--- the fault of a call, if it has one
-abbrev pub fault_of : Environment → Command → Option Status
-fault_of env call = option_map_or Some (early_fault (known_of env) call) (late_fault env call)
-
--- the object that a call makes of another, in its place
-abbrev pub changes : Environment → Name → (Object → Object) → Environment
-changes env name change = option_map_or (λ o. with_object env name (change o) env.count) (env.find_object name) env
-
--- what an accepted call leaves
-unfoldable pub effect : Environment → Command → Environment
-effect env (Matrix name domain rows cols) = with_object env name (record { domain = domain; shape = object.Matrix rows cols; content = no_content }) (env.count + 1)
-effect env (Set name place value) = changes env name (λ o. record o { content = with_entry o.content (row_of place) (col_of place) (word_of o.domain value) })
-effect env (Mxm output ring first second) =
-    option_map_or (λ a. option_map_or (λ b. changes env output (λ c.
-    let sums = product ring (cols_of a.shape) (cast_content a.domain ring.domain a.content) (cast_content b.domain ring.domain b.content) in
-    record c { content = cast_content (sum_domain ring) c.domain sums }))
-    (env.find_object second) env) (env.find_object first) env
-effect env _ = env
+-- ---- answers
 
 -- the data lines of an accepted call
-unfoldable pub data_lines_of : Environment → Command → List (List ℕ)
-data_lines_of env (Get name place) = option_map_or (λ o. option_map_or (λ word. value_text o.domain word ∷ []) (o.content (row_of place) (col_of place)) []) (env.find_object name) []
-data_lines_of env (Nvals name) = option_map_or (λ o. decimal (length (entries_of (rows_of o.shape) (cols_of o.shape) o.content)) ∷ []) (env.find_object name) []
-data_lines_of env (Print name) = option_map_or canonical_lines (env.find_object name) []
-data_lines_of env _ = []
+unfoldable pub data_lines_of : {N : Type 0} → Call Object N → List (List ℕ)
+data_lines_of (Get o place) =
+    option_map_or (λ word. value_text o.domain word ∷ []) (o.content (row_of place) (col_of place)) []
+data_lines_of (Nvals o) = decimal (length (entries_of (rows_of o.shape) (cols_of o.shape) o.content)) ∷ []
+data_lines_of (Print o) = canonical_lines o
+data_lines_of _ = []
 
 -- the answer to the call on a line, and what it leaves
-unfoldable pub step : ℕ → Environment → Command → Answer × Environment
+unfoldable pub step : ℕ → Environment Name → Call Name Name → Answer × Environment Name
 step number env call = option_map_or
     (λ fault. (record { number = number; status = fault; data_lines = [] }, env))
-    (fault_of env call)
-    (record { number = number; status = status.Ok; data_lines = data_lines_of env call }, effect env call)
+    (fault_of env.count (seen env call)) (
+      record {
+        number = number;
+        status = status.Ok;
+        data_lines = data_lines_of
+            (on_objects env call);
+      },
+      effect bytes_eq env call,
+    )
 
 -- the answers to one line, of which there is at most one, and what it leaves
-unfoldable pub turn : ℕ → Environment → Reading → List Answer × Environment
+unfoldable pub turn : ℕ → Environment Name → Reading → List Answer × Environment Name
 turn number env Silent = ([], env)
 turn number env Malformed = (record { number = number; status = status.Syntax; data_lines = [] } ∷ [], env)
-turn number env (Call call) = ((step number env call).0 ∷ [], (step number env call).1)
+turn number env (Called call) = ((step number env call).0 ∷ [], (step number env call).1)
 
 -- the answers to lines that are numbered from a number on
-unfoldable pub answers_from : ℕ → Environment → List (List ℕ) → List Answer
+unfoldable pub answers_from : ℕ → Environment Name → List Reading → List Answer
 answers_from number env [] = []
-answers_from number env (line ∷ lines) = let now = turn number env (reading_of line) in now.0 ++ answers_from (number + 1) now.1 lines
+answers_from number env (reading ∷ readings) =
+    let now = turn number env reading in now.0 ++ answers_from (number + 1) now.1 readings
 
 -- what lines write, that are numbered from 1
-unfoldable pub out_of_lines : List (List ℕ) → List ℕ
-out_of_lines lines = flat_map answer_text (answers_from 1 no_objects lines)
+unfoldable pub out_of_readings : List Reading → List ℕ
+out_of_readings readings = flat_map answer_text (answers_from 1 no_objects readings)
 
 -- what a script writes
 unfoldable pub out_of : List ℕ → List ℕ
-out_of script = out_of_lines (lines_of script)
+out_of script = out_of_readings (readings_of script)

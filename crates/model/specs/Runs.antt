@@ -1,15 +1,15 @@
--- Runs of a script's lines in which memory may be refused (GraphBLAS C API 2.0, section 2.5.2: GrB_OUT_OF_MEMORY is
--- an execution error that any call may give; that it leaves each object as it was is this project's).
-use Rattle.std.specs.Prelude.{ℕ, ◌+◌, ◌≡◌, ◌≢◌, ◌⊎◌, List, [], ◌∷◌, ◌++◌}
+-- Runs of a script's lines in which memory may be refused (GrB_OUT_OF_MEMORY is an execution error that any call may
+-- give; that it leaves each object as it was is this project's).
+use Rattle.std.specs.Prelude.{ℕ, ◌+◌, ◌≡◌, ◌≢◌, ◌⊎◌, List, [], ◌∷◌, ◌++◌, codes}
 use Rattle.std.specs.List.{All, flat_map}
 use Rattle.model.specs.declared.status.Status.TheVariants as status
-use Rattle.model.specs.Grammar.{Reading, Silent, Malformed, Call, reading_of}
-use Rattle.model.specs.Run.{Environment, no_objects, out_of_lines, turn}
+use Rattle.model.specs.Grammar.{Name, Reading, Silent, Malformed, Called}
+use Rattle.model.specs.Run.{Environment, no_objects, out_of_readings, turn}
 use Rattle.model.specs.Text.{Answer, answer_text}
 
 -- what a run knows between two lines
 pub record State : Type 0 where
-  pub environment : Environment
+  pub environment : Environment Name
 
 abbrev pub first_state : State
 first_state = record { environment = no_objects }
@@ -24,11 +24,13 @@ out_of_memory number = record { number = number; status = status.OutOfMemory; da
 abbrev pub IsAnswered : Reading → Type 0
 IsAnswered Silent = ⊥
 IsAnswered Malformed = Unit {0}
-IsAnswered (Call call) = Unit {0}
+IsAnswered (Called call) = Unit {0}
 
--- the line says and leaves what it does when it is done at once
+-- the line says and leaves what it does when it is done at once, and leaves nothing else changed
 abbrev pub IsDone : ℕ → State → Reading → List Answer → State → Type 0
-IsDone number before reading said after = (said, after.environment) ≡ turn number before.environment reading
+IsDone number before reading said after =
+    (said ≡ (turn number before.environment reading).0)
+    × (after ≡ record before { environment = (turn number before.environment reading).1 })
 
 -- the line answers that memory was refused, and nothing changed
 abbrev pub IsRefused : ℕ → State → Reading → List Answer → State → Type 0
@@ -36,25 +38,39 @@ IsRefused number before reading said after = IsAnswered reading × (said ≡ out
 
 -- what a line may say and leave
 abbrev pub IsTurn : ℕ → State → Reading → List Answer → State → Type 0
-IsTurn number before reading said after = IsDone number before reading said after ⊎ IsRefused number before reading said after
+IsTurn number before reading said after = IsDone number before reading said after
+    ⊎ IsRefused number before reading said after
 
 -- ---- all lines
 
--- answers of lines that are numbered from a number on: those of the first line, and then those of the others from the state that it leaves
-unfoldable pub IsRun : ℕ → State → List (List ℕ) → List Answer → Type 0
+-- answers of lines that are numbered from a number on: those of the first line, and then those of the others from
+-- the state that it leaves
+unfoldable pub IsRun : ℕ → State → List Reading → List Answer → Type 0
 IsRun number before [] answers = answers ≡ []
-IsRun number before (line ∷ lines) answers =
-    (said : List Answer) × (after : State) × (later : List Answer) × IsTurn number before (reading_of line) said after
-    × IsRun (number + 1) after lines later × (answers ≡ said ++ later)
+IsRun number before (reading ∷ readings) answers =
+    (said : List Answer) × (after : State) × (later : List Answer) × IsTurn number before reading said after
+    × IsRun (number + 1) after readings later × (answers ≡ said ++ later)
 
--- no answer is that memory was refused
+-- no answer tells of want of memory: neither that it was refused, nor that an object has no value for want of it
 abbrev pub HadMemory : List Answer → Type 0
-HadMemory answers = All (λ a. a.status ≢ status.OutOfMemory) answers
+HadMemory answers = All (λ a. (a.status ≢ status.OutOfMemory) × (a.status ≢ status.InvalidObject)) answers
 
--- Bytes and what a run of lines appended to them. Where memory was never refused, that is what the lines' calls
--- give when each is done at once, one at a time.
-pub record Ran (lines : List (List ℕ)) (old new : List ℕ) : Type 0 where
+-- ---- in bytes
+
+-- a word stands somewhere in a text
+abbrev pub HasWord : List ℕ → List ℕ → Type 0
+HasWord word text = (before : List ℕ) × (after : List ℕ) × (text ≡ before ++ (word ++ after))
+
+-- no part of a text says that memory was wanting
+pub record TellsOfNoWant (text : List ℕ) : Type 0 where
+  pub no_refusal : ¬ (HasWord (codes "OUT_OF_MEMORY") text)
+  pub no_failure : ¬ (HasWord (codes "INVALID_OBJECT") text)
+
+-- Bytes and what a run of lines appended to them. Where no answer tells of want of memory, that is what the lines'
+-- calls give when each is done at once; and whether one does can be seen in the bytes.
+pub record Ran (readings : List Reading) (old new : List ℕ) : Type 0 where
   pub answers : List Answer
-  pub run : IsRun 1 first_state lines answers
+  pub run : IsRun 1 first_state readings answers
   pub written : new ≡ old ++ flat_map answer_text answers
-  pub at_once : HadMemory answers → new ≡ old ++ out_of_lines lines
+  pub at_once : HadMemory answers → new ≡ old ++ out_of_readings readings
+  pub in_bytes : (text : List ℕ) → new ≡ old ++ text → TellsOfNoWant text → text ≡ out_of_readings readings

@@ -7,8 +7,8 @@ use Rattle.algebra.specs.Value.{value_of}
 use Rattle.model.specs.declared.entry.Entry.{Entry}
 use Rattle.model.specs.declared.status.Status.{Status}
 use Rattle.model.specs.declared.status.Status.TheVariants as status
-use Rattle.model.specs.Fault.{rows_of, cols_of}
-use Rattle.model.specs.Object.{Object, entries_of}
+use Rattle.model.specs.Entries.{entries_of}
+use Rattle.model.specs.Object.{Object, rows_of, cols_of}
 
 -- the name that an answer shows
 abbrev pub status_name : Status → List ℕ

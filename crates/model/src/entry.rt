@@ -1,3 +1,5 @@
+//! Entries of objects.
+
 /// A stored value of a matrix or a vector: its row and column, from 0, and the word of the value.
 /// A vector's entries stand in column 0.
 #[derive(Clone, Copy, Debug, PartialEq, Eq)]

@@ -1,19 +1,19 @@
 //! The definitions that every contract of this repository stands on: objects, operations, faults,
-//! runs and texts (in `specs/`), the types that they share with the code, and a slow plain evaluator.
+//! runs and texts (in `specs/`), and the types that they share with the code.
 #![tactic(auto)]
 
-mod command;
+mod call;
+mod come;
 mod entry;
-mod evaluator;
-mod evaluator_object;
-mod evaluator_product;
-mod evaluator_value;
-mod names;
+mod limits;
+mod memory;
+mod shape;
 mod status;
 
-pub use command::Command;
+pub use call::{Call, Desc, Operation, Out, Plan};
+pub use come::domain_has_come;
 pub use entry::Entry;
-pub use evaluator::{PlainAnswer, PlainEnvironment};
-pub use evaluator_object::PlainObject;
-pub use names::{Place, Ring};
+pub use limits::{GREATEST_DIMENSION, LONGEST_LINE, LONGEST_NAME, MOST_OBJECTS};
+pub use memory::NoMemory;
+pub use shape::{Place, Shape, Signature};
 pub use status::Status;

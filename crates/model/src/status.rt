@@ -1,8 +1,9 @@
+//! The answers of calls.
 ghost use Rattle.std.specs.Prelude.{◌≡◌};
 
 use std::alloc::{AllocError, AllocFailed};
 
-/// The answer of a call (GraphBLAS C API 2.0, section 4.5, without the prefix; the last five are
+/// The answer of a call (`GrB_Info` of the GraphBLAS C API 2.0, without the prefix; the last five are
 /// this project's, for its scripts).
 #[derive(Clone, Copy, Debug, PartialEq, Eq)]
 pub enum Status {

@@ -1,6 +1,7 @@
+pub mod CreateLaws
 pub mod LineLaws
-pub mod ProductLaws
+pub mod NameLaws
+pub mod ReplyLaws
 pub mod RunLaws
-pub mod TableLaws
 pub mod TextLaws
 pub mod TurnLaws

@@ -1,22 +1,23 @@
 -- A run of lines, one after the other.
-use Rattle.std.proofs.Common.{◌≡◌, ℕ, ◌+◌, List, [], ◌∷◌, ◌++◌, length, take, refl, sym, ◌∙◌, ap, append_assoc, Result, Ok, Err, OnErr}
+use Rattle.std.proofs.Common.{◌≡◌, ℕ, ◌+◌, List, [], ◌∷◌, ◌++◌, length, map, take, refl, sym, ◌∙◌, ap, append_assoc}
 use Rattle.std.specs.List.{flat_map}
 use Rattle.std.proofs.lemmas.Grind.{flat_map-append}
 use Rattle.std.proofs.lemmas.List.{append-nil}
 use Rattle.std.proofs.Math.Seq.{take-append_seam}
-use Rattle.model.specs.Grammar.{lines_of, reading_of}
-use Rattle.model.specs.Runs.{State, first_state, IsRun, Ran}
+use Rattle.model.specs.Grammar.{Reading, lines_of, reading_of, readings_of}
+use Rattle.model.specs.Run.{out_of}
+use Rattle.model.specs.Runs.{State, first_state, IsRun, Ran, TellsOfNoWant}
 use Rattle.model.specs.Text.{Answer, answer_text}
 use Rattle.model.proofs.RunLaws.{ran}
 use Rattle.script.specs.Turns.{Says}
 
 -- some lines of the script are answered, and what is written is their answers' texts
 pub record IsUnderWay (script rest : List ℕ) (state : State) (number : ℕ) (old new : List ℕ) : Type 0 where
-  pub done : List (List ℕ)
+  pub done : List Reading
   pub answers : List Answer
-  pub split : lines_of script ≡ done ++ lines_of rest
+  pub split : readings_of script ≡ done ++ readings_of rest
   pub written : new ≡ old ++ flat_map answer_text answers
-  pub goes_on : (others : List (List ℕ)) (more : List Answer) → IsRun number state others more → IsRun 1 first_state (done ++ others) (answers ++ more)
+  pub goes_on : (others : List Reading) (more : List Answer) → IsRun number state others more → IsRun 1 first_state (done ++ others) (answers ++ more)
 
 pub under_way-start : (script out : List ℕ) → IsUnderWay script script first_state 1 out out
 under_way-start script out = record {
@@ -33,34 +34,34 @@ pub under_way-turn : (script rest others line : List ℕ) (before after : State)
     → Says number before (reading_of line) text after
     → IsUnderWay script rest before number old new
     → IsUnderWay script others after (number + 1) old (new ++ text)
-unfolding IsRun
+unfolding IsRun readings_of
 under_way-turn script rest others line before after number old new text first (said, turned, texts) way = record {
-  done = way.done ++ line ∷ [];
+  done = way.done ++ reading_of line ∷ [];
   answers = way.answers ++ said;
-  split = way.split ∙ rw (first, append_assoc) refl;
+  split = way.split ∙ ap (λ ls. way.done ++ map reading_of ls) first ∙ sym (append_assoc way.done (reading_of line ∷ []) (readings_of others));
   written = rw (way.written, texts, flat_map-append answer_text way.answers said) (append_assoc old (flat_map answer_text way.answers) (flat_map answer_text said));
-  goes_on = λ lines more h. rw (append_assoc, append_assoc) (way.goes_on (line ∷ lines) (said ++ more) (said, after, more, turned, h, refl));
+  goes_on = λ lines more h. rw (append_assoc, append_assoc) (way.goes_on (reading_of line ∷ lines) (said ++ more) (said, after, more, turned, h, refl));
 }
 
 -- the lines that are answered are a run of their own
 pub ran-so_far : (script rest : List ℕ) (state : State) (number : ℕ) (old new : List ℕ)
-    → IsUnderWay script rest state number old new → (n : ℕ) × Ran (take n (lines_of script)) old new
+    → IsUnderWay script rest state number old new → (n : ℕ) × Ran (take n (readings_of script)) old new
 unfolding IsRun
 ran-so_far script rest state number old new way =
     let whole = simp append-nil at (way.goes_on [] [] refl) in
-    let done : take (length way.done) (lines_of script) ≡ way.done = ap (take (length way.done)) way.split ∙ take-append_seam way.done (lines_of rest) in
+    let done : take (length way.done) (readings_of script) ≡ way.done = ap (take (length way.done)) way.split ∙ take-append_seam way.done (readings_of rest) in
     (length way.done, rw done (ran way.done old new way.answers whole way.written))
 
 -- once nothing is left, all lines are answered
 pub ran-all : (script : List ℕ) (state : State) (number : ℕ) (old new : List ℕ)
-    → IsUnderWay script [] state number old new → Ran (lines_of script) old new
-unfolding IsRun lines_of
+    → IsUnderWay script [] state number old new → Ran (readings_of script) old new
+unfolding IsRun lines_of readings_of
 ran-all script state number old new way =
     let whole = simp append-nil at (way.goes_on [] [] refl) in
-    let all : lines_of script ≡ way.done = way.split ∙ append-nil way.done in
+    let all : readings_of script ≡ way.done = way.split ∙ append-nil way.done in
     rw all (ran way.done old new way.answers whole way.written)
 
--- what holds holds on an error
-pub on_err : {T E P : Type 0} (r : Result T E) → P → OnErr r P
-on_err (Ok x) p = tt
-on_err (Err e) p = p
+-- the headline in bytes
+pub headline : (script old new : List ℕ) → Ran (readings_of script) old new → (text : List ℕ) → new ≡ old ++ text → TellsOfNoWant text → text ≡ out_of script
+unfolding out_of
+headline script old new ran text is none = ran.in_bytes text is none

@@ -1,2 +1,3 @@
-pub mod Table
+pub mod Named
+pub mod Replied
 pub mod Turns

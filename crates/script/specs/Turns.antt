@@ -7,4 +7,5 @@ use Rattle.model.specs.Text.{Answer, answer_text}
 
 -- the text is that of the answers of a line that takes its turn
 abbrev pub Says : ℕ → State → Reading → List ℕ → State → Type 0
-Says number before reading text after = (said : List Answer) × IsTurn number before reading said after × (text ≡ flat_map answer_text said)
+Says number before reading text after = (said : List Answer) × IsTurn number before reading said after
+    × (text ≡ flat_map answer_text said)

@@ -1,14 +1,11 @@
 //! Scripts of calls: from the bytes of a script to the bytes of its answers.
 #![tactic(auto)]
 
-mod object;
-mod objects;
-mod product;
+mod names;
+mod replies;
+mod resolving;
 mod running;
-#[cfg(test)]
-mod tests;
 mod text;
 
 pub use lines::{Line, LineFault, parse_line};
-pub use model::Command;
 pub use running::run;

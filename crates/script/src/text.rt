@@ -1,13 +1,15 @@
+//! Answers as text.
 ghost use Rattle.std.specs.Prelude.{◌≡◌, ◌+◌, ◌-◌, ◌<◌, ◌^◌, ◌++◌, ◌∷◌, [], OnOk, codes, decimal, length, map, take};
+ghost use Rattle.std.specs.Fmt.{signed_decimal};
 ghost use Rattle.std.specs.List.{All, flat_map};
-ghost use Rattle.model.specs.Object.{IsInside};
+ghost use Rattle.model.specs.Entries.{IsInside};
 ghost use Rattle.model.specs.Text.{canonical_lines, ended, entry_line, size_line, status_name, value_text};
-ghost use Rattle.script.specs.Table.{object_of};
+ghost use Rattle.session.specs.Objects.{object_of};
 
-use crate::object::Object;
 use algebra::Domain;
 use itoa::Buffer;
 use model::{Entry, Status};
+use session::Held;
 use std::alloc::AllocError;
 
 /// The first line of a canonical text (NIST Matrix Market, coordinate format).
@@ -34,22 +36,23 @@ pub fn write_number_line(out: &mut Vec<u8>, number: u64) -> Result<(), AllocErro
 }
 
 /// Appends a value as a data line.
-pub fn write_value_line(out: &mut Vec<u8>, domain: Domain, word: u64) -> Result<(), AllocError>
-    ensures { OnOk result (out.new.items ≡ out.old.items ++ flat_map ended (value_text domain word ∷ [])) }
+pub fn write_value_line(out: &mut Vec<u8>, value: i128) -> Result<(), AllocError>
+    ensures { OnOk result (out.new.items ≡ out.old.items ++ flat_map ended (signed_decimal value ∷ [])) }
 {
-    write_value(out, domain, word)?;
+    let mut buffer = Buffer::new();
+    out.extend_from_slice(buffer.format(value).as_bytes())?;
     out.push(b'\n')?;
     Ok(())
 }
 
 /// Appends an object's canonical text.
-pub fn write_object(out: &mut Vec<u8>, object: &Object) -> Result<(), AllocError>
-    ensures { OnOk result (out.new.items ≡ out.old.items ++ flat_map ended (canonical_lines (object_of object.now))) }
+pub fn write_object(out: &mut Vec<u8>, held: &Held) -> Result<(), AllocError>
+    ensures { OnOk result (out.new.items ≡ out.old.items ++ flat_map ended (canonical_lines (object_of held.now))) }
 {
-    let store = &object.store;
+    let store = &held.store;
     out.extend_from_slice(BANNER)?;
     write_size(out, store.rows(), store.cols(), store.nvals())?;
-    write_entries(out, object.domain, store.rows_in(0..store.rows()))
+    write_entries(out, held.domain, store.rows_in(0..store.rows()))
 }
 
 /// Appends the size line of a canonical text.

@@ -10,7 +10,7 @@ use Rattle.std.proofs.lemmas.List.Concat.{flat_map-append}
 use Rattle.std.proofs.lemmas.List.Elements.{All-nil, All-cons, All-tail, All-head, All-append, All-weaker, All-take, filter-append}
 use Rattle.algebra.specs.declared.semiring.Semiring.{Semiring}
 use Rattle.model.specs.declared.entry.Entry.{Entry}
-use Rattle.model.specs.Object.{entries_between, word_at, InOrder, Precedes}
+use Rattle.model.specs.Entries.{entries_between, word_at, InOrder, Precedes}
 use Rattle.store.specs.declared.rows.Row.{Row}
 use Rattle.store.specs.Rows.{entries_of_row, HasColumnsBelow}
 use Rattle.store.specs.Stored.{Stored, content_of, entries_in_row}

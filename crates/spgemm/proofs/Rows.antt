@@ -5,24 +5,18 @@ use Rattle.std.specs.Option.{option_to_list}
 use Rattle.std.specs.List.Sorted.{IsStableByKey}
 use Rattle.std.specs.Ordering.{is_lt, nat_cmp}
 use Rattle.std.proofs.lemmas.Bool.Decides.{nat_tests}
-use Rattle.std.specs.List.{All, AllPairs, Contains, filter, zip}
+use Rattle.std.specs.List.{All, Contains, filter, zip}
 use Rattle.std.proofs.lemmas.Bool.{cases_eq, eq-eqb, ne_eqb}
 use Rattle.std.proofs.lemmas.List.Elements.{All-weaker, All-map, All-contains, filter_agree}
 use Rattle.algebra.specs.declared.semiring.Semiring.{Semiring}
 use Rattle.model.specs.declared.entry.Entry.{Entry}
-use Rattle.model.specs.Object.{word_at, entry_at}
+use Rattle.model.specs.Entries.{word_at, entry_at}
 use Rattle.store.specs.declared.rows.Row.{Row}
 use Rattle.store.specs.Rows.{HasColumnsBelow}
 use Rattle.store.specs.Stored.{Stored}
-use Rattle.store.proofs.Order.{all_pairs_nil, all_pairs_cons, all_pairs_head, all_pairs_tail}
 use Rattle.spgemm.specs.declared.term.Term.{Term}
 use Rattle.spgemm.specs.Terms.{term_at, words_at, sum_at, terms_of_row, AreSums}
 use Rattle.spgemm.specs.Products.{IsRowOf, IsProductRow, entries_of_some, product_at}
-
-pub all_pairs_map : {X Y : Type 0} (R : Y → Y → Type 0) (f : X → Y) (xs : List X) → AllPairs (λ a b. R (f a) (f b)) xs → AllPairs R (map f xs)
-all_pairs_map R f [] h = all_pairs_nil R
-all_pairs_map R f (x ∷ xs) h =
-    all_pairs_cons R (f x) (map f xs) (All-map (R (f x)) f xs (all_pairs_head (λ a b. R (f a) (f b)) x xs h)) (all_pairs_map R f xs (all_pairs_tail (λ a b. R (f a) (f b)) x xs h))
 
 cons_from_list : (o : Option ℕ) (a : ℕ) (as' : List ℕ) → a ∷ as' ≡ option_to_list o → o ≡ Some a
 cons_from_list None a as' h = cc

@@ -2,11 +2,10 @@
 use Rattle.std.specs.Prelude.{ℕ, ◌≡◌, ◌<◌, ◌≤◌, List, [], ◌++◌, length, Option, Some, None, IfSome, map}
 use Rattle.std.specs.List.{All}
 use Rattle.algebra.specs.declared.semiring.Semiring.{Semiring}
-use Rattle.algebra.specs.Operators.{combines_by}
+use Rattle.algebra.specs.OperatorNames.{ring_named}
 use Rattle.model.specs.declared.entry.Entry.{Entry}
-use Rattle.model.specs.declared.names.Ring.{Ring}
-use Rattle.model.specs.Object.{word_at}
-use Rattle.model.specs.Product.{sum_domain, product}
+use Rattle.model.specs.Entries.{word_at}
+use Rattle.model.specs.Product.{product}
 use Rattle.store.specs.declared.rows.Row.{Row}
 use Rattle.store.specs.declared.rows.RowBlock.{RowBlock}
 use Rattle.store.specs.Rows.{entries_of_row, block_content, HasColumnsBelow}
@@ -17,7 +16,8 @@ use Rattle.spgemm.specs.Terms.{sum_at, terms_of_row}
 -- the row with a word at each of some columns; none where there is no column
 abbrev pub IsRowOf : ℕ → List Term → Option Row → Type 0
 IsRowOf index sums None = sums ≡ []
-IsRowOf index sums (Some row) = (row.index ≡ index) × (row.cols.items ≡ map (λ s. s.col) sums) × (row.words.items ≡ map (λ s. s.word) sums)
+IsRowOf index sums (Some row) =
+    (row.index ≡ index) × (row.cols.items ≡ map (λ s. s.col) sums) × (row.words.items ≡ map (λ s. s.word) sums)
 
 -- the entries of a row that may be none
 abbrev pub entries_of_some : Option Row → List Entry
@@ -30,7 +30,8 @@ abbrev pub product_at : Semiring → List Entry → Stored → ℕ → Option �
 product_at semiring row b col = sum_at semiring.add.op col (terms_of_row semiring.multiply row b)
 
 -- the row of the product that a row of A gives
-pub record IsProductRow (semiring : Semiring) (index : ℕ) (row : List Entry) (b : Stored) (product : Option Row) : Type 0 where
+pub record IsProductRow (semiring : Semiring) (index : ℕ) (row : List Entry) (b : Stored) (product : Option Row)
+    : Type 0 where
   pub index_is : IfSome product (λ row. row.index ≡ index)
   pub columns : IfSome product (HasColumnsBelow b.cols)
   pub words : (col : ℕ) → word_at (entries_of_some product) index col ≡ product_at semiring row b col
@@ -46,16 +47,10 @@ pub record StartsWithRow (index : ℕ) (row others all : List Entry) : Type 0 wh
   pub row_is : All (λ e. e.row ≡ index) row
   pub behind : All (λ e. index < e.row) others
 
--- the semiring has these names
-pub record IsNamed (ring : Ring) (semiring : Semiring) : Type 0 where
-  pub add : semiring.add.op.kind ≡ combines_by ring.add
-  pub add_domain : semiring.add.op.domain ≡ sum_domain ring
-  pub multiply : semiring.multiply.kind ≡ ring.multiply
-  pub multiply_domain : semiring.multiply.domain ≡ ring.domain
-
 -- the rows from first up to before past of the product of A and B
 pub record IsProductBlock (semiring : Semiring) (first past : ℕ) (a b : Stored) (block : RowBlock) : Type 0 where
   pub first_is : block.first ≡ first
   pub past_is : block.past ≡ past
   pub cols : All (HasColumnsBelow b.cols) block.rows.items
-  pub words : (ring : Ring) → IsNamed ring semiring → (i j : ℕ) → first ≤ i → i < past → block_content block i j ≡ product ring a.cols (content_of a) (content_of b) i j
+  pub words : (i j : ℕ) → first ≤ i → i < past
+      → block_content block i j ≡ product (ring_named semiring) a.cols (content_of a) (content_of b) i j

@@ -6,9 +6,9 @@ use crate::expand::expand;
 use crate::sums::sum_runs;
 use crate::term::Term;
 use algebra::Semiring;
-use model::Entry;
+use model::{Entry, NoMemory};
 use std::alloc::Global;
-use store::{NoMemory, Row, Store};
+use store::{Row, Store};
 
 /// Memory that serves one row after another.
 #[derive(Drop)]

@@ -6,7 +6,7 @@ use Rattle.std.proofs.lemmas.Bool.{cases_Bool, cases_eq, eqb-true, eq-eqb, ne_eq
 use Rattle.std.proofs.lemmas.Bool.Decides.{nat_tests}
 use Rattle.std.proofs.lemmas.List.Elements.{All-cons, All-tail, All-head, All-weaker, All-filter, filter_passes}
 use Rattle.model.specs.declared.entry.Entry.{Entry}
-use Rattle.model.specs.Object.{InOrder, IsInside, Precedes, entry_at, word_at, count_from, row_entries, entries_of, entries_between}
+use Rattle.model.specs.Entries.{InOrder, IsInside, Precedes, entry_at, word_at, count_from, row_entries, entries_of, entries_between}
 use Rattle.store.specs.Stored.{entries_in_row, entries_in_rows}
 use Rattle.store.proofs.Order.{all_pairs_head, all_pairs_tail, all_pairs_filter}
 use Rattle.store.proofs.Positions.{word_at-skip, word_at-here, word_at-none, filter_none, filter_whole, row_le}

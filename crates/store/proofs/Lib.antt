@@ -1,4 +1,5 @@
 pub mod Blocks
+pub mod CastLaws
 pub mod Content
 pub mod Order
 pub mod Positions

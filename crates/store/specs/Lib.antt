@@ -1,3 +1,4 @@
+pub mod Casts
 pub mod Entries
 pub mod Rows
 pub mod Stored

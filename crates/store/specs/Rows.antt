@@ -2,7 +2,8 @@
 use Rattle.std.specs.Prelude.{ℕ, ◌<◌, List, map}
 use Rattle.std.specs.List.{All, flat_map, zip}
 use Rattle.model.specs.declared.entry.Entry.{Entry}
-use Rattle.model.specs.Object.{Content, entry_at, word_at}
+use Rattle.model.specs.Entries.{entry_at, word_at}
+use Rattle.model.specs.Object.{Content}
 use Rattle.store.specs.declared.rows.Row.{Row}
 use Rattle.store.specs.declared.rows.RowBlock.{RowBlock}
 

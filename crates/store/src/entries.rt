@@ -1,13 +1,13 @@
 ghost use Rattle.std.specs.Prelude.{◌≡◌, ◌++◌, length, IfOk, IfErr, OnOk, OnErr};
 ghost use Rattle.std.specs.List.{HoldsAt};
 ghost use Rattle.std.specs.List.Sorted.{IsSearchInRange};
-ghost use Rattle.model.specs.Object.{word_at, InOrder};
+ghost use Rattle.model.specs.Entries.{word_at, InOrder};
 ghost use Rattle.store.specs.Stored.{entries_in_rows, entries_in_row};
 ghost use Rattle.store.specs.Entries.{IsAt, IsGap, HasSet};
 ghost use Rattle.store.specs.Rows.{entries_of_row};
 
-use crate::{NoMemory, Row};
-use model::Entry;
+use crate::Row;
+use model::{Entry, NoMemory};
 
 /// Where the entry at `row` and `col` stands, or where it would stand; by a binary search.
 fn seek(entries: &[Entry], row: u64, col: u64) -> Result<usize, usize>

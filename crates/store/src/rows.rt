@@ -1,5 +1,9 @@
-ghost use Rattle.std.specs.Prelude.{◌≡◌, ◌<◌, ◌≤◌, length};
+ghost use Rattle.std.specs.Prelude.{◌≡◌, ℕ, ◌<◌, ◌≤◌, length};
 ghost use Rattle.std.specs.List.{All, AllPairs};
+ghost use Rattle.model.specs.Object.{cast_content};
+
+use crate::casts::cast_rows;
+use algebra::Domain;
 
 /// The entries of one row: its columns, which rise, and beside each its word. A row with no entry
 /// is no `Row`.
@@ -22,4 +26,19 @@ pub struct RowBlock {
     pub rows: Vec<Row>,
     pub ghost rising: { AllPairs (λ a b. a.index < b.index) rows.items },
     pub ghost in_range: { All (λ row. (first ≤ row.index) × (row.index < past)) rows.items },
+}
+
+impl RowBlock {
+    ghost use Rattle.store.specs.Rows.{block_content, HasColumnsBelow};
+
+    /// Casts each word from one domain to another, in place.
+    pub fn cast(&mut self, from: Domain, to: Domain)
+        ensures first { self.new.first ≡ self.old.first }
+        ensures past { self.new.past ≡ self.old.past }
+        ensures cols { (cols : ℕ) → All (HasColumnsBelow cols) self.old.rows.items
+            → All (HasColumnsBelow cols) self.new.rows.items }
+        ensures content { (i j : ℕ) → block_content self.new i j ≡ cast_content from to (block_content self.old) i j }
+    {
+        cast_rows(&mut self.rows, from, to);
+    }
 }

@@ -1,16 +1,19 @@
 ghost use Rattle.std.specs.Prelude.{◌≡◌, ℕ, ◌<◌, ◌≤◌, None, length, OnOk, OnErr, IfOk};
 ghost use Rattle.std.specs.List.{All};
-ghost use Rattle.model.specs.Object.{entries_between, entries_of, row_entries, with_entry, InOrder, IsInside, IsWithin};
+ghost use Rattle.model.specs.Entries.{entries_between, entries_of, row_entries, InOrder, IsInside};
+ghost use Rattle.model.specs.Object.{cast_content, with_entry, IsWithin};
 
+use crate::casts::cast_entries;
 use crate::entries::{append, find, put, row_at, rows_between};
-use crate::{NoMemory, Row, RowBlock};
-use model::Entry;
+use crate::{Row, RowBlock};
+use algebra::Domain;
+use model::{Entry, NoMemory};
 use std::alloc::Global;
 use std::marker::Model;
 use std::ops::Range;
 
-/// What a matrix holds: its number of rows and of columns, and its entries in row-major order, at
-/// most one at a position (GraphBLAS C API 2.0, section 3.5.3).
+/// What a matrix holds (`GrB_Matrix` of GraphBLAS C API 2.0): its number of rows and of columns, and
+/// its entries in row-major order, at most one at a position.
 #[derive(Drop)]
 pub struct Store {
     rows: u64,
@@ -77,6 +80,18 @@ impl Store {
         Ok(Store { entries, ..*self })
     }
 
+    /// A store with the same shape, and each word cast from one domain to another, in memory of its
+    /// own. Every word is cast, also one that no value of its domain has.
+    pub fn cast(&self, from: Domain, to: Domain) -> Result<Store, NoMemory>
+        ensures shape { IfOk result (λ store. (store.rows ≡ self.now.rows) × (store.cols ≡ self.now.cols)) }
+        ensures content { IfOk result (λ store. (i j : ℕ)
+            → content_of store i j ≡ cast_content from to (content_of self.now) i j) }
+    {
+        let mut store = self.try_clone()?;
+        cast_entries(&mut store.entries, from, to);
+        Ok(store)
+    }
+
     /// The number of rows.
     pub fn rows(&self) -> u64
         ensures rows { result ≡ self.now.rows }
@@ -94,7 +109,7 @@ impl Store {
         self.cols
     }
 
-    /// The number of entries (GraphBLAS C API 2.0, section 4.2.5.5).
+    /// The number of entries (`GrB_Matrix_nvals`).
     pub fn nvals(&self) -> u64
         ensures { result ≡ length (entries_of self.now.rows self.now.cols (content_of self.now)) }
     {
@@ -133,7 +148,8 @@ impl Store {
     pub fn set(&mut self, i: u64, j: u64, word: u64) -> Result<(), NoMemory>
         requires row { i < self.old.rows }
         requires col { j < self.old.cols }
-        ensures content { OnOk result ((p q : ℕ) → content_of self.new p q ≡ with_entry (content_of self.old) i j word p q) }
+        ensures content { OnOk result ((p q : ℕ)
+            → content_of self.new p q ≡ with_entry (content_of self.old) i j word p q) }
         ensures rows { self.new.rows ≡ self.old.rows }
         ensures cols { self.new.cols ≡ self.old.cols }
         ensures refused { OnErr result (self.new ≡ self.old) }
@@ -160,33 +176,4 @@ fn count(rows: &[Row]) -> usize {
         total = total.saturating_add(row.cols.len());
     }
     total
-}
-
-#[cfg(test)]
-mod tests {
-    use super::*;
-
-    #[test]
-    fn sets_and_reads(rt: HostRuntime) -> Result<(), NoMemory> {
-        let mut store = Store::new(rt.alloc(), 4, 4294967296);
-        store.set(2, 7, 27)?;
-        store.set(0, 4294967295, 9)?;
-        store.set(2, 3, 23)?;
-        store.set(2, 7, 28)?;
-        assert_eq!(rt; store.nvals(), 3);
-        assert_eq!(rt; (store.rows(), store.cols()), (4, 4294967296));
-        assert_eq!(rt; store.get(2, 7), Some(28));
-        assert_eq!(rt; store.get(2, 4), None);
-        let copy = store.try_clone()?;
-        store.set(3, 0, 30)?;
-        assert_eq!(rt; copy.nvals(), 3);
-        for (range, words) in [(0..4, [9, 23, 28]), (2..9, [23, 28, 30])] {
-            let entries = store.rows_in(range);
-            for (entry, word) in entries.iter().zip(&words) {
-                assert_eq!(rt; entry.word, *word);
-            }
-        }
-        assert_eq!(rt; store.rows_in(3..3).len(), 0);
-        Ok(())
-    }
 }

@@ -3,8 +3,10 @@ use Rattle.std.proofs.Common.{◌≡◌, rules, arith, sym, subst, ap, ◌++◌,
 use Rattle.std.proofs.lemmas.List.{nil_from_length}
 use Rattle.model.specs.Run.{Environment}
 use Rattle.model.specs.Runs.{State, first_state}
-use Rattle.script.specs.Table.{state_in}
-use Rattle.script.proofs.RunLaws.{IsUnderWay, on_err, ran-all, ran-so_far, under_way-start, under_way-turn}
+use Rattle.script.specs.Named.{state_in}
+use Rattle.model.specs.Grammar.{Name}
+use Rattle.script.proofs.TextLaws.{on_err}
+use Rattle.script.proofs.RunLaws.{IsUnderWay, headline, ran-all, ran-so_far, under_way-start, under_way-turn}
 use Rattle.script.proofs.running.run.Goals as goal
 
 pub returns-in_err-text-clause-err : goal.returns-in_err-text-clause-err
@@ -13,29 +15,40 @@ returns-in_err-text-clause-err c =
 
 pub loop-rest-init : goal.loop-rest-init
 loop-rest-init c = record {
-  way = subst (λ state. IsUnderWay c.args.script.now c.args.script.now state 1 c.args.out.now.items c.args.out.now.items) (sym (ap (λ (e : Environment). let s : State = record { environment = e } in s) c.new-objects.ensures)) (under_way-start c.args.script.now c.args.out.now.items);
+  way = subst (λ state. IsUnderWay c.args.script.now c.args.script.now state 1 c.args.out.now.items c.args.out.now.items) (sym (ap (λ (e : Environment Name). let s : State = record { environment = e } in s) c.new-names.ensures.environment)) (under_way-start c.args.script.now c.args.out.now.items);
+  made = rw c.new-names.ensures.made (omega arith);
   numbered = omega arith;
 }
 
 pub returns-in_err-answer_line-clause-err : goal.returns-in_err-answer_line-clause-err
 returns-in_err-answer_line-clause-err c =
-    on_err c.from_residual-in_err-answer_line.result (ran-so_far c.args.script.now c.loop-rest.rest.now (state_in c.loop-rest.objects) c.loop-rest.number c.args.out.now.items c.loop-rest.out.items c.loop-rest.invariant.way)
+    on_err c.from_residual-in_err-answer_line.result (ran-so_far c.args.script.now c.loop-rest.rest.now (state_in c.loop-rest.names) c.loop-rest.number c.args.out.now.items c.loop-rest.out.items c.loop-rest.invariant.way)
 
 pub returns-in_err-extend_from_slice-clause-err : goal.returns-in_err-extend_from_slice-clause-err
 returns-in_err-extend_from_slice-clause-err c =
     let kept : c.extend_from_slice.new.self.items ≡ c.loop-rest.out.items = search rules in
-    rw kept (on_err c.from_residual-in_err-extend_from_slice.result (ran-so_far c.args.script.now c.loop-rest.rest.now (state_in c.loop-rest.objects) c.loop-rest.number c.args.out.now.items c.loop-rest.out.items c.loop-rest.invariant.way))
+    rw kept (on_err c.from_residual-in_err-extend_from_slice.result (ran-so_far c.args.script.now c.loop-rest.rest.now (state_in c.loop-rest.names) c.loop-rest.number c.args.out.now.items c.loop-rest.out.items c.loop-rest.invariant.way))
 
 pub loop-rest-preserved : goal.loop-rest-preserved
 loop-rest-preserved c =
     let grown : c.extend_from_slice.new.self.items ≡ c.loop-rest.out.items ++ c.answer_line.new.text.items = search rules in
     record {
-      way = rw grown (under_way-turn c.args.script.now c.loop-rest.rest.now c.first_line.result.1.now c.first_line.result.0.now (state_in c.loop-rest.objects) (state_in c.answer_line.new.objects)
-          c.loop-rest.number c.args.out.now.items c.loop-rest.out.items c.answer_line.new.text.items c.first_line.ensures.lines c.in_ok-answer_line.ensures c.loop-rest.invariant.way);
+      way = rw grown (under_way-turn c.args.script.now c.loop-rest.rest.now c.first_line.result.1.now c.first_line.result.0.now (state_in c.loop-rest.names) (state_in c.answer_line.new.names)
+          c.loop-rest.number c.args.out.now.items c.loop-rest.out.items c.answer_line.new.text.items c.first_line.ensures.lines c.in_ok-answer_line.ensures.says c.loop-rest.invariant.way);
+      made = omega (arith, c.in_ok-answer_line.ensures.made);
       numbered = omega arith;
     }
 
 pub returns-clause-ok : goal.returns-clause-ok
 returns-clause-ok c =
     let ended : c.loop-rest.rest.now ≡ [] = nil_from_length c.loop-rest.rest.now (search rules) in
-    ran-all c.args.script.now (state_in c.loop-rest.objects) c.loop-rest.number c.args.out.now.items c.loop-rest.out.items (rw ended at c.loop-rest.invariant.way)
+    ran-all c.args.script.now (state_in c.loop-rest.names) c.loop-rest.number c.args.out.now.items c.loop-rest.out.items (rw ended at c.loop-rest.invariant.way)
+
+pub returns-clause-headline : goal.returns-clause-headline
+returns-clause-headline c =
+    let ended : c.loop-rest.rest.now ≡ [] = nil_from_length c.loop-rest.rest.now (search rules) in
+    headline c.args.script.now c.args.out.now.items c.loop-rest.out.items
+    (ran-all c.args.script.now (state_in c.loop-rest.names) c.loop-rest.number c.args.out.now.items c.loop-rest.out.items (rw ended at c.loop-rest.invariant.way))
+
+pub answer_line-requires-clause-made : goal.answer_line-requires-clause-made
+answer_line-requires-clause-made c = omega arith

@@ -1,12 +1,14 @@
-use Rattle.std.proofs.Common.{◌+◌, ◌≤◌, length}
-use Rattle.script.specs.Table.{state_in}
+use Rattle.std.proofs.Common.{◌+◌, ◌≤◌, ◌<◌, length}
+use Rattle.script.specs.Named.{state_in}
+use Rattle.session.specs.Performed.{made_in}
 use Rattle.script.proofs.RunLaws.{IsUnderWay}
 use Rattle.script.proofs.running.run.Given as goal
 
--- the lines so far are answered, and each has at least a byte
+-- the lines so far are answered, each made at most one object, and each has at least a byte
 abbrev pub invariant-loop-rest : goal.invariant-loop-rest
 invariant-loop-rest l = record {
-  way : IsUnderWay l.script l.rest (state_in l.objects) l.number l.initial.out.items l.out.items;
+  way : IsUnderWay l.script l.rest (state_in l.names) l.number l.initial.out.items l.out.items;
+  made : made_in l.names.session < l.number;
   numbered : l.number + length l.rest ≤ length l.script + 1;
 }
 

@@ -36,7 +36,7 @@ returns c =
       first_is = refl;
       past_is = refl;
       cols = c.loop-index.invariant.cols;
-      words = λ ring names i j low high.
+      words = λ i j low high.
           done_all semiring range.start range.end a b c.loop-index.rows.items c.loop-index.rest.now c.loop-index.invariant c.in_default.ensures i j
-          ∙ rows_product_is ring semiring range.start range.end i j a b names c.rows.ensures.within low high;
+          ∙ rows_product_is semiring range.start range.end i j a b c.rows.ensures.within low high;
     }

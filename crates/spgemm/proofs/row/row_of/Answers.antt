@@ -2,7 +2,7 @@ use Rattle.std.proofs.Common.{◌≡◌, ◌<◌, arith, map, subst, sym, refl}
 use Rattle.std.specs.List.{AllPairs}
 use Rattle.std.proofs.lemmas.List.{length-map, take_all}
 use Rattle.std.proofs.lemmas.Bool.Decides.{nat_tests}
-use Rattle.spgemm.proofs.Rows.{all_pairs_map}
+use Rattle.store.proofs.Order.{all_pairs_map}
 use Rattle.spgemm.proofs.row.row_of.Goals as goal
 
 pub invariant_of-result : goal.invariant_of-result

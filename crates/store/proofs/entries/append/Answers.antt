@@ -3,7 +3,7 @@ use Rattle.std.proofs.lemmas.Iterator.{YieldsList-from_slice, YieldsList-from_zi
 use Rattle.std.proofs.lemmas.Iterator.Consumers.{YieldsList-at}
 use Rattle.std.proofs.lemmas.Iterator.Adapters.{items_from_extend}
 use Rattle.std.proofs.lemmas.Result.{IfOk-at_ok}
-use Rattle.model.specs.Object.{entry_at}
+use Rattle.model.specs.Entries.{entry_at}
 use Rattle.store.proofs.entries.append.Goals as goal
 
 pub returns : goal.returns

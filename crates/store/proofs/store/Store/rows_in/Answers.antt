@@ -1,6 +1,6 @@
 use Rattle.std.proofs.Common.{◌≡◌, ◌<◌, ◌&&◌, leb, ltb, ap, sym, ◌∙◌, subst}
 use Rattle.std.proofs.lemmas.List.Elements.{All-same, All-filter}
-use Rattle.model.specs.Object.{InOrder, Precedes}
+use Rattle.model.specs.Entries.{InOrder, Precedes}
 use Rattle.store.specs.Stored.{Stored, IsStored, entries_in_rows}
 use Rattle.store.proofs.Content.{entries_between-words}
 use Rattle.store.proofs.Order.{all_pairs_filter}

@@ -1,0 +1,82 @@
+ghost use Rattle.std.specs.Prelude.{IfOk};
+ghost use Rattle.calls.specs.Roles.{role_of};
+ghost use Rattle.kernel.specs.Evaluated.{AreInputs};
+ghost use Rattle.session.specs.Performed.{environment_of};
+ghost use Rattle.session.specs.Results.{IsStoreOf};
+
+use crate::sessions::{PLUS_TIMES, plain};
+use algebra::Domain;
+use calls::{Call, Checked, Obj, Operation, Out, Place, Recipe, Roles, Shape, by_role, check};
+use kernel::{eval_piece, join};
+use model::Status;
+use session::Session;
+use store::Store;
+
+fn store_of(session: &Session, object: Obj) -> Result<&Store, Status>
+    ensures { IfOk result (λ store. IsStoreOf (environment_of session.now) object store.now) }
+{
+    Ok(&session.held(object)?.store)
+}
+
+fn recipe_on<'a>(
+    session: &'a Session,
+    out: &Out<Obj>,
+    operation: &Operation<Obj>,
+) -> Result<(Recipe, Roles<&'a Store>), Status>
+    ensures { IfOk result (λ found. AreInputs found.0 (λ role. (role_of found.1 role).now)) }
+{
+    let call: Call<Obj, ()> = Call::Operate {
+        out: *out,
+        operation: *operation,
+    };
+    let Checked::Operation(recipe) = check(&call, session)? else {
+        return Err(Status::InvalidObject);
+    };
+    let objects = by_role(out, operation);
+    let stores = Roles {
+        old: store_of(session, objects.old)?,
+        mask: store_of(session, objects.mask)?,
+        first: store_of(session, objects.first)?,
+        second: store_of(session, objects.second)?,
+    };
+    Ok((recipe, stores))
+}
+
+#[test]
+fn evaluates_a_part_of_the_rows(rt: HostRuntime) -> Result<(), Status> {
+    let alloc = rt.alloc();
+    let mut session = Session::new(alloc);
+    let a = session.create(Domain::Int64, Shape::Two(3, 2))?;
+    let b = session.create(Domain::Int64, Shape::Two(2, 2))?;
+    let c = session.create(Domain::Bool, Shape::Two(3, 2))?;
+    for (object, place, value) in [
+        (a, Place::Two(0, 1), 4),
+        (a, Place::Two(1, 0), 1),
+        (a, Place::Two(1, 1), 2),
+        (a, Place::Two(2, 1), 5),
+        (b, Place::Two(0, 0), -6),
+        (b, Place::Two(1, 0), 3),
+        (b, Place::Two(1, 1), 9),
+    ] {
+        session.set(object, place, value)?;
+    }
+    let ring = PLUS_TIMES;
+    let (recipe, stores) = recipe_on(&session, &plain(c), &Operation::Multiply { ring, a, b })?;
+    let rows = recipe.signatures.of(recipe.out.c).shape.rows();
+    assert_eq!(rt; rows, 3);
+    let part = eval_piece(alloc, &recipe, &stores, 1..2)?;
+    assert_eq!(rt; (part.first, part.past, part.rows.len()), (1, 2, 1));
+    for row in &part.rows {
+        assert_eq!(rt; (row.index, row.cols.as_slice()), (1, [0, 1].as_slice()));
+        // -6 + 2 * 3 is 0, and 2 * 9 isn't.
+        assert_eq!(rt; row.words.as_slice(), [0, 1].as_slice());
+    }
+    let whole = join(
+        alloc,
+        &recipe,
+        &eval_piece(alloc, &recipe, &stores, 0..rows)?,
+    )?;
+    assert_eq!(rt; (whole.rows(), whole.cols(), whole.nvals()), (3, 2, 6));
+    assert_eq!(rt; (whole.get(1, 0), whole.get(2, 1)), (Some(0), Some(1)));
+    Ok(())
+}

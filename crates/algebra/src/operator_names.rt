@@ -1,0 +1,152 @@
+ghost use Rattle.std.specs.Prelude.{◌≡◌, MatchOption, true, false};
+ghost use Rattle.algebra.specs.IndexOperators.{offers_index};
+ghost use Rattle.algebra.specs.OperatorNames.{index_named, monoid_named, op_named, ring_named, unary_named};
+ghost use Rattle.algebra.specs.Operators.{answer_domain, combines_by, offers, offers_semiring};
+ghost use Rattle.algebra.specs.UnaryOperators.{offers_unary};
+
+use crate::{
+    BinaryKind, BinaryOp, Domain, IndexKind, IndexOp, Monoid, MonoidKind, Semiring, UnaryKind,
+    UnaryOp,
+};
+
+/// A binary operator by its kind and the domain of its inputs. Not every such name is one of an
+/// operator that there is.
+#[derive(Clone, Copy, Debug, PartialEq, Eq)]
+pub struct OpName {
+    pub kind: BinaryKind,
+    pub domain: Domain,
+}
+
+impl OpName {
+    /// Whether there is an operator of this name.
+    pub const fn is_offered(self) -> bool
+        ensures { result ≡ offers self.kind self.domain }
+    {
+        self.kind.is_on(self.domain)
+    }
+
+    /// The domain of the answer: BOOL for a comparison, else that of the inputs.
+    pub const fn answer(self) -> Domain
+        ensures { result ≡ answer_domain self.kind self.domain }
+    {
+        self.kind.answer(self.domain)
+    }
+
+    /// The operator of the name; None where there is none.
+    pub fn resolve(self) -> Option<BinaryOp>
+        ensures { MatchOption result
+            (offers self.kind self.domain ≡ false)
+            (λ op. (offers self.kind self.domain ≡ true) × (op_named op ≡ self)) }
+    {
+        BinaryOp::new(self.kind, self.domain)
+    }
+}
+
+/// A unary operator by its kind and its domain, perhaps of none that there is.
+#[derive(Clone, Copy, Debug, PartialEq, Eq)]
+pub struct UnaryName {
+    pub kind: UnaryKind,
+    pub domain: Domain,
+}
+
+impl UnaryName {
+    /// Whether there is an operator of this name.
+    pub const fn is_offered(self) -> bool
+        ensures { result ≡ offers_unary self.kind self.domain }
+    {
+        self.kind.is_on(self.domain)
+    }
+
+    /// The operator of the name; None where there is none.
+    pub fn resolve(self) -> Option<UnaryOp>
+        ensures { MatchOption result
+            (offers_unary self.kind self.domain ≡ false)
+            (λ op. (offers_unary self.kind self.domain ≡ true) × (unary_named op ≡ self)) }
+    {
+        UnaryOp::new(self.kind, self.domain)
+    }
+}
+
+/// An index operator by its kind and the domain of its values, perhaps of none that there is.
+#[derive(Clone, Copy, Debug, PartialEq, Eq)]
+pub struct IndexName {
+    pub kind: IndexKind,
+    pub domain: Domain,
+}
+
+impl IndexName {
+    /// Whether there is an operator of this name.
+    pub const fn is_offered(self) -> bool
+        ensures { result ≡ offers_index self.kind self.domain }
+    {
+        self.kind.is_on(self.domain)
+    }
+
+    /// The operator of the name; None where there is none.
+    pub fn resolve(self) -> Option<IndexOp>
+        ensures { MatchOption result
+            (offers_index self.kind self.domain ≡ false)
+            (λ op. (offers_index self.kind self.domain ≡ true) × (index_named op ≡ self)) }
+    {
+        IndexOp::new(self.kind, self.domain)
+    }
+}
+
+/// A monoid by its kind and its domain, perhaps of none that there is.
+#[derive(Clone, Copy, Debug, PartialEq, Eq)]
+pub struct MonoidName {
+    pub kind: MonoidKind,
+    pub domain: Domain,
+}
+
+impl MonoidName {
+    /// Whether there is a monoid of this name.
+    pub const fn is_offered(self) -> bool
+        ensures { result ≡ offers (combines_by self.kind) self.domain }
+    {
+        self.kind.operator().is_on(self.domain)
+    }
+
+    /// The monoid of the name; None where there is none.
+    pub fn resolve(self) -> Option<Monoid>
+        ensures { MatchOption result
+            (offers (combines_by self.kind) self.domain ≡ false)
+            (λ monoid. (offers (combines_by self.kind) self.domain ≡ true) × (monoid_named monoid ≡ self)) }
+    {
+        Monoid::new(self.kind, self.domain)
+    }
+}
+
+/// A semiring by the kinds of its monoid and of its operator, and the domain of the operator's
+/// inputs, perhaps of none that there is.
+#[derive(Clone, Copy, Debug, PartialEq, Eq)]
+pub struct RingName {
+    pub add: MonoidKind,
+    pub multiply: BinaryKind,
+    pub domain: Domain,
+}
+
+impl RingName {
+    /// Whether there is a semiring of this name.
+    pub const fn is_offered(self) -> bool
+        ensures { result ≡ offers_semiring self.add self.multiply self.domain }
+    {
+        self.multiply.is_on(self.domain) && self.add.operator().is_on(self.answer())
+    }
+
+    /// The domain of the sums: that of the operator's answers.
+    pub const fn answer(self) -> Domain
+        ensures { result ≡ answer_domain self.multiply self.domain }
+    {
+        self.multiply.answer(self.domain)
+    }
+
+    /// The semiring of the name; None where there is none.
+    pub fn resolve(self) -> Option<Semiring>
+        ensures { MatchOption result
+            (offers_semiring self.add self.multiply self.domain ≡ false)
+            (λ ring. (offers_semiring self.add self.multiply self.domain ≡ true) × (ring_named ring ≡ self)) }
+    {
+        Semiring::new(self.add, self.multiply, self.domain)
+    }
+}

@@ -1,0 +1,4 @@
+pub mod Checks
+pub mod Recipes
+pub mod Roles
+pub mod Steps

@@ -1,0 +1,71 @@
+//! The roles that an operation's objects have in it.
+ghost use Rattle.std.specs.Prelude.{◌≡◌};
+ghost use Rattle.calls.specs.Roles.{out_by_role, role_of, roles_of};
+
+use model::{Operation, Out};
+
+/// Which of an operation's objects one is.
+#[derive(Clone, Copy)]
+pub enum Role {
+    /// The output, with what it has before the call.
+    Old,
+    Mask,
+    First,
+    Second,
+}
+
+/// One thing for each role. Where an operation has no object in a role, the role has the thing of
+/// another one, which is not looked at.
+#[derive(Clone, Copy)]
+pub struct Roles<T> {
+    pub old: T,
+    pub mask: T,
+    pub first: T,
+    pub second: T,
+}
+
+impl<T: Copy> Roles<T> {
+    /// What has a role.
+    pub fn of(&self, role: Role) -> T
+        ensures { result ≡ role_of self.now role }
+    {
+        match role {
+            Role::Old => self.old,
+            Role::Mask => self.mask,
+            Role::First => self.first,
+            Role::Second => self.second,
+        }
+    }
+}
+
+/// The objects of an operation by their roles.
+pub fn by_role<K: Copy>(out: &Out<K>, operation: &Operation<K>) -> Roles<K>
+    ensures { result ≡ roles_of out.now operation.now }
+{
+    let old = out.c;
+    let mask = out.mask.unwrap_or(old);
+    match *operation {
+        Operation::Multiply { a, b, .. } => Roles {
+            old,
+            mask,
+            first: a,
+            second: b,
+        },
+    }
+}
+
+/// An output whose objects are roles.
+pub(crate) fn out_by_role<K>(out: &Out<K>) -> Out<Role>
+    ensures { result ≡ out_by_role out.now }
+{
+    let mask = match out.mask {
+        Some(_) => Some(Role::Mask),
+        None => None,
+    };
+    Out {
+        c: Role::Old,
+        mask,
+        accum: out.accum,
+        desc: out.desc,
+    }
+}

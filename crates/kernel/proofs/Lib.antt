@@ -1,0 +1,3 @@
+pub mod Accepted
+pub mod ProductLaws
+pub mod Wholes

@@ -1,0 +1,8 @@
+//! What recipes give: blocks of rows of an operation's result, and the store that they join to.
+#![tactic(auto)]
+
+mod casts;
+mod piece;
+mod product;
+
+pub use piece::{eval_piece, join};

@@ -1,0 +1,66 @@
+//! Pieces of a recipe's result.
+ghost use Rattle.std.specs.Prelude.{◌≡◌, ℕ, ◌<◌, ◌≤◌, IfOk};
+ghost use Rattle.std.specs.List.{All};
+ghost use Rattle.calls.specs.Recipes.{meaning};
+ghost use Rattle.calls.specs.Roles.{role_of};
+ghost use Rattle.kernel.specs.Evaluated.{AreInputs, object_in, output_of};
+ghost use Rattle.model.specs.Object.{cols_of, rows_of};
+ghost use Rattle.store.specs.Rows.{HasColumnsBelow, block_content};
+ghost use Rattle.store.specs.Stored.{content_of};
+
+use crate::product::{Input, product_rows};
+use calls::{Recipe, Role, Roles};
+use model::NoMemory;
+use std::alloc::Global;
+use std::ops::Range;
+use store::{RowBlock, Store};
+
+/// The store of a role, with the domain that the recipe names for it.
+fn input<'a>(recipe: &Recipe, stores: &Roles<&'a Store>, role: Role) -> Input<'a>
+    ensures store { result.store.now ≡ (role_of stores.now role).now }
+    ensures domain { result.domain ≡ (role_of recipe.now.signatures role).domain }
+{
+    Input {
+        store: stores.of(role),
+        domain: recipe.signatures.of(role).domain,
+    }
+}
+
+/// The rows in a range of what a recipe gives of the stores that take its roles: its operation's
+/// result, accumulated, masked and written back. Its time and memory are those of the operation on
+/// these rows.
+pub fn eval_piece(
+    alloc: Global,
+    recipe: &Recipe,
+    stores: &Roles<&Store>,
+    range: Range<u64>,
+) -> Result<RowBlock, NoMemory>
+    requires inputs { AreInputs recipe.now (λ role. (role_of stores.now role).now) }
+    requires range { range.start ≤ range.end }
+    requires rows { range.end ≤ rows_of (output_of recipe.now).shape }
+    ensures first { IfOk result (λ block. block.first ≡ range.start) }
+    ensures past { IfOk result (λ block. block.past ≡ range.end) }
+    ensures cols { IfOk result (λ block. All (HasColumnsBelow
+        (cols_of (output_of recipe.now).shape)) block.rows.items) }
+    ensures words { IfOk result (λ block. (i j : ℕ) → range.start ≤ i → i < range.end
+        → block_content block i j ≡ meaning recipe.now
+        (object_in recipe.now (λ role. (role_of stores.now role).now)) i j) }
+{
+    let to = recipe.signatures.of(recipe.out.c).domain;
+    let a = input(recipe, stores, recipe.step.a);
+    let b = input(recipe, stores, recipe.step.b);
+    product_rows(alloc, recipe.step.ring, a, b, to, range)
+}
+
+/// The store of what a recipe gives, of the block that holds all its rows. It takes memory for the
+/// entries once, and time in proportion to their number.
+pub fn join(alloc: Global, recipe: &Recipe, block: &RowBlock) -> Result<Store, NoMemory>
+    requires past { block.now.past ≡ rows_of (output_of recipe.now).shape }
+    requires cols { All (HasColumnsBelow (cols_of (output_of recipe.now).shape)) block.now.rows.items }
+    ensures rows { IfOk result (λ store. store.rows ≡ rows_of (output_of recipe.now).shape) }
+    ensures cols { IfOk result (λ store. store.cols ≡ cols_of (output_of recipe.now).shape) }
+    ensures content { IfOk result (λ store. (i j : ℕ) → content_of store i j ≡ block_content block.now i j) }
+{
+    let shape = recipe.signatures.of(recipe.out.c).shape;
+    Store::from_rows(alloc, shape.rows(), shape.cols(), block)
+}

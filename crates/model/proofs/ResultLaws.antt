@@ -1,0 +1,185 @@
+-- What an accepted operation leaves in its output is an object again.
+use Rattle.std.proofs.Common.{◌≡◌, ℕ, ◌&&◌, Bool, true, false, cond, List, [], ◌∷◌, Option, Some, None, refl, subst, inl, inr}
+use Rattle.std.specs.Prelude.{nat_lt}
+use Rattle.std.specs.List.{All}
+use Rattle.std.specs.Option.{option_map_or}
+use Rattle.std.proofs.lemmas.Bool.{and_parts, cases_Bool}
+use Rattle.std.proofs.lemmas.List.Elements.{All-cons, All-head, All-nil, All-tail}
+use Rattle.algebra.proofs.Words.{IsWordOf-eval}
+use Rattle.algebra.specs.declared.domain.Domain.{Domain}
+use Rattle.algebra.specs.declared.operator_names.OpName.{OpName}
+use Rattle.algebra.specs.Operators.{answer_domain, eval_of, offers}
+use Rattle.algebra.specs.Value.{IsWordOf, same_domain}
+use Rattle.model.specs.declared.call.Desc.{Desc}
+use Rattle.model.specs.declared.call.Operation.{Operation}
+use Rattle.model.specs.declared.call.Operation.TheVariants.{Multiply}
+use Rattle.model.specs.declared.call.Out.{Out}
+use Rattle.model.specs.declared.shape.Shape.{Shape}
+use Rattle.model.specs.declared.shape.Shape.TheVariants.{One, Two}
+use Rattle.model.specs.Come.{operation_has_come, out_has_come}
+use Rattle.model.specs.Fault.{accumulates, operation_fault, plan_in}
+use Rattle.model.specs.Object.{AreWordsOf, Content, IsObject, IsWithin, Object, cast_content, cols_of, in_domain, rows_of, signature_of, turned_object, turned_signature}
+use Rattle.model.specs.Operations.{operation}
+use Rattle.model.specs.Renamed.{inputs_of, renamed_operation, renamed_out}
+use Rattle.model.specs.Table.{is_offered, plan_of, turned, turned_if}
+use Rattle.model.specs.WriteBack.{accumulated, accumulated_by, mask_set, result_of, written}
+use Rattle.model.proofs.ObjectLaws.{cast_content-within, cast_content-words, same_domain-true, same_shape-rows}
+use Rattle.model.proofs.ProductLaws.{product-no_col, product-no_row}
+use Rattle.model.proofs.WriteBackLaws.{accepted-implemented, accepted-shapes}
+
+-- ---- inside the shape of what is computed
+
+beyond_col : (low : Bool) → (low && false) ≡ false
+beyond_col true = refl
+beyond_col false = refl
+
+-- an object's map lies inside its shape
+abbrev pub KeepsInside : Object → Type 0
+KeepsInside o = IsWithin (rows_of o.shape) (cols_of o.shape) o.content
+
+pub operation-within : (op : Operation Object) → All KeepsInside (inputs_of op)
+    → let shape = (plan_of (renamed_operation signature_of op)).shape in IsWithin (rows_of shape) (cols_of shape) (operation op)
+unfolding operation
+operation-within (Multiply ring a b) inside i j outside =
+    let first = All-head KeepsInside a (b ∷ []) inside in
+    let second = All-head KeepsInside b [] (All-tail KeepsInside a (b ∷ []) inside) in
+    elim (cases_Bool (nat_lt i (rows_of a.shape))) [
+      | inl inside ↦
+          let past : nat_lt j (cols_of b.shape) ≡ false = rw inside at outside in
+          product-no_col ring (cols_of a.shape) (in_domain ring.domain a) (in_domain ring.domain b) i j
+          (λ k. cast_content-within b.domain ring.domain (rows_of b.shape) (cols_of b.shape) b.content second k j (rw past (beyond_col (nat_lt k (rows_of b.shape)))))
+      | inr past ↦
+          product-no_row ring (cols_of a.shape) (in_domain ring.domain a) (in_domain ring.domain b) i j
+          (λ k. cast_content-within a.domain ring.domain (rows_of a.shape) (cols_of a.shape) a.content first i k (rw past refl))
+    ]
+
+-- ---- transposed inputs
+
+and_turned : (a b : Bool) → (a && b) ≡ false → (b && a) ≡ false
+and_turned true true h = h
+and_turned true false h = refl
+and_turned false true h = refl
+and_turned false false h = refl
+
+turned_as-within : (domain : Domain) (shape : Shape) (c : Content) → IsWithin (rows_of shape) (cols_of shape) c
+    → KeepsInside (turned_object (record { domain = domain; shape = shape; content = c }))
+turned_as-within domain (Two m n) c inside = λ i j outside. inside j i (and_turned (nat_lt i n) (nat_lt j m) outside)
+turned_as-within domain (One n) c inside = inside
+
+turned_if-within : (flag : Bool) (o : Object) → KeepsInside o → KeepsInside (turned_if turned_object flag o)
+turned_if-within true o inside = turned_as-within o.domain o.shape o.content inside
+turned_if-within false o inside = inside
+
+turned-within : (desc : Desc) (op : Operation Object) → All KeepsInside (inputs_of op) → All KeepsInside (inputs_of (turned turned_object desc op))
+turned-within desc (Multiply ring a b) inside =
+    let first = All-head KeepsInside a (b ∷ []) inside in
+    let second = All-head KeepsInside b [] (All-tail KeepsInside a (b ∷ []) inside) in
+    let a' = turned_if turned_object desc.turn_first a in
+    let b' = turned_if turned_object desc.turn_second b in
+    All-cons KeepsInside a' (b' ∷ []) (turned_if-within desc.turn_first a first)
+    (All-cons KeepsInside b' [] (turned_if-within desc.turn_second b second) (All-nil KeepsInside))
+
+turned_if-signature : (flag : Bool) (o : Object) → signature_of (turned_if turned_object flag o) ≡ turned_if turned_signature flag (signature_of o)
+turned_if-signature true o = refl
+turned_if-signature false o = refl
+
+turned-signature : (desc : Desc) (op : Operation Object) → renamed_operation signature_of (turned turned_object desc op) ≡ turned turned_signature desc (renamed_operation signature_of op)
+turned-signature desc (Multiply ring a b) = rw (turned_if-signature desc.turn_first a, turned_if-signature desc.turn_second b) refl
+
+-- ---- write-back
+
+accumulated-none : (accum : Option OpName) → accumulated_by accum None None ≡ None
+accumulated-none None = refl
+accumulated-none (Some op) = refl
+
+chosen-none : (test replace : Bool) (x y : Option ℕ) → x ≡ None → y ≡ None → cond test x (cond replace None y) ≡ None
+chosen-none true replace x y first second = first
+chosen-none false true x y first second = refl
+chosen-none false false x y first second = second
+
+written-within : (out : Out Object) (values : Content) (rows cols : ℕ) → IsWithin rows cols out.c.content → IsWithin rows cols values → IsWithin rows cols (written out values)
+written-within out values rows cols old new i j outside =
+    chosen-none (mask_set out i j) out.desc.replace (accumulated_by out.accum (out.c.content i j) (values i j)) (out.c.content i j)
+    (rw (old i j outside, new i j outside) (accumulated-none out.accum)) (old i j outside)
+
+-- the accumulator, where there is one, gives words of the output's domain
+abbrev AccumulatesIn : Domain → Option OpName → Type 0
+AccumulatesIn domain None = Unit {0}
+AccumulatesIn domain (Some op) = answer_domain op.kind op.domain ≡ domain
+
+accumulated-word : (domain : Domain) (op : OpName) (old new : Option ℕ) (word : ℕ) → answer_domain op.kind op.domain ≡ domain
+    → ((w : ℕ) → old ≡ Some w → IsWordOf domain w) → ((w : ℕ) → new ≡ Some w → IsWordOf domain w) → accumulated op old new ≡ Some word → IsWordOf domain word
+accumulated-word domain op None new word gives olds news is = news word is
+accumulated-word domain op (Some x) None word gives olds news is = olds word is
+accumulated-word domain op (Some x) (Some y) word gives olds news is =
+    let same : eval_of op.kind op.domain x y ≡ word = cc in
+    subst (λ (d : Domain). IsWordOf d word) gives (rw same at (IsWordOf-eval op.kind op.domain x y))
+
+accumulated_by-word : (domain : Domain) (accum : Option OpName) (old new : Option ℕ) (word : ℕ) → AccumulatesIn domain accum
+    → ((w : ℕ) → old ≡ Some w → IsWordOf domain w) → ((w : ℕ) → new ≡ Some w → IsWordOf domain w) → accumulated_by accum old new ≡ Some word → IsWordOf domain word
+accumulated_by-word domain None old new word gives olds news is = news word is
+accumulated_by-word domain (Some op) old new word gives olds news is = accumulated-word domain op old new word gives olds news is
+
+chosen-word : (domain : Domain) (test replace : Bool) (x y : Option ℕ) (word : ℕ) → (x ≡ Some word → IsWordOf domain word) → (y ≡ Some word → IsWordOf domain word)
+    → cond test x (cond replace None y) ≡ Some word → IsWordOf domain word
+chosen-word domain true replace x y word first second is = first is
+chosen-word domain false true x y word first second is = absurd (cc)
+chosen-word domain false false x y word first second is = second is
+
+written-words : (out : Out Object) (values : Content) (domain : Domain) → AccumulatesIn domain out.accum → AreWordsOf domain out.c.content → AreWordsOf domain values → AreWordsOf domain (written out values)
+written-words out values domain gives old new i j word is =
+    chosen-word domain (mask_set out i j) out.desc.replace (accumulated_by out.accum (out.c.content i j) (values i j)) (out.c.content i j) word
+    (accumulated_by-word domain out.accum (out.c.content i j) (values i j) word gives (old i j) (new i j)) (old i j word) is
+
+-- ---- accepted operations
+
+accumulator_gives : (domain : Domain) (accum : Option OpName) → option_map_or (accumulates domain) accum true ≡ true → AccumulatesIn domain accum
+accumulator_gives domain None h = tt
+accumulator_gives domain (Some op) h =
+    same_domain-true (answer_domain op.kind op.domain) domain
+    (and_parts (offers op.kind op.domain && same_domain op.domain domain) (same_domain (answer_domain op.kind op.domain) domain) h).1
+
+-- what an accepted operation leaves lies inside the shape of its output
+pub result-within : (out : Out Object) (op : Operation Object)
+    → operation_fault (renamed_out signature_of out) (renamed_operation signature_of op) ≡ None
+    → KeepsInside out.c → All KeepsInside (inputs_of op) → IsWithin (rows_of out.c.shape) (cols_of out.c.shape) (result_of out op)
+unfolding result_of
+result-within out op accepted old inputs =
+    let sig = renamed_operation signature_of op in
+    let plan = plan_in out.desc sig in
+    let moved = turned turned_object out.desc op in
+    let shapes = same_shape-rows plan.shape out.c.shape (accepted-shapes (renamed_out signature_of out) sig accepted).0 in
+    let inside = operation-within moved (turned-within out.desc op inputs) in
+    let inside' : IsWithin (rows_of out.c.shape) (cols_of out.c.shape) (operation moved) =
+    rw (← shapes.0, ← shapes.1) (rw (turned-signature out.desc op) at inside) in
+    written-within out (cast_content plan.domain out.c.domain (operation moved)) (rows_of out.c.shape) (cols_of out.c.shape) old
+    (cast_content-within plan.domain out.c.domain (rows_of out.c.shape) (cols_of out.c.shape) (operation moved) inside')
+
+-- ..and its words are values of the output's domain
+result-words : (out : Out Object) (op : Operation Object)
+    → operation_fault (renamed_out signature_of out) (renamed_operation signature_of op) ≡ None
+    → AreWordsOf out.c.domain out.c.content → AreWordsOf out.c.domain (result_of out op)
+unfolding result_of
+result-words out op accepted old =
+    let sig_out = renamed_out signature_of out in
+    let sig = renamed_operation signature_of op in
+    let plan = plan_in out.desc sig in
+    let moved = turned turned_object out.desc op in
+    let implemented = accepted-implemented sig_out sig accepted in
+    let accumulates_in = accumulator_gives out.c.domain out.accum
+    (and_parts (is_offered sig && operation_has_come sig && out_has_come sig_out) (option_map_or (accumulates out.c.domain) out.accum true) implemented).1 in
+    written-words out (cast_content plan.domain out.c.domain (operation moved)) out.c.domain accumulates_in old
+    (cast_content-words plan.domain out.c.domain (operation moved))
+
+all_inside : (os : List Object) → All IsObject os → All KeepsInside os
+all_inside [] are = All-nil KeepsInside
+all_inside (o ∷ os) are = All-cons KeepsInside o os (All-head IsObject o os are).within (all_inside os (All-tail IsObject o os are))
+
+-- an accepted operation leaves an object in the place of its output
+pub result-is_object : (out : Out Object) (op : Operation Object)
+    → operation_fault (renamed_out signature_of out) (renamed_operation signature_of op) ≡ None
+    → IsObject out.c → All IsObject (inputs_of op) → IsObject (record out.c { content = result_of out op })
+result-is_object out op accepted old inputs = record {
+  within = result-within out op accepted old.within (all_inside (inputs_of op) inputs);
+  words = result-words out op accepted old.words;
+}

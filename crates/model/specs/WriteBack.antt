@@ -1,0 +1,63 @@
+-- Mask, accumulator and write-back (the last steps of every operation of the GraphBLAS C API), and what a call
+-- leaves in its output.
+use Rattle.std.specs.Prelude.{ℕ, ◌||◌, ◌==◌, not, Bool, true, false, if◌then◌else◌, Option, Some, None}
+use Rattle.std.specs.Option.{option_map_or}
+use Rattle.algebra.specs.declared.domain.Domain.TheVariants as domains
+use Rattle.algebra.specs.declared.operator_names.OpName.{OpName}
+use Rattle.algebra.specs.Operators.{eval_of}
+use Rattle.algebra.specs.Value.{cast_of, word_of}
+use Rattle.model.specs.declared.call.Call.{Call}
+use Rattle.model.specs.declared.call.Call.TheVariants.{Set, Operate}
+use Rattle.model.specs.declared.call.Desc.{Desc}
+use Rattle.model.specs.declared.call.Operation.{Operation}
+use Rattle.model.specs.declared.call.Out.{Out}
+use Rattle.model.specs.Fault.{plan_in}
+use Rattle.model.specs.Object.{Content, Object, cast_content, col_of, no_content, row_of, signature_of, turned_object, with_entry}
+use Rattle.model.specs.Operations.{operation}
+use Rattle.model.specs.Renamed.{renamed_operation}
+use Rattle.model.specs.Table.{turned}
+
+-- ---- the mask set
+
+-- whether a mask has a position: it stores it, and where its values count, one that is not 0 (GrB_STRUCTURE)
+abbrev pub has_position : Desc → Object → ℕ → ℕ → Bool
+has_position desc mask i j =
+    option_map_or (λ word. desc.structure || (cast_of mask.domain domains.Bool word == 1)) (mask.content i j) false
+
+-- the positions that are written: all without a mask, or those of the mask; or the others (GrB_COMP)
+abbrev pub mask_set : Out Object → ℕ → ℕ → Bool
+mask_set out i j =
+    let is_in = option_map_or (λ mask. has_position out.desc mask i j) out.mask true in
+    if out.desc.complement then not is_in else is_in
+
+-- ---- accumulate and write back
+
+-- an old value and a new one
+abbrev pub accumulated : OpName → Option ℕ → Option ℕ → Option ℕ
+accumulated op None new = new
+accumulated op (Some old) None = Some old
+accumulated op (Some old) (Some new) = Some (eval_of op.kind op.domain old new)
+
+abbrev pub accumulated_by : Option OpName → Option ℕ → Option ℕ → Option ℕ
+accumulated_by None old new = new
+accumulated_by (Some op) old new = accumulated op old new
+
+-- the output, of values in its domain: what is computed stands in the mask set, and outside it what was
+-- there, or nothing (GrB_REPLACE)
+abbrev pub written : Out Object → Content → Content
+written out values = λ i j.
+    if mask_set out i j then accumulated_by out.accum (out.c.content i j) (values i j)
+    else if out.desc.replace then None
+    else out.c.content i j
+
+-- what an operation leaves in its output
+unfoldable pub result_of : Out Object → Operation Object → Content
+result_of out inputs =
+    let plan = plan_in out.desc (renamed_operation signature_of inputs) in
+    written out (cast_content plan.domain out.c.domain (operation (turned turned_object out.desc inputs)))
+
+-- what a call leaves in the object into which it writes
+abbrev pub left_by : {N : Type 0} → Call Object N → Content
+left_by (Set o place value) = with_entry o.content (row_of place) (col_of place) (word_of o.domain value)
+left_by (Operate out inputs) = result_of out inputs
+left_by _ = no_content

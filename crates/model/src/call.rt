@@ -1,0 +1,85 @@
+//! The calls, generic in how they name objects.
+
+use crate::{Place, Shape};
+use algebra::{Domain, OpName, RingName};
+
+/// The flags of a descriptor (`GrB_Descriptor`).
+#[derive(Clone, Copy)]
+pub struct Desc {
+    /// `GrB_REPLACE`: what the output had outside the mask goes.
+    pub replace: bool,
+    /// `GrB_STRUCTURE`: the mask is the positions that it stores, whatever their values.
+    pub structure: bool,
+    /// `GrB_COMP`: the positions outside the mask are meant.
+    pub complement: bool,
+    /// `GrB_INP0` is `GrB_TRAN`: the first input is transposed.
+    pub turn_first: bool,
+    /// `GrB_INP1` is `GrB_TRAN`: the second input is transposed.
+    pub turn_second: bool,
+}
+
+/// Where an operation's values go: the output, the mask and the accumulator, where there are any, and
+/// the descriptor.
+#[derive(Clone, Copy)]
+pub struct Out<K> {
+    pub c: K,
+    pub mask: Option<K>,
+    pub accum: Option<OpName>,
+    pub desc: Desc,
+}
+
+/// An operation on its inputs.
+#[derive(Clone, Copy)]
+pub enum Operation<K> {
+    /// The product of two matrices over a semiring (`GrB_mxm`).
+    Multiply { ring: RingName, a: K, b: K },
+}
+
+/// A call. `K` is how it names objects, and `N` how it names one that it makes: in a script both are
+/// words; in a session objects have numbers, and a new one has none yet.
+#[derive(Clone, Copy)]
+pub enum Call<K, N> {
+    /// Makes an object without entries (`GrB_Matrix_new`, `GrB_Vector_new`).
+    Create {
+        name: N,
+        domain: Domain,
+        shape: Shape,
+    },
+    /// Sets an entry (`GrB_Matrix_setElement`).
+    Set {
+        object: K,
+        place: Place,
+        value: i128,
+    },
+    /// Asks for the value of an entry (`GrB_Matrix_extractElement`).
+    Get {
+        object: K,
+        place: Place,
+    },
+    /// Asks for the number of entries (`GrB_Matrix_nvals`).
+    Nvals {
+        object: K,
+    },
+    /// Asks for the object's canonical text.
+    Print {
+        object: K,
+    },
+    /// Computes an operation, and writes it into its output.
+    Operate {
+        out: Out<K>,
+        operation: Operation<K>,
+    },
+}
+
+/// What the table of operations says of one operation on its inputs: whether they are of the right
+/// kinds, whether their domains and their shapes fit, whether its plain values are of their domains,
+/// and the shape and the domain of what it computes.
+#[derive(Clone, Copy)]
+pub struct Plan {
+    pub kinds: bool,
+    pub compatible: bool,
+    pub fits: bool,
+    pub values: bool,
+    pub shape: Shape,
+    pub domain: Domain,
+}

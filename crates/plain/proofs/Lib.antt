@@ -1,0 +1,4 @@
+pub mod EnvironmentLaws
+pub mod FaultLaws
+pub mod GridLaws
+pub mod ProductLaws

@@ -1,0 +1,14 @@
+-- An accepted call that asks for something finds its object.
+use Rattle.plain.specs.Environments.{environment_of}
+use Rattle.plain.proofs.FaultLaws.{accepted-nvals, accepted-print}
+use Rattle.plain.proofs.environment.PlainEnvironment.data_lines.Goals as goal
+
+pub object-requires-in-Nvals : goal.object-requires-in-Nvals
+object-requires-in-Nvals c =
+    let env = environment_of c.args.self.now in
+    accepted-nvals env.count (env.find_object c.in-Nvals.object.now) (rw c.in-Nvals.is at c.requires)
+
+pub object-requires-in-Print : goal.object-requires-in-Print
+object-requires-in-Print c =
+    let env = environment_of c.args.self.now in
+    accepted-print env.count (env.find_object c.in-Print.object.now) (rw c.in-Print.is at c.requires)

@@ -1,0 +1,16 @@
+-- One term more at each turn.
+use Rattle.algebra.specs.OperatorNames.{ring_named}
+use Rattle.model.specs.Object.{in_domain}
+use Rattle.plain.specs.Evaluated.{input_of}
+use Rattle.plain.proofs.ProductLaws.{product-start, term-added}
+use Rattle.plain.proofs.operations.product.Goals as goal
+
+pub loop-k-init : goal.loop-k-init
+loop-k-init c = product-start (ring_named c.args.ring) (in_domain c.args.ring.multiply.domain (input_of c.args.a)) (in_domain c.args.ring.multiply.domain (input_of c.args.b)) c.args.row c.args.col
+
+pub loop-k-preserved : goal.loop-k-preserved
+loop-k-preserved c =
+    term-added (ring_named c.args.ring) c.loop-k.k
+    (in_domain c.args.ring.multiply.domain (input_of c.args.a)) (in_domain c.args.ring.multiply.domain (input_of c.args.b)) c.args.row c.args.col
+    c.word_in-x.result c.word_in-y.result c.times.result c.loop-k.sum c.plus-sum.result
+    c.word_in-x.ensures c.word_in-y.ensures c.times.ensures c.loop-k.invariant c.plus-sum.ensures

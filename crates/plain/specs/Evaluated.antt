@@ -1,0 +1,69 @@
+-- What the plain evaluator's objects, operations and lines stand for.
+use Rattle.std.specs.Prelude.{ℕ, ◌&&◌, nat_lt, Bool, true, if◌then◌else◌, List, map, Option, Some, None, Vec}
+use Rattle.std.specs.Borrow.{Bor}
+use Rattle.std.specs.Option.{option_map_or}
+use Rattle.algebra.specs.Operators.{offers}
+use Rattle.algebra.specs.declared.operator_names.OpName.{OpName}
+use Rattle.model.specs.declared.call.Operation.{Operation}
+use Rattle.model.specs.declared.call.Out.{Out}
+use Rattle.model.specs.declared.shape.Signature.{Signature}
+use Rattle.model.specs.Entries.{word_at}
+use Rattle.model.specs.Object.{Content, Object, cols_of, rows_of, signature_of, turned_object}
+use Rattle.model.specs.Renamed.{renamed_operation, renamed_out}
+use Rattle.model.specs.Table.{is_offered, turned_if}
+use Rattle.model.specs.WriteBack.{result_of}
+use Rattle.plain.specs.declared.objects.PlainObject.{PlainObject}
+use Rattle.plain.specs.declared.operations.Input.{Input}
+
+-- what a map has inside a shape of so many rows and columns
+abbrev pub within : ℕ → ℕ → Content → Content
+within rows cols c = λ i j. if nat_lt i rows && nat_lt j cols then c i j else None
+
+-- the object: at each position inside the shape the first word that is listed for it
+abbrev pub object_of : PlainObject → Object
+object_of o = record {
+  domain = o.domain;
+  shape = o.shape;
+  content = within (rows_of o.shape) (cols_of o.shape) (word_at o.entries.items);
+}
+
+-- the lines of an answer
+abbrev pub lines_of : {A : Type 0} → Vec (Vec ℕ A) A → List (List ℕ)
+lines_of lines = map (λ line. line.items) lines.items
+
+-- ---- operations
+
+-- an output, and the inputs of an operation
+abbrev pub out_of : Out (Bor PlainObject) → Out Object
+out_of out = renamed_out (λ o. object_of o.now) out
+
+abbrev pub operation_of : Operation (Bor PlainObject) → Operation Object
+operation_of operation = renamed_operation (λ o. object_of o.now) operation
+
+-- what is known of them without their values
+abbrev pub known_out : Out (Bor PlainObject) → Out Signature
+known_out out = renamed_out signature_of (out_of out)
+
+abbrev pub known_operation : Operation (Bor PlainObject) → Operation Signature
+known_operation operation = renamed_operation signature_of (operation_of operation)
+
+-- what an operation leaves in its output
+abbrev pub result_in : Out (Bor PlainObject) → Operation (Bor PlainObject) → Content
+result_in out operation = result_of (out_of out) (operation_of operation)
+
+-- whether there are the operators that an operation and its accumulator name
+abbrev pub accumulator_offered : Option OpName → Bool
+accumulator_offered accum = option_map_or (λ op. offers op.kind op.domain) accum true
+
+abbrev pub are_operators : {K : Type 0} → Out K → Operation K → Bool
+are_operators out operation = is_offered operation && accumulator_offered out.accum
+
+-- an input as it is read
+abbrev pub input_of : Input → Object
+input_of input = turned_if turned_object input.is_turned (object_of input.object.now)
+
+-- a sum, where there is one, and one more term, where there is one
+abbrev pub added : (ℕ → ℕ → ℕ) → Option ℕ → Option ℕ → Option ℕ
+added add sum None = sum
+added add None (Some term) = Some term
+added add (Some sum) (Some term) = Some (add sum term)

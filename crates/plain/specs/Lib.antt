@@ -1,0 +1,2 @@
+pub mod Environments
+pub mod Evaluated

@@ -1,0 +1,51 @@
+//! The answers of calls.
+ghost use Rattle.std.specs.Prelude.{◌≡◌, IfOk, None, is_some, true};
+ghost use Rattle.model.specs.Run.{data_lines_of, object_at, on_objects};
+ghost use Rattle.plain.specs.Environments.{environment_of, fault_in, named};
+ghost use Rattle.plain.specs.Evaluated.{lines_of, object_of};
+
+use crate::environment::PlainEnvironment;
+use crate::objects::PlainObject;
+use crate::text::{canonical_lines, count_lines, value_lines};
+use model::{Call, Status};
+use std::alloc::{AllocError, Global};
+
+/// An answer: its line's number, its status, and its data lines.
+#[derive(Drop)]
+pub struct PlainAnswer {
+    pub number: u64,
+    pub status: Status,
+    pub data_lines: Vec<Vec<u8>>,
+}
+
+impl PlainEnvironment {
+    /// The object of a name that one has.
+    fn object(&self, name: &str) -> &PlainObject
+        requires { is_some ((environment_of self.now).find_object name.now) ≡ true }
+        ensures { object_of result.now ≡ object_at (environment_of self.now) name.now }
+    {
+        let Some(object) = self.find(name) else {
+            unreachable!()
+        };
+        object
+    }
+
+    /// The data lines of an accepted call.
+    #[tactic(auto, unfolding(model::specs::Run::data_lines_of))]
+    pub(crate) fn data_lines(
+        &self,
+        alloc: Global,
+        call: &Call<&str, &str>,
+    ) -> Result<Vec<Vec<u8>>, AllocError>
+        requires { fault_in self.now (named call.now) ≡ None }
+        ensures { IfOk result (λ lines.
+            lines_of lines ≡ data_lines_of (on_objects (environment_of self.now) (named call.now))) }
+    {
+        match *call {
+            Call::Get { object, place } => value_lines(alloc, self.object(object), place),
+            Call::Nvals { object } => count_lines(alloc, self.object(object)),
+            Call::Print { object } => canonical_lines(alloc, self.object(object)),
+            Call::Create { .. } | Call::Set { .. } | Call::Operate { .. } => Ok(Vec::new(alloc)),
+        }
+    }
+}

@@ -1,0 +1,236 @@
+//! The objects of a run, by their names, and what accepted calls leave.
+ghost use Rattle.std.specs.Prelude.{◌≡◌, MatchOption, MatchResult, None, OnErr, OnOk, IfOk, Some};
+ghost use Rattle.std.specs.List.{position};
+ghost use Rattle.std.specs.Option.{option_copied};
+ghost use Rattle.std.specs.Str.{bytes_eq};
+ghost use Rattle.std.specs.String.{string_bytes};
+ghost use Rattle.model.specs.Entries.{entries_of};
+ghost use Rattle.model.specs.Object.{cols_of, rows_of};
+ghost use Rattle.model.specs.Renamed.{inputs_of, outputs_of, renamed_operation, renamed_out};
+ghost use Rattle.model.specs.Run.{no_objects, object_at, step};
+ghost use Rattle.model.specs.WriteBack.{result_of};
+ghost use Rattle.plain.specs.Environments.{IsMissing, answer_of, effect_in, environment_of, fault_in, find_in};
+ghost use Rattle.plain.specs.Environments.{named, named_operation, named_out};
+ghost use Rattle.plain.specs.Evaluated.{operation_of, out_of};
+
+use crate::answers::PlainAnswer;
+use crate::grid::entries;
+use crate::objects::PlainObject;
+use crate::write_back::Left;
+use algebra::Domain;
+use model::{Call, Entry, Operation, Out, Place, Shape, Status};
+use std::alloc::{AllocError, Global};
+
+/// The objects of a run, the newest first. Each call is done as the definition of `step` says, with
+/// no regard to speed.
+#[derive(Drop)]
+pub struct PlainEnvironment {
+    pub(crate) objects: Vec<PlainObject>,
+}
+
+impl PlainEnvironment {
+    /// No objects. It takes no memory.
+    pub fn new(alloc: Global) -> PlainEnvironment
+        ensures { environment_of result ≡ no_objects }
+    {
+        PlainEnvironment {
+            objects: Vec::new(alloc),
+        }
+    }
+
+    /// The first object of a name.
+    pub fn find(&self, name: &str) -> Option<&PlainObject>
+        ensures { option_copied result ≡ find_in self.now.objects.items name.now }
+    {
+        self.objects
+            .iter()
+            .find(|object| object.name.as_str() == name)
+    }
+
+    /// The index of the first object of a name.
+    fn position(&self, name: &str) -> Option<usize>
+        ensures { result ≡ position (λ o. bytes_eq (string_bytes o.name) name.now) self.now.objects.items }
+    {
+        self.objects
+            .iter()
+            .position(|object| object.name.as_str() == name)
+    }
+
+    /// The objects that an output names, if they are there.
+    pub(crate) fn find_out(&self, out: &Out<&str>) -> Option<Out<&PlainObject>>
+        ensures { let found = renamed_out (environment_of self.now).find_object (named_out out.now) in
+            MatchOption result (IsMissing (outputs_of found))
+            (λ objects. renamed_out Some (out_of objects) ≡ found) }
+    {
+        let c = self.find(out.c)?;
+        let mask = match out.mask {
+            Some(mask) => Some(self.find(mask)?),
+            None => None,
+        };
+        Some(Out {
+            c,
+            mask,
+            accum: out.accum,
+            desc: out.desc,
+        })
+    }
+
+    /// The objects that the inputs of an operation name, if they are there.
+    pub(crate) fn find_inputs(&self, operation: &Operation<&str>) -> Option<Operation<&PlainObject>>
+        ensures { let find_object = (environment_of self.now).find_object in
+            let found = renamed_operation find_object (named_operation operation.now) in
+            MatchOption result (IsMissing (inputs_of found))
+            (λ objects. renamed_operation Some (operation_of objects) ≡ found) }
+    {
+        match *operation {
+            Operation::Multiply { ring, a, b } => {
+                let a = self.find(a)?;
+                let b = self.find(b)?;
+                Some(Operation::Multiply { ring, a, b })
+            }
+        }
+    }
+
+    /// Makes an object without entries. An error leaves the objects as they were.
+    #[tactic(auto, unfolding(model::specs::Run::effect))]
+    fn create(
+        &mut self,
+        alloc: Global,
+        name: &str,
+        domain: Domain,
+        shape: Shape,
+    ) -> Result<(), AllocError>
+        ensures { MatchResult result
+            (λ _. environment_of self.new ≡ effect_in self.old (Call.Create name.now domain shape))
+            (λ _. environment_of self.new ≡ environment_of self.old) }
+    {
+        let name = String::from_str(alloc, name)?;
+        let entries = Vec::new(alloc);
+        let object = PlainObject {
+            name,
+            domain,
+            shape,
+            entries,
+        };
+        self.objects.insert(0, object)?;
+        Ok(())
+    }
+
+    /// Sets a value. An error leaves the objects as they were.
+    fn set(&mut self, name: &str, place: Place, value: i128) -> Result<(), AllocError>
+        requires { fault_in self.old (Call.Set name.now place value) ≡ None }
+        ensures { MatchResult result
+            (λ _. environment_of self.new ≡ effect_in self.old (Call.Set name.now place value))
+            (λ _. environment_of self.new ≡ environment_of self.old) }
+    {
+        let Some(index) = self.position(name) else {
+            unreachable!()
+        };
+        let object = &mut self.objects[index];
+        let Some(word) = object.domain.word_of(value) else {
+            unreachable!()
+        };
+        object.put(place, word)
+    }
+
+    /// The entries that an accepted operation leaves in its output.
+    fn result(
+        &self,
+        alloc: Global,
+        out: &Out<&str>,
+        operation: &Operation<&str>,
+    ) -> Result<Vec<Entry>, AllocError>
+        requires { fault_in self.now (Call.Operate (named_out out.now) (named_operation operation.now)) ≡ None }
+        ensures { let object = object_at (environment_of self.now) in
+            let shape = (object out.now.c.now).shape in
+            let inputs = renamed_operation object (named_operation operation.now) in
+            IfOk result (λ entries. entries.items ≡ entries_of (rows_of shape) (cols_of shape)
+            (result_of (renamed_out object (named_out out.now)) inputs)) }
+    {
+        let Some(out) = self.find_out(out) else {
+            unreachable!()
+        };
+        let Some(operation) = self.find_inputs(operation) else {
+            unreachable!()
+        };
+        let left = Left { out, operation };
+        entries(alloc, &left, out.c.shape)
+    }
+
+    /// Computes an operation into its output. An error leaves the objects as they were.
+    fn operate(
+        &mut self,
+        alloc: Global,
+        out: &Out<&str>,
+        operation: &Operation<&str>,
+    ) -> Result<(), AllocError>
+        requires { fault_in self.old (Call.Operate (named_out out.now) (named_operation operation.now)) ≡ None }
+        ensures { MatchResult result
+            (λ _. environment_of self.new
+            ≡ effect_in self.old (Call.Operate (named_out out.now) (named_operation operation.now)))
+            (λ _. environment_of self.new ≡ environment_of self.old) }
+    {
+        let Some(index) = self.position(out.c) else {
+            unreachable!()
+        };
+        let entries = self.result(alloc, out, operation)?;
+        let c = &mut self.objects[index];
+        c.entries = entries;
+        Ok(())
+    }
+
+    /// Does an accepted call. An error leaves the objects as they were.
+    #[tactic(auto, unfolding(model::specs::Run::effect))]
+    fn apply(&mut self, alloc: Global, call: &Call<&str, &str>) -> Result<(), AllocError>
+        requires { fault_in self.old (named call.now) ≡ None }
+        ensures { MatchResult result
+            (λ _. environment_of self.new ≡ effect_in self.old (named call.now))
+            (λ _. environment_of self.new ≡ environment_of self.old) }
+    {
+        match call {
+            Call::Create {
+                name,
+                domain,
+                shape,
+            } => self.create(alloc, name, *domain, *shape),
+            Call::Set {
+                object,
+                place,
+                value,
+            } => self.set(object, *place, *value),
+            Call::Get { .. } | Call::Nvals { .. } | Call::Print { .. } => Ok(()),
+            Call::Operate { out, operation } => self.operate(alloc, out, operation),
+        }
+    }
+
+    /// Does a call: its answer and what it leaves are those of the definition of `step`. An error,
+    /// which is that memory was refused, leaves the objects as they were.
+    #[tactic(auto, unfolding(model::specs::Run::step))]
+    pub fn step(
+        &mut self,
+        alloc: Global,
+        number: u64,
+        call: &Call<&str, &str>,
+    ) -> Result<PlainAnswer, AllocError>
+        ensures answer { IfOk result (λ answer.
+            answer_of answer ≡ (step number (environment_of self.old) (named call.now)).0) }
+        ensures left { OnOk result
+            (environment_of self.new ≡ (step number (environment_of self.old) (named call.now)).1) }
+        ensures refused { OnErr result (environment_of self.new ≡ environment_of self.old) }
+    {
+        if let Some(status) = self.fault(call) {
+            return Ok(PlainAnswer {
+                number,
+                status,
+                data_lines: Vec::new(alloc),
+            });
+        }
+        let data_lines = self.data_lines(alloc, call)?;
+        self.apply(alloc, call)?;
+        Ok(PlainAnswer {
+            number,
+            status: Status::Ok,
+            data_lines,
+        })
+    }
+}

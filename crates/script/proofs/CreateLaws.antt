@@ -1,0 +1,175 @@
+-- Objects that are made under a name, or not for want of memory.
+use Rattle.std.proofs.Common.{◌≡◌, ◌∙◌, ℕ, ◌<◌, ◌^◌, ◌+◌, ◌-◌, ◌==◌, Bool, true, false, cond, List, Option, Some, None, is_some, Result, Ok, Err, MatchResult, refl, sym, ap, arith, inl, inr}
+use Rattle.std.specs.Prelude.{OnErr, OnOk}
+use Rattle.std.specs.BTreeMap.{BTreeMap, IsUnchanged, get_by_text, is_at}
+use Rattle.std.specs.Cmp.Lexicographic.{slice_cmp}
+use Rattle.std.specs.Map.{lookup}
+use Rattle.std.specs.Option.{option_and_then}
+use Rattle.std.specs.Ordering.{nat_cmp}
+use Rattle.std.specs.Prelude.{String}
+use Rattle.std.specs.String.{string_bytes}
+use Rattle.std.specs.Str.{bytes_eq}
+use Rattle.std.proofs.lemmas.Bool.{cases_Bool, eqb-true, true≢false}
+use Rattle.std.proofs.lemmas.Slice.Eq.{bytes_eq-Decides}
+use Rattle.algebra.specs.declared.domain.Domain.{Domain}
+use Rattle.calls.specs.declared.obj.Obj.{Obj}
+use Rattle.model.specs.declared.call.Call.TheVariants.{Create}
+use Rattle.model.specs.declared.shape.Shape.{Shape}
+use Rattle.model.specs.declared.status.Status.{Status}
+use Rattle.model.specs.declared.status.Status.TheVariants as status
+use Rattle.model.specs.Fault.{early_fault, fault_of}
+use Rattle.model.specs.Grammar.{Name}
+use Rattle.model.specs.Object.{Object, empty_object}
+use Rattle.model.specs.Run.{Environment, effect, seen, with_object}
+use Rattle.model.proofs.EnvironmentLaws.{environments_equal}
+use Rattle.script.proofs.NameLaws.{AreDistinct, count-left, own_number, same_number}
+use Rattle.script.specs.Named.{through}
+use Rattle.session.specs.declared.sessions.Session.{Session}
+use Rattle.session.specs.Performed.{environment_of, fault_in, made_in, next_object}
+use Rattle.session.specs.Tables.{same_object, without_object}
+
+-- ---- faults
+
+taken_name : (count : ℕ) (domain : Domain) (shape : Shape) (taken : Bool) → taken ≡ true → fault_of count (Create taken domain shape) ≡ Some status.NameTaken
+unfolding early_fault
+taken_name count domain shape taken h = rw h refl
+
+there_through : (number : Name → Option Obj) (senv : Environment Obj) (found : Option Obj) → ((o : Obj) → found ≡ Some o → is_some (senv.find_object o) ≡ true)
+    → is_some found ≡ true → is_some (option_and_then senv.find_object found) ≡ true
+there_through number senv None there h = h
+there_through number senv (Some o) there h = there o refl
+
+pub fault-taken : (number : Name → Option Obj) (senv : Environment Obj) (name : Name) (domain : Domain) (shape : Shape)
+    → ((n : Name) (o : Obj) → number n ≡ Some o → is_some (senv.find_object o) ≡ true) → is_some (number name) ≡ true
+    → fault_of senv.count (seen (through number senv) (Create name domain shape)) ≡ Some status.NameTaken
+fault-taken number senv name domain shape there taken =
+    taken_name senv.count domain shape (is_some (option_and_then senv.find_object (number name))) (there_through number senv (number name) (there name) taken)
+
+free_name : (senv : Environment Obj) (found : Option Obj) → is_some found ≡ false → is_some (option_and_then senv.find_object found) ≡ false
+free_name senv None h = refl
+free_name senv (Some o) h = absurd (true≢false h)
+
+-- where the name is free, the fault is the session's
+pub fault-free : (number : Name → Option Obj) (session : Session) (name : Name) (domain : Domain) (shape : Shape) → made_in session < 2 ^ 64 - 1 → is_some (number name) ≡ false
+    → fault_of (environment_of session).count (seen (through number (environment_of session)) (Create name domain shape)) ≡ fault_in session (Create (next_object session) domain shape)
+fault-free number session name domain shape small free =
+    ap (λ taken. fault_of (environment_of session).count (Create taken domain shape)) (free_name (environment_of session) (number name) free)
+    ∙ ap (λ (n : ℕ). fault_of n (Create false domain shape)) (sym (count-left session small))
+
+-- ---- one more name
+
+-- no name stands yet for the number of a new object
+unnamed : (number : Name → Option Obj) (senv : Environment Obj) (o : Obj) (n : Name) (q : Obj) → ((n : Name) (q : Obj) → number n ≡ Some q → is_some (senv.find_object q) ≡ true)
+    → senv.find_object o ≡ None → number n ≡ Some q → (o.0 == q.0) ≡ true → ⊥
+unnamed number senv o n q there unused is same =
+    let one : o ≡ q = same_number o q (eqb-true o.0 q.0 same) in
+    let none : is_some (senv.find_object q) ≡ false = ap is_some (rw one at unused) in
+    true≢false (sym (there n q is) ∙ none)
+
+pub created : (number new : Name → Option Obj) (senv : Environment Obj) (name : Name) (o : Obj) (object : Object) (count : ℕ)
+    → ((q : Name) → new q ≡ cond (bytes_eq name q) (Some o) (number q))
+    → ((n : Name) (q : Obj) → number n ≡ Some q → is_some (senv.find_object q) ≡ true) → senv.find_object o ≡ None
+    → through new (with_object same_object senv o object count) ≡ with_object bytes_eq (through number senv) name object count
+created number new senv name o object count adds there unused =
+    let made = with_object same_object senv o object count in
+    let other_object : (n : Name) (found : Option Obj) → number n ≡ found → option_and_then made.find_object found ≡ option_and_then senv.find_object found = λ n found. elim found as
+    (λ found. number n ≡ found → option_and_then made.find_object found ≡ option_and_then senv.find_object found) [
+      | None ↦ λ none. refl
+      | Some q ↦ λ some. elim (cases_Bool (o.0 == q.0)) [
+        | inl same ↦ absurd (unnamed number senv o n q there unused some same)
+        | inr apart ↦ rw apart refl
+      ]
+    ] in
+    environments_equal (through new made) (with_object bytes_eq (through number senv) name object count)
+    (λ n. elim (cases_Bool (bytes_eq name n)) [
+      | inl same ↦
+          let now : new n ≡ Some o = adds n ∙ rw same refl in
+          ap (option_and_then made.find_object) now ∙ rw (same, own_number o.0) refl
+      | inr apart ↦
+          let now : new n ≡ number n = adds n ∙ rw apart refl in
+          ap (option_and_then made.find_object) now ∙ rw apart (other_object n (number n) refl)
+    ])
+    refl
+
+pub created-effect : (number new : Name → Option Obj) (senv made : Environment Obj) (name : Name) (o : Obj) (domain : Domain) (shape : Shape)
+    → ((q : Name) → new q ≡ cond (bytes_eq name q) (Some o) (number q))
+    → ((n : Name) (q : Obj) → number n ≡ Some q → is_some (senv.find_object q) ≡ true) → senv.find_object o ≡ None
+    → made ≡ effect same_object senv (Create o domain shape)
+    → through new made ≡ effect bytes_eq (through number senv) (Create name domain shape)
+unfolding effect
+created-effect number new senv made name o domain shape adds there unused is =
+    ap (through new) is ∙ created number new senv name o (empty_object domain shape) (senv.count + 1) adds there unused
+
+-- two names still stand for one object only where they are the same
+pub created-distinct : (number new : Name → Option Obj) (senv : Environment Obj) (name : Name) (o : Obj)
+    → ((q : Name) → new q ≡ cond (bytes_eq name q) (Some o) (number q))
+    → ((n : Name) (q : Obj) → number n ≡ Some q → is_some (senv.find_object q) ≡ true) → senv.find_object o ≡ None → AreDistinct number → AreDistinct new
+created-distinct number new senv name o adds there unused distinct a b q is_a is_b =
+    elim (cases_Bool (bytes_eq name a)) [
+      | inl same_a ↦ elim (cases_Bool (bytes_eq name b)) [
+        | inl same_b ↦ sym ((bytes_eq-Decides name a).0 same_a) ∙ (bytes_eq-Decides name b).0 same_b
+        | inr apart_b ↦
+            let one : Some o ≡ Some q = rw same_a at (sym (adds a) ∙ is_a) in
+            let old : number b ≡ Some q = rw apart_b at (sym (adds b) ∙ is_b) in
+            let same : o ≡ q = cc in
+            absurd (unnamed number senv o b q there unused old (rw same (own_number q.0)))
+      ]
+      | inr apart_a ↦ elim (cases_Bool (bytes_eq name b)) [
+        | inl same_b ↦
+            let one : Some o ≡ Some q = rw same_b at (sym (adds b) ∙ is_b) in
+            let old : number a ≡ Some q = rw apart_a at (sym (adds a) ∙ is_a) in
+            let same : o ≡ q = cc in
+            absurd (unnamed number senv o a q there unused old (rw same (own_number q.0)))
+        | inr apart_b ↦ distinct a b q (rw apart_a at (sym (adds a) ∙ is_a)) (rw apart_b at (sym (adds b) ∙ is_b))
+      ]
+    ]
+
+-- each name still stands for an object that is there
+made_there : (senv : Environment Obj) (o q : Obj) (object : Object) (count : ℕ) → is_some (senv.find_object q) ≡ true → is_some ((with_object same_object senv o object count).find_object q) ≡ true
+made_there senv o q object count h = elim (cases_Bool (o.0 == q.0)) [ inl same ↦ rw same refl | inr apart ↦ rw apart h ]
+
+pub created-there : (number new : Name → Option Obj) (senv made : Environment Obj) (name : Name) (o : Obj) (domain : Domain) (shape : Shape)
+    → ((q : Name) → new q ≡ cond (bytes_eq name q) (Some o) (number q))
+    → ((n : Name) (q : Obj) → number n ≡ Some q → is_some (senv.find_object q) ≡ true)
+    → made ≡ effect same_object senv (Create o domain shape)
+    → (n : Name) (q : Obj) → new n ≡ Some q → is_some (made.find_object q) ≡ true
+unfolding effect
+created-there number new senv made name o domain shape adds there is n q stands =
+    ap (λ (env : Environment Obj). is_some (env.find_object q)) is ∙ elim (cases_Bool (bytes_eq name n)) [
+      | inl same ↦
+          let one : Some o ≡ Some q = rw same at (sym (adds n) ∙ stands) in
+          let same_o : o ≡ q = cc in
+          let number_is : (o.0 == q.0) ≡ true = rw same_o (own_number q.0) in
+          rw number_is refl
+      | inr apart ↦ made_there senv o q (empty_object domain shape) (senv.count + 1) (there n q (rw apart at (sym (adds n) ∙ stands)))
+    ]
+
+-- ---- an object that goes again
+
+pub gone_again : (senv made freed : Environment Obj) (o : Obj) (domain : Domain) (shape : Shape) → senv.find_object o ≡ None
+    → made ≡ effect same_object senv (Create o domain shape) → freed ≡ without_object made o → freed ≡ senv
+unfolding effect
+gone_again senv made freed o domain shape unused is left =
+    left ∙ ap (λ (env : Environment Obj). without_object env o) is
+    ∙ environments_equal (without_object (with_object same_object senv o (empty_object domain shape) (senv.count + 1)) o) senv
+    (λ q. elim (cases_Bool (o.0 == q.0)) [
+      | inl same ↦ let one : o ≡ q = same_number o q (eqb-true o.0 q.0 same) in rw same (sym (rw one at unused))
+      | inr apart ↦ rw apart refl
+    ])
+    (omega arith)
+
+-- a table whose entries stayed
+pub get_by_text-unchanged : {X Y : Type 0} (old new : BTreeMap (String Y) X) (name : Name) → IsUnchanged old new → get_by_text new name ≡ get_by_text old name
+get_by_text-unchanged {X = X} {Y = Y} old new name same = ap (λ (es : List (String Y × X)). lookup (is_at (λ k. slice_cmp nat_cmp name (string_bytes k))) es) same
+
+-- ..whatever freeing it said, since it was there
+pub freed_again : {T : Type 0} (result : Result T Status) (senv made freed : Environment Obj) (o : Obj) (domain : Domain) (shape : Shape) → senv.find_object o ≡ None
+    → made ≡ effect same_object senv (Create o domain shape)
+    → MatchResult result (λ x. is_some (made.find_object o) ≡ true) (λ s. (s ≡ status.UninitializedObject) × (made.find_object o ≡ None))
+    → OnOk result (freed ≡ without_object made o) → OnErr result (freed ≡ made) → freed ≡ senv
+unfolding effect
+freed_again (Ok x) senv made freed o domain shape unused is there left kept = gone_again senv made freed o domain shape unused is left
+freed_again (Err s) senv made freed o domain shape unused is there left kept =
+    let here : (with_object same_object senv o (empty_object domain shape) (senv.count + 1)).find_object o ≡ Some (empty_object domain shape) = rw (own_number o.0) refl in
+    let found : made.find_object o ≡ Some (empty_object domain shape) = ap (λ (env : Environment Obj). env.find_object o) is ∙ here in
+    absurd (let e : None ≡ Some (empty_object domain shape) = sym there.1 ∙ found in cc)

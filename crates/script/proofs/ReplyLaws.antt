@@ -1,0 +1,225 @@
+-- What calls on names leave and answer, by what the session does.
+use Rattle.std.proofs.Common.{◌≡◌, ◌∙◌, ◌<◌, ◌-◌, ◌^◌, Bool, true, false, cond, Option, Some, None, is_some, Result, Ok, Err, arith, refl, sym, ap, inl, inr}
+use Rattle.std.specs.Prelude.{IfOk}
+use Rattle.std.specs.Option.{option_map, option_map_or}
+use Rattle.std.specs.BTreeMap.{get_by_text}
+use Rattle.std.specs.Str.{bytes_eq}
+use Rattle.std.proofs.lemmas.Bool.{true≢false}
+use Rattle.calls.specs.declared.obj.Obj.{Obj}
+use Rattle.model.specs.declared.call.Call.{Call}
+use Rattle.model.specs.declared.call.Call.TheVariants.{Create, Set, Get, Nvals, Print, Operate}
+use Rattle.model.specs.declared.status.Status.{Status}
+use Rattle.model.specs.declared.status.Status.TheVariants as status
+use Rattle.model.specs.Fault.{are_there, fault_of}
+use Rattle.model.specs.Grammar.{Name}
+use Rattle.model.specs.Object.{Content, Object}
+use Rattle.model.specs.Renamed.{output_of, renamed}
+use Rattle.model.specs.Run.{Environment, data_lines_of, effect, object_at, on_objects, seen, with_content}
+use Rattle.model.specs.Text.{canonical_lines}
+use Rattle.model.specs.WriteBack.{left_by}
+use Rattle.script.proofs.NameLaws.{AreDistinct, create_renamed, data_renamed, effect-unmade, fault-along, fault-missing, left_renamed, on_objects-along, output_renamed, place-along, renamed_twice, there_renamed}
+use Rattle.script.specs.declared.names.Names.{Names}
+use Rattle.script.specs.Named.{Asks, HasLines, environment_in, is_create, number_in, reply_lines, through}
+use Rattle.script.specs.Replied.{IsReplied}
+use Rattle.session.specs.declared.reply.Reply.{Reply}
+use Rattle.session.specs.declared.reply.Reply.TheVariants.{Done, Made, Value, Count, Text}
+use Rattle.session.specs.declared.sessions.Session.{Session}
+use Rattle.session.specs.Performed.{Answers, IsPerformed, environment_of, made_in, numbered}
+use Rattle.session.specs.Tables.{same_object}
+
+-- ---- the session's call
+
+pub known_along : (number : Name → Option Obj) (session : Session) (call : Call Name Name) (r : Call Obj Name) → is_create call ≡ false
+    → renamed Some (λ n. n) r ≡ renamed number (λ n. n) call → is_create (numbered session r) ≡ false
+known_along number session call r known e =
+    create_renamed (λ (o : Obj). o) (λ (n : Name). record { 0 = session.next }) r
+    ∙ sym (create_renamed Some (λ n. n) r) ∙ ap is_create e ∙ create_renamed number (λ n. n) call ∙ known
+
+-- the objects of the call by name and by number
+objects_along : {X : Type 0} (what : Call Object Name → X) (same : Call Object Obj → X) → ((k : Name → Obj) (call : Call Object Name) → same (renamed (λ o. o) k call) ≡ what call)
+    → (number : Name → Option Obj) (session : Session) (call : Call Name Name) (r : Call Obj Name) → renamed Some (λ n. n) r ≡ renamed number (λ n. n) call
+    → what (on_objects (through number (environment_of session)) call) ≡ same (on_objects (environment_of session) (numbered session r))
+objects_along what same ignores number session call r e =
+    let senv = environment_of session in
+    let next : Name → Obj = λ n. record { 0 = session.next } in
+    let by_number : Call Object Name = renamed (object_at senv) (λ n. n) r in
+    ap (λ (c : Call Object Name). what c) (on_objects-along number senv call r e)
+    ∙ sym (ignores next by_number)
+    ∙ ap (λ (c : Call Object Obj). same c) (renamed_twice (object_at senv) (λ (o : Object). o) (λ (n : Name). n) next r
+    ∙ sym (renamed_twice (λ (o : Obj). o) (object_at senv) next (λ (o : Obj). o) r))
+
+-- ---- what it leaves
+
+own_option : {K : Type 0} (o : Option K) → option_map (λ k. k) o ≡ o
+own_option None = refl
+own_option (Some k) = refl
+
+placed : (number : Name → Option Obj) (senv : Environment Obj) (content : Content) (found : Option Name) (made : Option Obj) → AreDistinct number → option_map Some made ≡ option_map number found
+    → through number (option_map_or (λ o. with_content same_object senv o content) made senv)
+    ≡ option_map_or (λ name. with_content bytes_eq (through number senv) name content) found (through number senv)
+placed number senv content None None distinct e = refl
+placed number senv content None (Some o) distinct e = absurd (cc)
+placed number senv content (Some name) None distinct e = absurd (cc)
+placed number senv content (Some name) (Some o) distinct e =
+    let is : number name ≡ Some o = cc in
+    place-along number senv name o (record (object_at senv o) { content = content }) senv.count distinct is ∙ rw is refl
+
+pub effect-along : (number : Name → Option Obj) (session : Session) (new : Environment Obj) (call : Call Name Name) (r : Call Obj Name) → is_create call ≡ false → AreDistinct number
+    → renamed Some (λ n. n) r ≡ renamed number (λ n. n) call → new ≡ effect same_object (environment_of session) (numbered session r)
+    → through number new ≡ effect bytes_eq (through number (environment_of session)) call
+effect-along number session new call r known distinct e is =
+    let senv = environment_of session in
+    let env = through number senv in
+    let r' = numbered session r in
+    let left : left_by (on_objects env call) ≡ left_by (on_objects senv r') = objects_along left_by left_by left_renamed number session call r e in
+    let outputs : option_map Some (output_of r) ≡ option_map number (output_of call) =
+    sym (output_renamed Some (λ n. n) r) ∙ ap output_of e ∙ output_renamed number (λ n. n) call in
+    let own : output_of r' ≡ output_of r = output_renamed (λ (o : Obj). o) (λ (n : Name). record { 0 = session.next }) r ∙ own_option (output_of r) in
+    ap (through number) (is ∙ effect-unmade same_object senv r' (known_along number session call r known e)
+    ∙ ap (λ (o : Option Obj). option_map_or (λ o. with_content same_object senv o (left_by (on_objects senv r'))) o senv) own)
+    ∙ placed number senv (left_by (on_objects senv r')) (output_of call) (output_of r) distinct outputs
+    ∙ ap (λ (c : Content). option_map_or (λ name. with_content bytes_eq env name c) (output_of call) env) (sym left)
+    ∙ sym (effect-unmade bytes_eq env call known)
+
+-- an object that is there stays
+stays_put : (test : Bool) (x : Object) (o : Option Object) → is_some o ≡ true → is_some (cond test (Some x) o) ≡ true
+stays_put true x o h = refl
+stays_put false x o h = h
+
+stays_in : (senv : Environment Obj) (content : Content) (made : Option Obj) (q : Obj) → is_some (senv.find_object q) ≡ true
+    → is_some ((option_map_or (λ o. with_content same_object senv o content) made senv).find_object q) ≡ true
+stays_in senv content None q h = h
+stays_in senv content (Some o) q h = stays_put (same_object o q) (record (object_at senv o) { content = content }) (senv.find_object q) h
+
+pub stays : (senv new : Environment Obj) (call : Call Obj Obj) (q : Obj) → is_create call ≡ false → new ≡ effect same_object senv call → is_some (senv.find_object q) ≡ true → is_some (new.find_object q) ≡ true
+stays senv new call q known is h =
+    ap (λ (env : Environment Obj). is_some (env.find_object q)) (is ∙ effect-unmade same_object senv call known)
+    ∙ stays_in senv (left_by (on_objects senv call)) (output_of call) q h
+
+-- ---- what it answers
+
+lines_answered : (senv new : Environment Obj) (call : Call Obj Obj) (reply : Reply) → is_create call ≡ false → new ≡ effect same_object senv call → Answers senv call reply
+    → reply_lines new reply ≡ data_lines_of (on_objects senv call)
+unfolding data_lines_of effect
+lines_answered senv new (Create name domain shape) reply known is answers = absurd (true≢false known)
+lines_answered senv new (Set o p value) Done known is answers = refl
+lines_answered senv new (Set o p value) _ known is answers = absurd answers
+lines_answered senv new (Get o p) (Value value) known is (word, stored, same) = rw (same, stored) refl
+lines_answered senv new (Get o p) _ known is answers = absurd answers
+lines_answered senv new (Nvals o) (Count number) known is answers = rw answers refl
+lines_answered senv new (Nvals o) _ known is answers = absurd answers
+lines_answered senv new (Print o) (Text asked) known is answers = ap (λ (env : Environment Obj). canonical_lines (object_at env asked)) is ∙ rw answers.0 refl
+lines_answered senv new (Print o) _ known is answers = absurd answers
+lines_answered senv new (Operate out operation) Done known is answers = refl
+lines_answered senv new (Operate out operation) _ known is answers = absurd answers
+
+asks_answered : (senv new : Environment Obj) (call : Call Obj Obj) (reply : Reply) → is_create call ≡ false → new ≡ effect same_object senv call → Answers senv call reply → Asks new reply
+asks_answered senv new call Done known is answers = tt
+asks_answered senv new call (Made o) known is answers = tt
+asks_answered senv new call (Value value) known is answers = tt
+asks_answered senv new call (Count number) known is answers = tt
+asks_answered senv new (Print o) (Text asked) known is answers = stays senv new (Print o) asked known is (rw answers.0 answers.1)
+asks_answered senv new _ (Text asked) known is answers = absurd answers
+
+reads_answered : (senv new : Environment Obj) (call : Call Obj Obj) (reply : Reply) → new ≡ effect same_object senv call → Answers senv call reply → HasLines reply → new ≡ senv
+unfolding effect
+reads_answered senv new (Get o p) reply is answers has = is
+reads_answered senv new (Nvals o) reply is answers has = is
+reads_answered senv new (Print o) reply is answers has = is
+reads_answered senv new _ (Done) is answers has = absurd has
+reads_answered senv new _ (Made o) is answers has = absurd has
+reads_answered senv new _ _ is answers has = absurd answers
+
+-- ---- together
+
+pub replied : (old new : Names) (call : Call Name Name) (r : Call Obj Name) (result : Result Reply Status) → made_in old.session < 2 ^ 64 - 1 → is_create call ≡ false
+    → AreDistinct (number_in old) → new.numbers ≡ old.numbers → renamed Some (λ n. n) r ≡ renamed (number_in old) (λ n. n) call
+    → IsPerformed old.session new.session (numbered old.session r) result
+    → IfOk result (Answers (environment_of old.session) (numbered old.session r)) → IsReplied old new call result
+replied old new call r (Ok reply) small known distinct same e done answers =
+    let number = number_in old in
+    let r' = numbered old.session r in
+    let known' = known_along number old.session call r known e in
+    let is : environment_in new ≡ through number (environment_of new.session) = ap (λ numbers. through (λ name. get_by_text numbers name) (environment_of new.session)) same in
+    record {
+      status = fault-along number old.session call r small known e ∙ done.status;
+      effect = is ∙ effect-along number old.session (environment_of new.session) call r known distinct e done.effect;
+      kept = tt;
+      made = done.made;
+      lines = lines_answered (environment_of old.session) (environment_of new.session) r' reply known' done.effect answers
+          ∙ sym (objects_along data_lines_of data_lines_of data_renamed number old.session call r e);
+      asks = asks_answered (environment_of old.session) (environment_of new.session) r' reply known' done.effect answers;
+      reads = λ has. is ∙ ap (through number) (reads_answered (environment_of old.session) (environment_of new.session) r' reply done.effect answers has);
+    }
+replied old new call r (Err s) small known distinct same e done answers =
+    let number = number_in old in
+    let is : environment_in new ≡ through number (environment_of new.session) = ap (λ numbers. through (λ name. get_by_text numbers name) (environment_of new.session)) same in
+    record {
+      status = elim done.status [ inl memory ↦ inl memory | inr fault ↦ inr (fault-along number old.session call r small known e ∙ fault) ];
+      effect = tt;
+      kept = is ∙ ap (through number) done.kept;
+      made = done.made;
+      lines = tt;
+      asks = tt;
+      reads = tt;
+    }
+
+-- ---- the table of names after a call
+
+-- each name stands for an object still, whether or not the call was accepted
+pub stays_there : (number : Name → Option Obj) (session new : Session) (call : Call Obj Obj) (result : Result Reply Status) → is_create call ≡ false
+    → ((name : Name) (object : Obj) → number name ≡ Some object → is_some ((environment_of session).find_object object) ≡ true)
+    → IsPerformed session new call result
+    → (name : Name) (object : Obj) → number name ≡ Some object → is_some ((environment_of new).find_object object) ≡ true
+stays_there number session new call (Ok reply) known there done name object is =
+    stays (environment_of session) (environment_of new) call object known done.effect (there name object is)
+stays_there number session new call (Err s) known there done name object is =
+    ap (λ (env : Environment Obj). is_some (env.find_object object)) done.kept ∙ there name object is
+
+pub refused : (old new : Names) (call : Call Name Name) (s : Status) → fault_of (environment_in old).count (seen (environment_in old) call) ≡ Some s
+    → new ≡ old → IsReplied old new call (Err s)
+refused old new call s fault same = record {
+  status = inr fault;
+  effect = tt;
+  kept = ap environment_in same;
+  made = rw (ap (λ (n : Names). made_in n.session) same) (omega arith);
+  lines = tt;
+  asks = tt;
+  reads = tt;
+}
+
+-- ---- calls whose names are held another way
+
+named_again : {X : Type 0} (now : X → Name) (number : Name → Option Obj) (call : Call X X) (r : Call Obj X) → renamed Some (λ x. x) r ≡ renamed (λ x. number (now x)) (λ x. x) call
+    → renamed Some (λ n. n) (renamed (λ o. o) now r) ≡ renamed number (λ n. n) (renamed now now call)
+named_again {X = X} now number call r e =
+    renamed_twice (λ (o : Obj). o) Some now (λ (n : Name). n) r
+    ∙ sym (renamed_twice Some (λ (o : Option Obj). o) (λ (x : X). x) now r)
+    ∙ ap (λ (c : Call (Option Obj) X). renamed (λ o. o) now c) e
+    ∙ renamed_twice (λ (x : X). number (now x)) (λ (o : Option Obj). o) (λ (x : X). x) now call
+    ∙ sym (renamed_twice now number now (λ (n : Name). n) call)
+
+numbered_again : {X : Type 0} (now : X → Name) (session : Session) (r : Call Obj X) → numbered session (renamed (λ o. o) now r) ≡ numbered session r
+numbered_again now session r = renamed_twice (λ (o : Obj). o) (λ (o : Obj). o) now (λ (n : Name). record { 0 = session.next }) r
+
+pub replied_named : {X : Type 0} (now : X → Name) (old new : Names) (call : Call X X) (r : Call Obj X) (result : Result Reply Status) → made_in old.session < 2 ^ 64 - 1 → is_create call ≡ false
+    → AreDistinct (number_in old) → new.numbers ≡ old.numbers → renamed Some (λ x. x) r ≡ renamed (λ x. number_in old (now x)) (λ x. x) call
+    → IsPerformed old.session new.session (numbered old.session r) result
+    → IfOk result (Answers (environment_of old.session) (numbered old.session r)) → IsReplied old new (renamed now now call) result
+replied_named now old new call r result small known distinct same e done answers =
+    let own = numbered_again now old.session r in
+    replied old new (renamed now now call) (renamed (λ o. o) now r) result small (create_renamed now now call ∙ known) distinct same (named_again now (number_in old) call r e)
+    (rw own done) (rw own answers)
+
+pub known_named : {X : Type 0} (now : X → Name) (number : Name → Option Obj) (session : Session) (call : Call X X) (r : Call Obj X) → is_create call ≡ false
+    → renamed Some (λ x. x) r ≡ renamed (λ x. number (now x)) (λ x. x) call → is_create (numbered session r) ≡ false
+known_named now number session call r known e =
+    sym (ap is_create (numbered_again now session r)) ∙ known_along number session (renamed now now call) (renamed (λ o. o) now r) (create_renamed now now call ∙ known) (named_again now number call r e)
+
+pub missing_named : {X : Type 0} (now : X → Name) (names : Names) (call : Call X X) → is_create call ≡ false → are_there (renamed (λ x. number_in names (now x)) (λ x. x) call) ≡ false
+    → IsReplied names names (renamed now now call) (Err status.UninitializedObject)
+missing_named {X = X} now names call known missing =
+    let number = number_in names in
+    let gone : are_there (renamed number (λ n. n) (renamed now now call)) ≡ false =
+    ap are_there (renamed_twice now number now (λ (n : Name). n) call) ∙ there_renamed (λ x. number (now x)) now call ∙ sym (there_renamed (λ x. number (now x)) (λ (x : X). x) call) ∙ missing in
+    refused names names (renamed now now call) status.UninitializedObject (fault-missing number (environment_of names.session) (renamed now now call) (create_renamed now now call ∙ known) gone) refl

@@ -1,0 +1,54 @@
+-- The objects of a run by their names, and how calls on them end.
+use Rattle.std.specs.Prelude.{ℕ, ◌≡◌, Bool, true, false, List, [], ◌∷◌, decimal, is_some, Option}
+use Rattle.std.specs.BTreeMap.{get_by_text}
+use Rattle.std.specs.Fmt.{signed_decimal}
+use Rattle.std.specs.Option.{option_and_then}
+use Rattle.calls.specs.declared.obj.Obj.{Obj}
+use Rattle.model.specs.declared.call.Call.{Call}
+use Rattle.model.specs.declared.call.Call.TheVariants.{Create}
+use Rattle.model.specs.Grammar.{Name}
+use Rattle.model.specs.Run.{Environment, object_at}
+use Rattle.model.specs.Runs.{State}
+use Rattle.model.specs.Text.{canonical_lines}
+use Rattle.session.specs.declared.reply.Reply.{Reply}
+use Rattle.session.specs.declared.reply.Reply.TheVariants as reply
+use Rattle.session.specs.Performed.{environment_of}
+use Rattle.script.specs.declared.names.Names.{Names}
+
+-- the number of a name
+abbrev pub number_in : Names → Name → Option Obj
+number_in names name = get_by_text names.numbers name
+
+-- the objects by their names, of numbers and the objects by these
+abbrev pub through : (Name → Option Obj) → Environment Obj → Environment Name
+through number env = record { find_object = λ name. option_and_then env.find_object (number name); count = env.count }
+
+abbrev pub environment_in : Names → Environment Name
+environment_in names = through (number_in names) (environment_of names.session)
+
+abbrev pub state_in : Names → State
+state_in names = record { environment = environment_in names }
+
+-- the call makes an object
+abbrev pub is_create : {K N : Type 0} → Call K N → Bool
+is_create (Create name domain shape) = true
+is_create _ = false
+
+-- the data lines of a reply
+abbrev pub reply_lines : Environment Obj → Reply → List (List ℕ)
+reply_lines env reply.Done = []
+reply_lines env (reply.Made object) = []
+reply_lines env (reply.Value value) = signed_decimal value ∷ []
+reply_lines env (reply.Count number) = decimal number ∷ []
+reply_lines env (reply.Text object) = canonical_lines (object_at env object)
+
+-- the reply has data lines, for which there may be no memory
+abbrev pub HasLines : Reply → Type 0
+HasLines reply.Done = ⊥
+HasLines (reply.Made object) = ⊥
+HasLines _ = Unit {0}
+
+-- the object whose text a reply asks for is there
+abbrev pub Asks : Environment Obj → Reply → Type 0
+Asks env (reply.Text object) = is_some (env.find_object object) ≡ true
+Asks env _ = Unit {0}

@@ -1,0 +1,126 @@
+//! The objects of a run by their names.
+ghost use Rattle.std.specs.Prelude.{◌≡◌, ◌<◌, ◌≤◌, ◌+◌, ◌-◌, ◌^◌, ◌++◌, ℕ, List, OnErr, OnOk, Some, false, is_some, true};
+ghost use Rattle.std.specs.List.{flat_map};
+ghost use Rattle.std.specs.BTreeMap.{get_by_text};
+ghost use Rattle.std.specs.Str.{bytes_eq};
+ghost use Rattle.calls.specs.declared.obj.Obj.{Obj as Object};
+ghost use Rattle.model.specs.Fault.{fault_of};
+ghost use Rattle.model.specs.Renamed.{renamed};
+ghost use Rattle.model.specs.Run.{data_lines_of, effect, no_objects, on_objects, seen};
+ghost use Rattle.model.specs.Text.{ended};
+ghost use Rattle.session.specs.Performed.{Ends, environment_of, made_in};
+
+use crate::replies::write_reply;
+use algebra::Domain;
+use model::{Call, Shape, Status};
+use session::{Obj, Reply, Session};
+use std::alloc::Global;
+use std::collections::BTreeMap;
+
+/// The objects of a run: their names, and the session that holds them by number.
+#[derive(Drop)]
+pub struct Names {
+    alloc: Global,
+    pub numbers: BTreeMap<String, Obj>,
+    pub session: Session,
+    ghost distinct: { (a b : List ℕ) (object : Object) → get_by_text numbers a ≡ Some object
+        → get_by_text numbers b ≡ Some object → a ≡ b },
+    ghost there: { (name : List ℕ) (object : Object) → get_by_text numbers name ≡ Some object
+        → is_some ((environment_of session).find_object object) ≡ true },
+}
+
+impl Names {
+    ghost use Rattle.script.specs.Named.{environment_in, is_create};
+    ghost use Rattle.script.specs.Replied.{IsReplied};
+
+    /// No objects. It takes no memory.
+    pub fn new(alloc: Global) -> Names
+        ensures environment { environment_in result ≡ no_objects }
+        ensures made { made_in result.session ≡ 0 }
+    {
+        Names {
+            alloc,
+            numbers: BTreeMap::new(alloc),
+            session: Session::new(alloc),
+        }
+    }
+
+    /// Does a call, and writes the data lines of its answer. An error leaves the objects as they were;
+    /// what it leaves at the text's end is no answer.
+    #[tactic(auto, unfolding(model::specs::Run::data_lines_of))]
+    pub fn perform(&mut self, call: &Call<&str, &str>, text: &mut Vec<u8>) -> Result<(), Status>
+        requires { made_in self.old.session < 2 ^ 64 - 1 }
+        ensures status { let named = renamed (λ name. name.now) (λ name. name.now) call.now in
+            Ends (fault_of (environment_in self.old).count (seen (environment_in self.old) named)) result }
+        ensures effect { let named = renamed (λ name. name.now) (λ name. name.now) call.now in
+            OnOk result (environment_in self.new ≡ effect bytes_eq (environment_in self.old) named) }
+        ensures kept { OnErr result (environment_in self.new ≡ environment_in self.old) }
+        ensures data { let named = renamed (λ name. name.now) (λ name. name.now) call.now in
+            OnOk result (text.new.items ≡ text.old.items
+            ++ flat_map ended (data_lines_of (on_objects (environment_in self.old) named))) }
+        ensures made { made_in self.new.session ≤ made_in self.old.session + 1 }
+    {
+        match *call {
+            Call::Create {
+                name,
+                domain,
+                shape,
+            } => self.create(name, domain, shape),
+            _ => self.perform_known(call, text),
+        }
+    }
+
+    /// Does a call on objects that are there, and writes the data lines of its answer.
+    fn perform_known(&mut self, call: &Call<&str, &str>, text: &mut Vec<u8>) -> Result<(), Status>
+        requires made { made_in self.old.session < 2 ^ 64 - 1 }
+        requires known { is_create call.now ≡ false }
+        ensures status { let named = renamed (λ name. name.now) (λ name. name.now) call.now in
+            Ends (fault_of (environment_in self.old).count (seen (environment_in self.old) named)) result }
+        ensures effect { let named = renamed (λ name. name.now) (λ name. name.now) call.now in
+            OnOk result (environment_in self.new ≡ effect bytes_eq (environment_in self.old) named) }
+        ensures kept { OnErr result (environment_in self.new ≡ environment_in self.old) }
+        ensures data { let named = renamed (λ name. name.now) (λ name. name.now) call.now in
+            OnOk result (text.new.items ≡ text.old.items
+            ++ flat_map ended (data_lines_of (on_objects (environment_in self.old) named))) }
+        ensures made { made_in self.new.session ≤ made_in self.old.session + 1 }
+    {
+        let reply = self.reply(call)?;
+        write_reply(&self.session, reply, text)?;
+        Ok(())
+    }
+
+    /// Does a call on objects that are there, and gives what it answers.
+    fn reply(&mut self, call: &Call<&str, &str>) -> Result<Reply, Status>
+        requires made { made_in self.old.session < 2 ^ 64 - 1 }
+        requires known { is_create call.now ≡ false }
+        ensures { IsReplied self.old self.new (renamed (λ name. name.now) (λ name. name.now) call.now) result }
+    {
+        let Some(call) = self.resolved(call) else {
+            return Err(Status::UninitializedObject);
+        };
+        self.session.perform(&call)
+    }
+
+    /// Makes an object under a new name.
+    fn create(&mut self, name: &str, domain: Domain, shape: Shape) -> Result<(), Status>
+        requires { made_in self.old.session < 2 ^ 64 - 1 }
+        ensures status { Ends (fault_of (environment_in self.old).count
+            (seen (environment_in self.old) (Call.Create name.now domain shape))) result }
+        ensures effect { OnOk result (environment_in self.new
+            ≡ effect bytes_eq (environment_in self.old) (Call.Create name.now domain shape)) }
+        ensures kept { OnErr result (environment_in self.new ≡ environment_in self.old) }
+        ensures made { made_in self.new.session ≤ made_in self.old.session + 1 }
+    {
+        if self.numbers.contains_key(name) {
+            return Err(Status::NameTaken);
+        }
+        let name = String::from_str(self.alloc, name)?;
+        let object = self.session.create(domain, shape)?;
+        if let Err(_) = self.numbers.insert(name, object) {
+            // Without room for its name the object goes again.
+            let _ = self.session.free(object);
+            return Err(Status::OutOfMemory);
+        }
+        Ok(())
+    }
+}

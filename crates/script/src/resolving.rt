@@ -1,0 +1,93 @@
+//! Names to the objects that they stand for.
+ghost use Rattle.std.specs.Prelude.{◌≡◌, MatchOption, Option, Some, false};
+ghost use Rattle.model.specs.Fault.{are_there};
+ghost use Rattle.model.specs.Renamed.{inputs_of, outputs_of, renamed, renamed_operation, renamed_out};
+ghost use Rattle.calls.specs.Checks.{IsMissing};
+
+use crate::names::Names;
+use model::{Call, Operation, Out};
+use session::Obj;
+
+impl Names {
+    ghost use Rattle.script.specs.Named.{number_in};
+
+    /// The object of a name.
+    fn number(&self, name: &str) -> Option<Obj>
+        ensures { result ≡ number_in self.now name.now }
+    {
+        self.numbers.get(name).copied()
+    }
+
+    /// A call on the objects of its names; None where one stands for none.
+    pub fn resolved<'a>(&self, call: &Call<&str, &'a str>) -> Option<Call<Obj, &'a str>>
+        ensures { let found = renamed (λ name. number_in self.now name.now) (λ name. name) call.now in
+            MatchOption result (are_there found ≡ false) (λ call. renamed Some (λ name. name) call ≡ found) }
+    {
+        let resolved = match *call {
+            Call::Create {
+                name,
+                domain,
+                shape,
+            } => Call::Create {
+                name,
+                domain,
+                shape,
+            },
+            Call::Set {
+                object,
+                place,
+                value,
+            } => Call::Set {
+                object: self.number(object)?,
+                place,
+                value,
+            },
+            Call::Get { object, place } => Call::Get {
+                object: self.number(object)?,
+                place,
+            },
+            Call::Nvals { object } => Call::Nvals {
+                object: self.number(object)?,
+            },
+            Call::Print { object } => Call::Print {
+                object: self.number(object)?,
+            },
+            Call::Operate { out, operation } => {
+                let out = self.resolved_out(&out)?;
+                let operation = self.resolved_operation(&operation)?;
+                Call::Operate { out, operation }
+            }
+        };
+        Some(resolved)
+    }
+
+    fn resolved_out(&self, out: &Out<&str>) -> Option<Out<Obj>>
+        ensures { let found = renamed_out (λ name. number_in self.now name.now) out.now in
+            MatchOption result (IsMissing (outputs_of found)) (λ out. renamed_out Some out ≡ found) }
+    {
+        let c = self.number(out.c)?;
+        let mask = match out.mask {
+            Some(mask) => Some(self.number(mask)?),
+            None => None,
+        };
+        Some(Out {
+            c,
+            mask,
+            accum: out.accum,
+            desc: out.desc,
+        })
+    }
+
+    fn resolved_operation(&self, operation: &Operation<&str>) -> Option<Operation<Obj>>
+        ensures { let found = renamed_operation (λ name. number_in self.now name.now) operation.now in
+            MatchOption result (IsMissing (inputs_of found)) (λ operation. renamed_operation Some operation ≡ found) }
+    {
+        match *operation {
+            Operation::Multiply { ring, a, b } => {
+                let a = self.number(a)?;
+                let b = self.number(b)?;
+                Some(Operation::Multiply { ring, a, b })
+            }
+        }
+    }
+}

@@ -1,0 +1,4 @@
+pub mod HeldLaws
+pub mod PerformedLaws
+pub mod ResultLaws
+pub mod SessionLaws

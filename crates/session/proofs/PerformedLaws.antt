@@ -1,0 +1,96 @@
+-- Calls that were performed.
+use Rattle.std.proofs.Common.{◌≡◌, ◌∙◌, ℕ, ◌+◌, ◌≤◌, false, Option, Some, None, Ok, refl, ap, arith}
+use Rattle.std.specs.Prelude.{ℤ}
+use Rattle.std.specs.Option.{option_map, option_map_or}
+use Rattle.algebra.specs.declared.domain.Domain.{Domain}
+use Rattle.calls.specs.Checks.{known_call}
+use Rattle.calls.specs.declared.obj.Obj.{Obj}
+use Rattle.model.specs.declared.call.Call.{Call}
+use Rattle.model.specs.declared.call.Call.TheVariants.{Create, Set, Get, Nvals, Print, Operate}
+use Rattle.model.specs.declared.call.Operation.{Operation}
+use Rattle.model.specs.declared.call.Operation.TheVariants.{Multiply}
+use Rattle.model.specs.declared.call.Out.{Out}
+use Rattle.model.specs.declared.shape.Place.{Place}
+use Rattle.model.specs.declared.shape.Shape.{Shape}
+use Rattle.model.specs.declared.status.Status.{Status}
+use Rattle.model.specs.Fault.{early_fault, found_object, late_fault}
+use Rattle.model.specs.declared.shape.Signature.{Signature}
+use Rattle.model.specs.Object.{Content, Object, col_of, empty_object, row_of, signature_of}
+use Rattle.model.specs.Renamed.{renamed_operation, renamed_out}
+use Rattle.model.specs.Run.{effect, object_at, with_content, with_object}
+use Rattle.model.specs.WriteBack.{result_of}
+use Rattle.session.specs.Objects.{with_value}
+use Rattle.session.specs.Performed.{IsPerformed, count_in, environment_of, fault_in, known_in, made_in, next_object}
+use Rattle.session.specs.declared.sessions.Session.{Session}
+use Rattle.session.specs.Tables.{same_object}
+use Rattle.session.proofs.SessionLaws.{no_late}
+
+-- an accepted call
+performed : {T : Type 0} (old new : Session) (call : Call Obj Obj) (x : T) → fault_in old call ≡ None → environment_of new ≡ effect same_object (environment_of old) call
+    → made_in new ≤ made_in old + 1 → IsPerformed old new call (Ok x)
+performed old new call x accepted left made = record { status = accepted; effect = left; kept = tt; made = made }
+
+pub performed-create : {T : Type 0} (old new : Session) (domain : Domain) (shape : Shape) (object : Object) (x : T)
+    → early_fault (count_in old) (Create false domain shape) ≡ None
+    → environment_of new ≡ with_object same_object (environment_of old) (next_object old) object ((environment_of old).count + 1)
+    → object ≡ empty_object domain shape → made_in new ≡ made_in old + 1 → IsPerformed old new (Create (next_object old) domain shape) (Ok x)
+unfolding effect
+performed-create old new domain shape object x accepted left empty made =
+    performed old new (Create (next_object old) domain shape) x (no_late (early_fault (count_in old) (Create false domain shape)) accepted)
+    (left ∙ ap (λ (o : Object). with_object same_object (environment_of old) (next_object old) o ((environment_of old).count + 1)) empty) (omega arith)
+
+pub performed-set : {T : Type 0} (old new : Session) (o : Obj) (p : Place) (value : ℤ) (x : T)
+    → early_fault (count_in old) (known_call {N = Obj} (known_in old) (Set o p value)) ≡ None
+    → environment_of new ≡ with_object same_object (environment_of old) o (with_value (object_at (environment_of old) o) p value) (environment_of old).count
+    → made_in new ≡ made_in old → IsPerformed old new (Set o p value) (Ok x)
+unfolding effect
+performed-set old new o p value x accepted left made = performed old new (Set o p value) x (no_late _ accepted) left (omega arith)
+
+found_value : (early : Option Status) (o : Option Object) (x : Object) (p : Place) (word : ℕ) → early ≡ None → o ≡ Some x → x.content (row_of p) (col_of p) ≡ Some word
+    → option_map_or Some early (late_fault {N = Obj} (Get (found_object o) p)) ≡ None
+found_value early o x p word accepted there stored = rw (accepted, there, stored) refl
+
+pub performed-get : {T : Type 0} (session : Session) (o : Obj) (p : Place) (object : Object) (word : ℕ) (x : T)
+    → early_fault (count_in session) (known_call {N = Obj} (known_in session) (Get o p)) ≡ None
+    → (environment_of session).find_object o ≡ Some object → object.content (row_of p) (col_of p) ≡ Some word → IsPerformed session session (Get o p) (Ok x)
+unfolding effect
+performed-get session o p object word x accepted there stored =
+    performed session session (Get o p) x (found_value _ ((environment_of session).find_object o) object p word accepted there stored) refl (omega arith)
+
+pub performed-nvals : {T : Type 0} (session : Session) (o : Obj) (x : T) → early_fault (count_in session) (known_call {N = Obj} (known_in session) (Nvals o)) ≡ None → IsPerformed session session (Nvals o) (Ok x)
+unfolding effect
+performed-nvals session o x accepted = performed session session (Nvals o) x (no_late _ accepted) refl (omega arith)
+
+pub performed-print : {T : Type 0} (session : Session) (o : Obj) (x : T) → early_fault (count_in session) (known_call {N = Obj} (known_in session) (Print o)) ≡ None → IsPerformed session session (Print o) (Ok x)
+unfolding effect
+performed-print session o x accepted = performed session session (Print o) x (no_late _ accepted) refl (omega arith)
+
+-- ---- operations
+
+twice : {K L M : Type 0} (f : K → L) (g : L → M) (mask : Option K) → option_map g (option_map f mask) ≡ option_map (λ k. g (f k)) mask
+twice f g None = refl
+twice f g (Some k) = refl
+
+out_twice : {K L M : Type 0} (f : K → L) (g : L → M) (out : Out K) → renamed_out g (renamed_out f out) ≡ renamed_out (λ k. g (f k)) out
+out_twice {M = M} f g out = ap (λ (mask : Option M). let o : Out M = record { c = g (f out.c); mask = mask; accum = out.accum; desc = out.desc } in o) (twice f g out.mask)
+
+operation_twice : {K L M : Type 0} (f : K → L) (g : L → M) (operation : Operation K) → renamed_operation g (renamed_operation f operation) ≡ renamed_operation (λ k. g (f k)) operation
+operation_twice f g (Multiply ring a b) = refl
+
+fault_in-operate : (session : Session) (out : Out Obj) (operation : Operation Obj) → early_fault (count_in session) (Operate (renamed_out (known_in session) out) (renamed_operation (known_in session) operation)) ≡ None
+    → fault_in session (Operate out operation) ≡ None
+fault_in-operate session out operation accepted =
+    let find = (environment_of session).find_object in
+    let same = ap (λ (o : Out (Option Signature)). early_fault (count_in session) (Operate o (renamed_operation (option_map signature_of) (renamed_operation find operation)))) (out_twice find (option_map signature_of) out)
+    ∙ ap (λ (o : Operation (Option Signature)). early_fault (count_in session) (Operate (renamed_out (known_in session) out) o)) (operation_twice find (option_map signature_of) operation) in
+    no_late _ (same ∙ accepted)
+
+pub performed-operate : {T : Type 0} (old new : Session) (out : Out Obj) (operation : Operation Obj) (content : Content) (x : T)
+    → early_fault (count_in old) (Operate (renamed_out (known_in old) out) (renamed_operation (known_in old) operation)) ≡ None
+    → environment_of new ≡ with_content same_object (environment_of old) out.c content
+    → ((i j : ℕ) → content i j ≡ result_of (renamed_out (object_at (environment_of old)) out) (renamed_operation (object_at (environment_of old)) operation) i j)
+    → made_in new ≡ made_in old → IsPerformed old new (Operate out operation) (Ok x)
+unfolding effect
+performed-operate old new out operation content x accepted left is made =
+    performed old new (Operate out operation) x (fault_in-operate old out operation accepted)
+    (left ∙ (λ t. with_content same_object (environment_of old) out.c (λ i j. is i j t))) (omega arith)

@@ -1,0 +1,117 @@
+-- What is known of accepted calls, and that the numbers of objects stay below the next one.
+use Rattle.std.proofs.Common.{◌≡◌, ◌∙◌, ℕ, ◌+◌, ◌<◌, ◌≤◌, ◌==◌, ◌^◌, ◌-◌, Bool, true, false, cond, not, Option, Some, None, is_some, Result, Ok, Err, refl, sym, ap, inl, inr, arith}
+use Rattle.std.specs.Prelude.{OnErr, OnOk, ℤ, nat_le}
+use Rattle.std.specs.Option.{option_map, option_map_or}
+use Rattle.std.proofs.lemmas.Bool.{cases_Bool, eqb-true}
+use Rattle.std.proofs.lemmas.Bool.Decides.{nat_tests}
+use Rattle.algebra.specs.declared.domain.Domain.{Domain}
+use Rattle.algebra.specs.Value.{is_value_of}
+use Rattle.calls.specs.declared.obj.Obj.{Obj}
+use Rattle.model.specs.declared.call.Call.TheVariants.{Create, Set, Get, Nvals, Print}
+use Rattle.model.specs.declared.limits.TheConstants.{MOST_OBJECTS}
+use Rattle.model.specs.declared.shape.Place.{Place}
+use Rattle.model.specs.declared.shape.Shape.{Shape}
+use Rattle.model.specs.declared.status.Status.{Status}
+use Rattle.model.specs.declared.status.Status.TheVariants as status
+use Rattle.model.specs.Fault.{are_dimensions, early_fault, found_object}
+use Rattle.model.specs.Object.{Object, is_inside, is_of_kind, signature_of}
+use Rattle.model.specs.Run.{Environment, with_object}
+use Rattle.session.specs.Tables.{same_object, without_object}
+
+-- ---- accepted calls
+
+pub no_late : {X : Type 0} (fault : Option X) → fault ≡ None → option_map_or Some fault None ≡ None
+no_late None h = refl
+no_late (Some x) h = absurd (cc)
+
+three : (a b c : Bool) → cond (not a) (Some status.WrongKind) (cond (not b) (Some status.InvalidIndex) (cond (not c) (Some status.InvalidValue) None)) ≡ None → (b ≡ true) × (c ≡ true)
+three true true true h = (refl, refl)
+three true true false h = absurd (cc)
+three true false c h = absurd (cc)
+three false b c h = absurd (cc)
+
+pub set-accepted : (count : ℕ) (o : Option Object) (p : Place) (value : ℤ) → early_fault count (Set (option_map signature_of o) p value) ≡ None
+    → (is_some o ≡ true) × (is_inside p (found_object o).shape ≡ true) × (is_value_of (found_object o).domain value ≡ true)
+unfolding early_fault
+set-accepted count None p value h = absurd (cc)
+set-accepted count (Some o) p value h =
+    let both = three (is_of_kind p o.shape) (is_inside p o.shape) (is_value_of o.domain value) h in
+    (refl, both.0, both.1)
+
+pub get-accepted : (count : ℕ) (o : Option Object) (p : Place) → early_fault count (Get (option_map signature_of o) p) ≡ None → o ≡ None → ⊥
+unfolding early_fault
+get-accepted count None p h none = absurd (cc)
+get-accepted count (Some o) p h none = absurd (cc)
+
+pub nvals-accepted : (count : ℕ) (o : Option Object) → early_fault count (Nvals (option_map signature_of o)) ≡ None → o ≡ None → ⊥
+unfolding early_fault
+nvals-accepted count None h none = absurd (cc)
+nvals-accepted count (Some o) h none = absurd (cc)
+
+pub print-accepted : (count : ℕ) (o : Option Object) → early_fault count (Print (option_map signature_of o)) ≡ None → is_some o ≡ true
+unfolding early_fault
+print-accepted count None h = absurd (cc)
+print-accepted count (Some o) h = refl
+
+full : (most : Bool) (rest : Option Status) → cond most (Some status.NotImplemented) rest ≡ None → most ≡ false
+full true rest h = absurd (cc)
+full false rest h = refl
+
+pub create-accepted : (count : ℕ) (domain : Domain) (shape : Shape) → early_fault count (Create false domain shape) ≡ None → nat_le MOST_OBJECTS count ≡ false
+unfolding early_fault
+create-accepted count domain shape h = full (nat_le MOST_OBJECTS count) (cond (not (are_dimensions shape)) (Some status.InvalidValue) None) h
+
+last_refused : (last : Bool) (count : ℕ) → nat_le MOST_OBJECTS (cond last MOST_OBJECTS count) ≡ false → last ≡ false
+last_refused true count h = absurd (cc)
+last_refused false count h = refl
+
+-- there is a number left for what is made
+pub number_left : (next count : ℕ) (domain : Domain) (shape : Shape) → next < 2 ^ 64
+    → early_fault (cond (next == 2 ^ 64 - 1) MOST_OBJECTS count) (Create false domain shape) ≡ None → next + 1 < 2 ^ 64
+number_left next count domain shape small h =
+    let left : (next == 2 ^ 64 - 1) ≡ false = last_refused (next == 2 ^ 64 - 1) count (create-accepted (cond (next == 2 ^ 64 - 1) MOST_OBJECTS count) domain shape h) in
+    grind (arith, nat_tests)
+
+-- ---- numbers
+
+-- the objects are below the next number, after one was put under a number
+put_below : (old : Environment Obj) (o : Obj) (object : Object) (count n m : ℕ) → ((q : Obj) → is_some (old.find_object q) ≡ true → q.0 < n) → o.0 < m → n ≤ m
+    → (q : Obj) → is_some ((with_object same_object old o object count).find_object q) ≡ true → q.0 < m
+put_below old o object count n m below small more q there =
+    elim (cases_Bool (o.0 == q.0)) [
+      | inl same ↦ let is : o.0 ≡ q.0 = eqb-true o.0 q.0 same in omega arith
+      | inr apart ↦ let was : is_some (old.find_object q) ≡ true = rw apart at there in let low : q.0 < n = below q was in omega arith
+    ]
+
+pub below-put : (old new : Environment Obj) (o : Obj) (object : Object) (count n m : ℕ) → ((q : Obj) → is_some (old.find_object q) ≡ true → q.0 < n) → o.0 < m → n ≤ m
+    → new ≡ with_object same_object old o object count → (q : Obj) → is_some (new.find_object q) ≡ true → q.0 < m
+below-put old new o object count n m below small more is q there =
+    put_below old o object count n m below small more q (ap (λ (env : Environment Obj). is_some (env.find_object q)) (sym is) ∙ there)
+
+pub below-kept : (old new : Environment Obj) (n : ℕ) → ((q : Obj) → is_some (old.find_object q) ≡ true → q.0 < n) → new ≡ old → (q : Obj) → is_some (new.find_object q) ≡ true → q.0 < n
+below-kept old new n below is q there = below q (ap (λ (env : Environment Obj). is_some (env.find_object q)) (sym is) ∙ there)
+
+-- ..also where memory may have been refused
+pub below-after : {T E : Type 0} (r : Result T E) (old new : Environment Obj) (o : Obj) (object : Object) (count n : ℕ) → ((q : Obj) → is_some (old.find_object q) ≡ true → q.0 < n) → o.0 < n
+    → OnOk r (new ≡ with_object same_object old o object count) → OnErr r (new ≡ old) → (q : Obj) → is_some (new.find_object q) ≡ true → q.0 < n
+below-after (Ok x) old new o object count n below small is kept = below-put old new o object count n n below small (omega arith) is
+below-after (Err e) old new o object count n below small is kept = below-kept old new n below kept
+
+none_from : (o : Option Object) → (is_some o ≡ true → ⊥) → o ≡ None
+none_from None h = refl
+none_from (Some x) h = absurd (h refl)
+
+-- no object has the next number yet
+pub not_there : (env : Environment Obj) (o : Obj) → ((q : Obj) → is_some (env.find_object q) ≡ true → q.0 < o.0) → env.find_object o ≡ None
+not_there env o below = none_from (env.find_object o) (λ there. let low : o.0 < o.0 = below o there in absurd (omega arith))
+
+left_there : (gone : Bool) (o : Option Object) → is_some (cond gone None o) ≡ true → is_some o ≡ true
+left_there true o h = absurd (cc)
+left_there false o h = h
+
+-- the objects are below the next number, after one may have been taken out
+pub below-removed : (removed : Bool) (old new : Environment Obj) (o : Obj) (n : ℕ) → ((q : Obj) → is_some (old.find_object q) ≡ true → q.0 < n)
+    → new ≡ cond removed (without_object old o) old → (q : Obj) → is_some (new.find_object q) ≡ true → q.0 < n
+below-removed true old new o n below is q there =
+    below q (left_there (same_object o q) (old.find_object q) (ap (λ (env : Environment Obj). is_some (env.find_object q)) (sym is) ∙ there))
+below-removed false old new o n below is q there = below-kept old new n below is q there

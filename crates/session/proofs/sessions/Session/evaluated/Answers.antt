@@ -1,0 +1,47 @@
+-- The stores of the four roles, and the whole block that comes of them.
+use Rattle.std.proofs.Common.{◌≡◌, ◌∙◌, ℕ, Bor}
+use Rattle.calls.specs.declared.role.Role.{Role}
+use Rattle.calls.specs.declared.role.Role.TheVariants.{Old, Mask, First, Second}
+use Rattle.calls.specs.declared.role.Roles.{Roles}
+use Rattle.calls.specs.Recipes.{meaning}
+use Rattle.calls.specs.Roles.{role_of}
+use Rattle.kernel.specs.Evaluated.{AreInputs, object_in, output_of}
+use Rattle.kernel.proofs.Wholes.{whole_block}
+use Rattle.model.specs.Object.{cols_of, rows_of}
+use Rattle.session.specs.Performed.{environment_of}
+use Rattle.session.specs.Results.{IsEvaluated, IsStoreOf}
+use Rattle.session.proofs.ResultLaws.{each_role, evaluated, if_ok_three, inputs_taken, known_there}
+use Rattle.store.specs.Rows.{block_content}
+use Rattle.store.specs.Stored.{Stored, content_of}
+use Rattle.session.proofs.sessions.Session.evaluated.Goals as goal
+
+pub store_of-requires : goal.store_of-requires
+store_of-requires c = known_there _ (role_of c.args.recipe.now.signatures Old) (c.requires Old)
+
+pub store_of-requires-2 : goal.store_of-requires-2
+store_of-requires-2 c = known_there _ (role_of c.args.recipe.now.signatures Mask) (c.requires Mask)
+
+pub store_of-requires-3 : goal.store_of-requires-3
+store_of-requires-3 c = known_there _ (role_of c.args.recipe.now.signatures First) (c.requires First)
+
+pub store_of-requires-4 : goal.store_of-requires-4
+store_of-requires-4 c = known_there _ (role_of c.args.recipe.now.signatures Second) (c.requires Second)
+
+pub returns : goal.returns
+returns c =
+    let env = environment_of c.args.self.now in
+    let recipe = c.args.recipe.now in
+    let objects = c.args.objects.now in
+    let stores : Roles (Bor Stored) = record { old = c.store_of.result; mask = c.store_of-2.result; first = c.store_of-3.result; second = c.store_of-4.result } in
+    let stored : Role → Stored = λ role. (role_of stores role).now in
+    let are : (role : Role) → IsStoreOf env (role_of objects role) (stored role) =
+    each_role (λ (role : Role). IsStoreOf env (role_of objects role) (stored role)) c.store_of.ensures c.store_of-2.ensures c.store_of-3.ensures c.store_of-4.ensures in
+    let inputs : AreInputs recipe stored = inputs_taken env recipe objects stored c.requires are in
+    let rows : c.rows-rows.result ≡ rows_of (output_of recipe).shape = rw c.of.ensures at c.rows-rows.ensures in
+    let block = c.in_ok-block.block in
+    let whole : (i j : ℕ) → block_content block i j ≡ meaning recipe (object_in recipe stored) i j =
+    whole_block recipe stored block inputs c.in_ok-block.ensures.first (c.in_ok-block.ensures.past ∙ rows) (λ i j low high. c.in_ok-block.ensures.words i j low (rw rows high)) in
+    if_ok_three c.join.result (λ store. store.rows ≡ rows_of (output_of recipe).shape) (λ store. store.cols ≡ cols_of (output_of recipe).shape)
+    (λ store. (i j : ℕ) → content_of store i j ≡ block_content block i j) (IsEvaluated env recipe objects)
+    (λ store rows cols content. evaluated env recipe objects stored store c.requires are rows cols (λ i j. content i j ∙ whole i j))
+    c.join.ensures.rows c.join.ensures.cols c.join.ensures.content

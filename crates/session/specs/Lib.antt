@@ -1,0 +1,4 @@
+pub mod Objects
+pub mod Performed
+pub mod Results
+pub mod Tables

@@ -1,0 +1,14 @@
+//! Sessions: objects by number, and all calls on them.
+#![tactic(auto)]
+
+mod held;
+mod operating;
+mod performing;
+mod reply;
+mod sessions;
+mod table;
+
+pub use calls::{Call, Desc, Obj, Operation, Out, Place, Shape};
+pub use held::Held;
+pub use reply::Reply;
+pub use sessions::Session;

@@ -1,0 +1,81 @@
+//! Operations on the objects of a session.
+ghost use Rattle.std.specs.Prelude.{◌≡◌, IfOk, Some, is_some, true};
+ghost use Rattle.model.specs.Renamed.{renamed_operation, renamed_out};
+ghost use Rattle.calls.specs.Roles.{role_of};
+ghost use Rattle.calls.specs.declared.role.Role.{Role as AnyRole};
+ghost use Rattle.model.specs.Fault.{early_fault};
+ghost use Rattle.session.specs.Results.{IsEvaluated, IsLeft, IsStoreOf};
+
+use crate::sessions::Session;
+use algebra::RingName;
+use calls::{Call, Checked, Obj, Operation, Out, Recipe, Roles, by_role};
+use kernel::{eval_piece, join};
+use model::{NoMemory, Status};
+use store::Store;
+
+impl Session {
+    ghost use Rattle.session.specs.Performed.{Ends, IsPerformed, count_in, environment_of, known_in};
+
+    /// Multiplies two matrices over a semiring into a third (`GrB_mxm`).
+    pub fn mxm(&mut self, out: &Out<Obj>, ring: RingName, a: Obj, b: Obj) -> Result<(), Status>
+        ensures { IsPerformed self.old self.new (Call.Operate out.now (Operation.Multiply ring a b)) result }
+    {
+        self.operate(out, &Operation::Multiply { ring, a, b })
+    }
+
+    /// Computes an operation, and writes it into its output. The same object may be output, mask and
+    /// input: all inputs are as they were before the call.
+    pub fn operate(&mut self, out: &Out<Obj>, operation: &Operation<Obj>) -> Result<(), Status>
+        ensures { IsPerformed self.old self.new (Call.Operate out.now operation.now) result }
+    {
+        let store = self.result(out, operation)?;
+        self.table.replace(out.c, store);
+        Ok(())
+    }
+
+    /// What an operation leaves in its output.
+    fn result(&self, out: &Out<Obj>, operation: &Operation<Obj>) -> Result<Store, Status>
+        ensures status { Ends (early_fault (count_in self.now)
+            (Call.Operate (renamed_out (known_in self.now) out.now)
+            (renamed_operation (known_in self.now) operation.now))) result }
+        ensures left { IfOk result (IsLeft (environment_of self.now) out.now operation.now) }
+    {
+        let checked = self.checked(&Call::Operate {
+            out: *out,
+            operation: *operation,
+        })?;
+        let Checked::Operation(recipe) = checked else {
+            unreachable!()
+        };
+        let store = self.evaluated(&recipe, &by_role(out, operation))?;
+        Ok(store)
+    }
+
+    /// What a recipe gives of the objects that take its roles, all rows at once.
+    fn evaluated(&self, recipe: &Recipe, objects: &Roles<Obj>) -> Result<Store, NoMemory>
+        requires { (role : AnyRole) → known_in self.now (role_of objects.now role)
+            ≡ Some (role_of recipe.now.signatures role) }
+        ensures { IfOk result (IsEvaluated (environment_of self.now) recipe.now objects.now) }
+    {
+        let stores = Roles {
+            old: self.store_of(objects.old),
+            mask: self.store_of(objects.mask),
+            first: self.store_of(objects.first),
+            second: self.store_of(objects.second),
+        };
+        let rows = recipe.signatures.of(recipe.out.c).shape.rows();
+        let block = eval_piece(self.alloc(), recipe, &stores, 0..rows)?;
+        join(self.alloc(), recipe, &block)
+    }
+
+    /// The store of an object that is there.
+    fn store_of(&self, object: Obj) -> &Store
+        requires { is_some ((environment_of self.now).find_object object) ≡ true }
+        ensures { IsStoreOf (environment_of self.now) object result.now }
+    {
+        match self.table.find(object) {
+            Some(held) => &held.store,
+            None => unreachable!(),
+        }
+    }
+}

@@ -1,0 +1,99 @@
+//! The table of objects by number.
+ghost use Rattle.std.specs.Prelude.{◌≡◌, ◌+◌, MatchOption, None, OnErr, OnOk, Some, if◌then◌else◌, is_some, true};
+ghost use Rattle.algebra.specs.Value.{is_value_of};
+ghost use Rattle.model.specs.Object.{IsObject, cols_of, is_inside, rows_of};
+ghost use Rattle.model.specs.Run.{no_objects, object_at, with_content, with_object};
+ghost use Rattle.store.specs.Stored.{content_of};
+
+use crate::held::Held;
+use calls::Obj;
+use model::{NoMemory, Place};
+use std::alloc::Global;
+use std::collections::BTreeMap;
+use store::Store;
+
+/// Objects by their numbers.
+#[derive(Drop)]
+pub struct Table {
+    pub by_number: BTreeMap<u64, Held>,
+}
+
+impl Table {
+    ghost use Rattle.session.specs.Objects.{object_of, with_value};
+    ghost use Rattle.session.specs.Tables.{environment_in, same_object, without_object};
+
+    /// No objects. It takes no memory.
+    pub(crate) fn new(alloc: Global) -> Table
+        ensures { environment_in result ≡ no_objects }
+    {
+        Table {
+            by_number: BTreeMap::new(alloc),
+        }
+    }
+
+    /// How many objects there are.
+    pub(crate) fn len(&self) -> u64
+        ensures { result ≡ (environment_in self.now).count }
+    {
+        self.by_number.len() as u64
+    }
+
+    /// The object of a number.
+    pub(crate) fn find(&self, object: Obj) -> Option<&Held>
+        ensures { MatchOption result ((environment_in self.now).find_object object ≡ None)
+            (λ held. (environment_in self.now).find_object object ≡ Some (object_of held.now)) }
+    {
+        self.by_number.get(&object.0)
+    }
+
+    /// Puts an object under a new number.
+    pub(crate) fn insert(&mut self, object: Obj, held: Held) -> Result<(), NoMemory>
+        requires { (environment_in self.old).find_object object ≡ None }
+        ensures made { OnOk result (environment_in self.new
+            ≡ with_object same_object (environment_in self.old) object (object_of held)
+            ((environment_in self.old).count + 1)) }
+        ensures refused { OnErr result (environment_in self.new ≡ environment_in self.old) }
+    {
+        self.by_number.insert(object.0, held)?;
+        Ok(())
+    }
+
+    /// Puts another store into an object.
+    pub(crate) fn replace(&mut self, object: Obj, store: Store)
+        requires there { is_some ((environment_in self.old).find_object object) ≡ true }
+        requires rows { store.rows ≡ rows_of (object_at (environment_in self.old) object).shape }
+        requires cols { store.cols ≡ cols_of (object_at (environment_in self.old) object).shape }
+        requires is_object { IsObject (record (object_at
+            (environment_in self.old) object) { content = content_of store }) }
+        ensures { environment_in self.new ≡ with_content same_object (environment_in self.old) object
+            (content_of store) }
+    {
+        match self.by_number.get_mut(&object.0) {
+            Some(held) => held.store = store,
+            None => unreachable!(),
+        }
+    }
+
+    /// Sets a value at a place inside an object, in place.
+    pub(crate) fn set(&mut self, object: Obj, place: Place, value: i128) -> Result<(), NoMemory>
+        requires inside { is_inside place (object_at (environment_in self.old) object).shape ≡ true }
+        requires value { is_value_of (object_at (environment_in self.old) object).domain value ≡ true }
+        ensures set { OnOk result (environment_in self.new ≡ with_object same_object (environment_in self.old) object
+            (with_value (object_at (environment_in self.old) object) place value) (environment_in self.old).count) }
+        ensures refused { OnErr result (environment_in self.new ≡ environment_in self.old) }
+    {
+        match self.by_number.get_mut(&object.0) {
+            Some(held) => held.set(place, value),
+            None => unreachable!(),
+        }
+    }
+
+    /// Takes an object out, and says whether it was there.
+    pub(crate) fn remove(&mut self, object: Obj) -> bool
+        ensures there { result ≡ is_some ((environment_in self.old).find_object object) }
+        ensures left { environment_in self.new ≡ (if result then without_object (environment_in self.old) object
+            else environment_in self.old) }
+    {
+        self.by_number.remove(&object.0).is_some()
+    }
+}
