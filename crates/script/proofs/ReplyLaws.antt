@@ -1,5 +1,5 @@
 -- What calls on names leave and answer, by what the session does.
-use Rattle.std.proofs.Common.{◌≡◌, ◌∙◌, ◌<◌, ◌-◌, ◌^◌, Bool, true, false, cond, Option, Some, None, is_some, Result, Ok, Err, arith, refl, sym, ap, inl, inr}
+use Rattle.std.proofs.Common.{◌≡◌, ◌∙◌, ◌<◌, ◌≤◌, ◌+◌, ◌-◌, ◌^◌, Bool, true, false, cond, Option, Some, None, is_some, Result, Ok, Err, arith, refl, sym, ap, inl, inr}
 use Rattle.std.specs.Prelude.{IfOk}
 use Rattle.std.specs.Option.{option_map, option_map_or}
 use Rattle.std.specs.BTreeMap.{get_by_text}
@@ -24,7 +24,7 @@ use Rattle.script.specs.Replied.{IsReplied}
 use Rattle.session.specs.declared.reply.Reply.{Reply}
 use Rattle.session.specs.declared.reply.Reply.TheVariants.{Done, Made, Value, Count, Text}
 use Rattle.session.specs.declared.sessions.Session.{Session}
-use Rattle.session.specs.Performed.{Answers, IsPerformed, environment_of, made_in, numbered}
+use Rattle.session.specs.Performed.{Answers, IsPerformed, environment_of, made_after, made_in, numbered}
 use Rattle.session.specs.Tables.{same_object}
 
 -- ---- the session's call
@@ -130,6 +130,16 @@ reads_answered senv new _ (Done) is answers has = absurd has
 reads_answered senv new _ (Made o) is answers has = absurd has
 reads_answered senv new _ _ is answers has = absurd answers
 
+-- a call makes one object at most
+made_after-most : {T : Type 0} (old : Session) (result : Result T Status) (call : Call Obj Obj) → made_after old result call ≤ made_in old + 1
+made_after-most old (Err s) call = omega arith
+made_after-most old (Ok x) (Create name domain shape) = omega arith
+made_after-most old (Ok x) (Set o p value) = omega arith
+made_after-most old (Ok x) (Get o p) = omega arith
+made_after-most old (Ok x) (Nvals o) = omega arith
+made_after-most old (Ok x) (Print o) = omega arith
+made_after-most old (Ok x) (Operate out operation) = omega arith
+
 -- ---- together
 
 pub replied : (old new : Names) (call : Call Name Name) (r : Call Obj Name) (result : Result Reply Status) → made_in old.session < 2 ^ 64 - 1 → is_create call ≡ false
@@ -145,7 +155,7 @@ replied old new call r (Ok reply) small known distinct same e done answers =
       status = fault-along number old.session call r small known e ∙ done.status;
       effect = is ∙ effect-along number old.session (environment_of new.session) call r known distinct e done.effect;
       kept = tt;
-      made = done.made;
+      made = rw done.made (made_after-most {T = Reply} old.session (Ok reply) (numbered old.session r));
       lines = lines_answered (environment_of old.session) (environment_of new.session) r' reply known' done.effect answers
           ∙ sym (objects_along data_lines_of data_lines_of data_renamed number old.session call r e);
       asks = asks_answered (environment_of old.session) (environment_of new.session) r' reply known' done.effect answers;
@@ -158,7 +168,7 @@ replied old new call r (Err s) small known distinct same e done answers =
       status = elim done.status [ inl memory ↦ inl memory | inr fault ↦ inr (fault-along number old.session call r small known e ∙ fault) ];
       effect = tt;
       kept = is ∙ ap (through number) done.kept;
-      made = done.made;
+      made = rw done.made (made_after-most {T = Reply} old.session (Err s) (numbered old.session r));
       lines = tt;
       asks = tt;
       reads = tt;

@@ -1,5 +1,6 @@
 //! The objects of a run by their names.
-ghost use Rattle.std.specs.Prelude.{◌≡◌, ◌<◌, ◌≤◌, ◌+◌, ◌-◌, ◌^◌, ◌++◌, ℕ, List, OnErr, OnOk, Some, false, is_some, true};
+ghost use Rattle.std.specs.Prelude.{◌≡◌, ◌<◌, ◌≤◌, ◌+◌, ◌-◌, ◌^◌, ◌++◌, ℕ, List, OnErr, OnOk, Some, false, is_some};
+ghost use Rattle.std.specs.Prelude.{true};
 ghost use Rattle.std.specs.List.{flat_map};
 ghost use Rattle.std.specs.BTreeMap.{get_by_text};
 ghost use Rattle.std.specs.Str.{bytes_eq};
@@ -31,7 +32,7 @@ pub struct Names {
 
 impl Names {
     ghost use Rattle.script.specs.Named.{environment_in, is_create};
-    ghost use Rattle.script.specs.Replied.{IsReplied};
+    ghost use Rattle.script.specs.Replied.{IsAnswered, IsReplied};
 
     /// No objects. It takes no memory.
     pub fn new(alloc: Global) -> Names
@@ -50,15 +51,8 @@ impl Names {
     #[tactic(auto, unfolding(model::specs::Run::data_lines_of))]
     pub fn perform(&mut self, call: &Call<&str, &str>, text: &mut Vec<u8>) -> Result<(), Status>
         requires { made_in self.old.session < 2 ^ 64 - 1 }
-        ensures status { let named = renamed (λ name. name.now) (λ name. name.now) call.now in
-            Ends (fault_of (environment_in self.old).count (seen (environment_in self.old) named)) result }
-        ensures effect { let named = renamed (λ name. name.now) (λ name. name.now) call.now in
-            OnOk result (environment_in self.new ≡ effect bytes_eq (environment_in self.old) named) }
-        ensures kept { OnErr result (environment_in self.new ≡ environment_in self.old) }
-        ensures data { let named = renamed (λ name. name.now) (λ name. name.now) call.now in
-            OnOk result (text.new.items ≡ text.old.items
-            ++ flat_map ended (data_lines_of (on_objects (environment_in self.old) named))) }
-        ensures made { made_in self.new.session ≤ made_in self.old.session + 1 }
+        ensures { IsAnswered self.old self.new (renamed (λ name. name.now) (λ name. name.now) call.now)
+            text.old.items text.new.items result }
     {
         match *call {
             Call::Create {
@@ -74,15 +68,8 @@ impl Names {
     fn perform_known(&mut self, call: &Call<&str, &str>, text: &mut Vec<u8>) -> Result<(), Status>
         requires made { made_in self.old.session < 2 ^ 64 - 1 }
         requires known { is_create call.now ≡ false }
-        ensures status { let named = renamed (λ name. name.now) (λ name. name.now) call.now in
-            Ends (fault_of (environment_in self.old).count (seen (environment_in self.old) named)) result }
-        ensures effect { let named = renamed (λ name. name.now) (λ name. name.now) call.now in
-            OnOk result (environment_in self.new ≡ effect bytes_eq (environment_in self.old) named) }
-        ensures kept { OnErr result (environment_in self.new ≡ environment_in self.old) }
-        ensures data { let named = renamed (λ name. name.now) (λ name. name.now) call.now in
-            OnOk result (text.new.items ≡ text.old.items
-            ++ flat_map ended (data_lines_of (on_objects (environment_in self.old) named))) }
-        ensures made { made_in self.new.session ≤ made_in self.old.session + 1 }
+        ensures { IsAnswered self.old self.new (renamed (λ name. name.now) (λ name. name.now) call.now)
+            text.old.items text.new.items result }
     {
         let reply = self.reply(call)?;
         write_reply(&self.session, reply, text)?;

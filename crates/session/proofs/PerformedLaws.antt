@@ -1,5 +1,5 @@
 -- Calls that were performed.
-use Rattle.std.proofs.Common.{◌≡◌, ◌∙◌, ℕ, ◌+◌, ◌≤◌, false, Option, Some, None, Ok, refl, ap, arith}
+use Rattle.std.proofs.Common.{◌≡◌, ◌∙◌, ℕ, ◌+◌, false, Option, Some, None, Ok, refl, ap}
 use Rattle.std.specs.Prelude.{ℤ}
 use Rattle.std.specs.Option.{option_map, option_map_or}
 use Rattle.algebra.specs.declared.domain.Domain.{Domain}
@@ -20,14 +20,14 @@ use Rattle.model.specs.Renamed.{renamed_operation, renamed_out}
 use Rattle.model.specs.Run.{effect, object_at, with_content, with_object}
 use Rattle.model.specs.WriteBack.{result_of}
 use Rattle.session.specs.Objects.{with_value}
-use Rattle.session.specs.Performed.{IsPerformed, count_in, environment_of, fault_in, known_in, made_in, next_object}
+use Rattle.session.specs.Performed.{IsPerformed, count_in, environment_of, fault_in, known_in, made_after, made_in, next_object}
 use Rattle.session.specs.declared.sessions.Session.{Session}
 use Rattle.session.specs.Tables.{same_object}
 use Rattle.session.proofs.SessionLaws.{no_late}
 
 -- an accepted call
 performed : {T : Type 0} (old new : Session) (call : Call Obj Obj) (x : T) → fault_in old call ≡ None → environment_of new ≡ effect same_object (environment_of old) call
-    → made_in new ≤ made_in old + 1 → IsPerformed old new call (Ok x)
+    → made_in new ≡ made_after {T = T} old (Ok x) call → IsPerformed old new call (Ok x)
 performed old new call x accepted left made = record { status = accepted; effect = left; kept = tt; made = made }
 
 pub performed-create : {T : Type 0} (old new : Session) (domain : Domain) (shape : Shape) (object : Object) (x : T)
@@ -37,14 +37,14 @@ pub performed-create : {T : Type 0} (old new : Session) (domain : Domain) (shape
 unfolding effect
 performed-create old new domain shape object x accepted left empty made =
     performed old new (Create (next_object old) domain shape) x (no_late (early_fault (count_in old) (Create false domain shape)) accepted)
-    (left ∙ ap (λ (o : Object). with_object same_object (environment_of old) (next_object old) o ((environment_of old).count + 1)) empty) (omega arith)
+    (left ∙ ap (λ (o : Object). with_object same_object (environment_of old) (next_object old) o ((environment_of old).count + 1)) empty) made
 
 pub performed-set : {T : Type 0} (old new : Session) (o : Obj) (p : Place) (value : ℤ) (x : T)
     → early_fault (count_in old) (known_call {N = Obj} (known_in old) (Set o p value)) ≡ None
     → environment_of new ≡ with_object same_object (environment_of old) o (with_value (object_at (environment_of old) o) p value) (environment_of old).count
     → made_in new ≡ made_in old → IsPerformed old new (Set o p value) (Ok x)
 unfolding effect
-performed-set old new o p value x accepted left made = performed old new (Set o p value) x (no_late _ accepted) left (omega arith)
+performed-set old new o p value x accepted left made = performed old new (Set o p value) x (no_late _ accepted) left made
 
 found_value : (early : Option Status) (o : Option Object) (x : Object) (p : Place) (word : ℕ) → early ≡ None → o ≡ Some x → x.content (row_of p) (col_of p) ≡ Some word
     → option_map_or Some early (late_fault {N = Obj} (Get (found_object o) p)) ≡ None
@@ -55,15 +55,15 @@ pub performed-get : {T : Type 0} (session : Session) (o : Obj) (p : Place) (obje
     → (environment_of session).find_object o ≡ Some object → object.content (row_of p) (col_of p) ≡ Some word → IsPerformed session session (Get o p) (Ok x)
 unfolding effect
 performed-get session o p object word x accepted there stored =
-    performed session session (Get o p) x (found_value _ ((environment_of session).find_object o) object p word accepted there stored) refl (omega arith)
+    performed session session (Get o p) x (found_value _ ((environment_of session).find_object o) object p word accepted there stored) refl refl
 
 pub performed-nvals : {T : Type 0} (session : Session) (o : Obj) (x : T) → early_fault (count_in session) (known_call {N = Obj} (known_in session) (Nvals o)) ≡ None → IsPerformed session session (Nvals o) (Ok x)
 unfolding effect
-performed-nvals session o x accepted = performed session session (Nvals o) x (no_late _ accepted) refl (omega arith)
+performed-nvals session o x accepted = performed session session (Nvals o) x (no_late _ accepted) refl refl
 
 pub performed-print : {T : Type 0} (session : Session) (o : Obj) (x : T) → early_fault (count_in session) (known_call {N = Obj} (known_in session) (Print o)) ≡ None → IsPerformed session session (Print o) (Ok x)
 unfolding effect
-performed-print session o x accepted = performed session session (Print o) x (no_late _ accepted) refl (omega arith)
+performed-print session o x accepted = performed session session (Print o) x (no_late _ accepted) refl refl
 
 -- ---- operations
 
@@ -93,4 +93,4 @@ pub performed-operate : {T : Type 0} (old new : Session) (out : Out Obj) (operat
 unfolding effect
 performed-operate old new out operation content x accepted left is made =
     performed old new (Operate out operation) x (fault_in-operate old out operation accepted)
-    (left ∙ (λ t. with_content same_object (environment_of old) out.c (λ i j. is i j t))) (omega arith)
+    (left ∙ (λ t. with_content same_object (environment_of old) out.c (λ i j. is i j t))) made

@@ -1,5 +1,6 @@
 -- How calls on a session end, and what they answer and leave.
-use Rattle.std.specs.Prelude.{ℕ, ◌+◌, ◌-◌, ◌^◌, ◌==◌, ◌≡◌, ◌≤◌, ◌⊎◌, if◌then◌else◌, length, None, OnErr, OnOk, Option, Some, Result, Ok, Err, is_some, true}
+use Rattle.std.specs.Prelude.{ℕ, ◌+◌, ◌-◌, ◌^◌, ◌==◌, ◌≡◌, ◌⊎◌, if◌then◌else◌, length, None, OnErr, OnOk, Option}
+use Rattle.std.specs.Prelude.{Some, Result, Ok, Err, is_some, true}
 use Rattle.std.specs.Option.{option_map}
 use Rattle.algebra.specs.Value.{value_of}
 use Rattle.calls.specs.Checks.{known_call}
@@ -66,9 +67,15 @@ abbrev pub Ends : {T : Type 0} → Option Status → Result T Status → Type 0
 Ends fault (Ok x) = fault ≡ None
 Ends fault (Err s) = (s ≡ status.OutOfMemory) ⊎ (fault ≡ Some s)
 
+-- how many objects were ever made after a call: one more where it made one
+abbrev pub made_after : {T : Type 0} → Session → Result T Status → Call Obj Obj → ℕ
+made_after old (Err s) call = made_in old
+made_after old (Ok x) (Create name domain shape) = made_in old + 1
+made_after old (Ok x) call = made_in old
+
 -- the call was performed: how it ended, what it left, and that an error left all as it was
 pub record IsPerformed {T : Type 0} (old new : Session) (call : Call Obj Obj) (result : Result T Status) : Type 0 where
   pub status : Ends (fault_in old call) result
   pub effect : OnOk result (environment_of new ≡ run.effect same_object (environment_of old) call)
   pub kept : OnErr result (environment_of new ≡ environment_of old)
-  pub made : made_in new ≤ made_in old + 1
+  pub made : made_in new ≡ made_after old result call

@@ -13,7 +13,7 @@ pub returns-in-Ok-clause-says : goal.returns-in-Ok-clause-says
 returns-in-Ok-clause-says c =
     says-ok (reading_of c.args.line.now) (renamed (λ name. name.now) (λ name. name.now) c.in-Ok-Call.call) c.args.number (environment_in c.args.names.now) (environment_in c.perform.new.self) c.perform.new.text.items
     (search rules) c.in-Ok.ensures.status c.in-Ok.ensures.effect
-    (rw (c.in-Ok.ensures.data, c.in_ok-write_status-in-Ok-Call.ensures, c.requires.empty) refl)
+    (rw (c.in-Ok.ensures.lines, c.in_ok-write_status-in-Ok-Call.ensures, c.requires.empty) refl)
 
 pub returns-in-Err-clause-says : goal.returns-in-Err-clause-says
 returns-in-Err-clause-says c =

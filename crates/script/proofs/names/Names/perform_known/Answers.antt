@@ -1,6 +1,13 @@
 -- Where there is no memory for data lines, the call changed nothing.
+use Rattle.std.proofs.Common.{rules}
 use Rattle.script.proofs.TextLaws.{on_err}
 use Rattle.script.proofs.names.Names.perform_known.Goals as goal
 
-pub returns-in_err-write_reply-clause-kept : goal.returns-in_err-write_reply-clause-kept
-returns-in_err-write_reply-clause-kept c = on_err c.from_residual-in_err-write_reply.result (c.in_ok-reply.ensures.reads c.in_err-write_reply.ensures.err)
+pub returns-in_err-write_reply : goal.returns-in_err-write_reply
+returns-in_err-write_reply c = record {
+  status = search rules;
+  effect = search rules;
+  kept = on_err c.from_residual-in_err-write_reply.result (c.in_ok-reply.ensures.reads c.in_err-write_reply.ensures.err);
+  lines = search rules;
+  made = search rules;
+}
