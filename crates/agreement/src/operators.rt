@@ -1,3 +1,4 @@
+//! Operators, casts and names of `algebra`.
 use crate::edge_words::{
     BINARY, BY_PLACE, BY_VALUE, CASTS, IDENTITIES, PAIRS, PLACES, UNARY, WORDS,
 };

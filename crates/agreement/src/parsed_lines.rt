@@ -1,3 +1,4 @@
+//! Lines as `lines` reads them.
 use lines::{Line, LineFault, parse_line};
 use model::{Call, Place};
 use std::test::Fail;

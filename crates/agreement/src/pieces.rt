@@ -1,3 +1,4 @@
+//! Recipes of `calls`, evaluated in pieces by `kernel` on the stores of a `session`.
 ghost use Rattle.std.specs.Prelude.{IfOk};
 ghost use Rattle.calls.specs.Roles.{role_of};
 ghost use Rattle.kernel.specs.Evaluated.{AreInputs};

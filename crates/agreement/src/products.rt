@@ -1,3 +1,4 @@
+//! Products of `spgemm` on stores.
 use algebra::{BinaryKind, Domain, MonoidKind, Semiring};
 use model::NoMemory;
 use spgemm::multiply_rows;

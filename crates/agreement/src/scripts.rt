@@ -1,3 +1,4 @@
+//! Runs of `script`, beside the plain evaluator.
 use model::Call;
 use plain::PlainEnvironment;
 use script::{Line, parse_line, run};

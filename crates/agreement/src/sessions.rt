@@ -1,3 +1,4 @@
+//! Calls on objects by number.
 use algebra::{BinaryKind, Domain, MonoidKind, RingName};
 use model::{Call, Desc, GREATEST_DIMENSION, MOST_OBJECTS, Out, Place, Shape, Status};
 use session::{Obj, Reply, Session};

@@ -1,3 +1,4 @@
+//! Stores, set and read.
 use algebra::Domain;
 use model::NoMemory;
 use store::Store;

@@ -1,7 +1,8 @@
 -- Binary operators, monoids and semirings as formulas on whole numbers, brought into the answer's domain
 -- (`GrB_BinaryOp`, `GrB_Monoid` and `GrB_Semiring` of GraphBLAS C API 2.0; arithmetic modulo 2 ^ 64 by
 -- this profile).
-use Rattle.std.specs.Prelude.{ℕ, ℤ, pos, ◌+ℤ◌, ◌-ℤ◌, ◌*ℤ◌, ◌-◌, ◌^◌, if◌then◌else◌, Bool, ◌&&◌, not, bit_and, bit_or, bit_xor, int_lt}
+use Rattle.std.specs.Prelude.{ℕ, ℤ, pos, ◌+ℤ◌, ◌-ℤ◌, ◌*ℤ◌, ◌-◌, ◌^◌, if◌then◌else◌, Bool, ◌&&◌, not, bit_and, bit_or}
+use Rattle.std.specs.Prelude.{bit_xor, int_lt}
 use Rattle.std.specs.Int.{int_min, int_max}
 use Rattle.algebra.specs.declared.domain.Domain.{Domain}
 use Rattle.algebra.specs.declared.domain.Domain.TheVariants as domains

@@ -1,6 +1,7 @@
 -- Values as whole numbers, the words that hold them, and casts between domains (`GrB_Type` of GraphBLAS
 -- C API 2.0; modulo 2 ^ 64 by this profile).
-use Rattle.std.specs.Prelude.{ℕ, ℤ, pos, negsuc, unsigned_abs, int_le, ◌==◌, ◌-◌, ◌^◌, ◌<◌, if◌then◌else◌, Bool, true, false, ◌&&◌}
+use Rattle.std.specs.Prelude.{ℕ, ℤ, pos, negsuc, unsigned_abs, int_le, ◌==◌, ◌-◌, ◌^◌, ◌<◌, if◌then◌else◌, Bool, true}
+use Rattle.std.specs.Prelude.{false, ◌&&◌}
 use Rattle.std.specs.Int.{cast_signed, w64, int_rem_euclid}
 use Rattle.algebra.specs.declared.domain.Domain.{Domain}
 use Rattle.algebra.specs.declared.domain.Domain.TheVariants.{Bool as Boolean, Int64, Uint64, User}

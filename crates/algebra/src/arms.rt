@@ -1,3 +1,5 @@
+//! The semirings that get a loop of their own.
+
 /// Calls with a semiring, in an arm of its own for each semiring that is used most. There its kinds
 /// are literals, so that a loop that is inlined into the call is compiled for its operators and looks
 /// none up; any other semiring is as it was. The arms are listed here alone.

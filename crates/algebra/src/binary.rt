@@ -1,3 +1,4 @@
+//! Binary operators (`GrB_BinaryOp`).
 ghost use Rattle.std.specs.Prelude.{◌≡◌, ◌↔◌, IsTrue, IsSome, IfSome, true};
 ghost use Rattle.algebra.specs.Operators.{answer_domain, eval_of, offers};
 

@@ -1,5 +1,7 @@
+//! Domains, and their values as words (`GrB_Type`).
 ghost use Rattle.std.specs.Prelude.{◌≡◌, int_lt, true, false, MatchOption};
-ghost use Rattle.algebra.specs.Value.{are_compatible, cast_of, greatest_of, is_boolean, is_built_in, is_integer, same_domain, is_value_of, least_of, value_of, word_of};
+ghost use Rattle.algebra.specs.Value.{are_compatible, cast_of, greatest_of, is_boolean, is_built_in, is_integer};
+ghost use Rattle.algebra.specs.Value.{same_domain, is_value_of, least_of, value_of, word_of};
 ghost use Rattle.algebra.specs.Operators.{int_equal};
 
 /// The domain of an object's values (`GrB_Type` of GraphBLAS C API 2.0).

@@ -1,3 +1,4 @@
+//! Index operators (`GrB_IndexUnaryOp`).
 ghost use Rattle.std.specs.Prelude.{◌≡◌, ◌↔◌, ◌+ℤ◌, pos, IsTrue, IsSome, IfSome, true};
 ghost use Rattle.std.specs.Int.{cast_signed, w64};
 ghost use Rattle.algebra.specs.IndexOperators.{index_answer_domain, index_eval_of, offers_index, scalar_domain};

@@ -1,3 +1,4 @@
+//! The kinds of operators and monoids.
 ghost use Rattle.std.specs.Prelude.{◌≡◌};
 
 /// The names of the unary operators (`GrB_UnaryOp` of GraphBLAS C API 2.0).

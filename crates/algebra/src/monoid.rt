@@ -1,3 +1,4 @@
+//! Monoids (`GrB_Monoid`).
 ghost use Rattle.std.specs.Prelude.{◌≡◌, ◌↔◌, IsTrue, IsSome, IfSome};
 ghost use Rattle.algebra.specs.Monoids.{identity_of};
 ghost use Rattle.algebra.specs.Operators.{combines_by, offers};

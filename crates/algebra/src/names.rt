@@ -1,5 +1,8 @@
+//! The words that name kinds and domains.
 ghost use Rattle.std.specs.Prelude.{◌≡◌, Some};
-ghost use Rattle.algebra.specs.Names.{binary_from_name, binary_name, built_in_from_name, domain_from_name, domain_name, domain_word, index_from_name, index_name, monoid_from_name, monoid_name, unary_from_name, unary_name, user_number};
+ghost use Rattle.algebra.specs.Names.{binary_from_name, binary_name, built_in_from_name, domain_from_name, domain_name};
+ghost use Rattle.algebra.specs.Names.{domain_word, index_from_name, index_name, monoid_from_name, monoid_name};
+ghost use Rattle.algebra.specs.Names.{unary_from_name, unary_name, user_number};
 
 use crate::{BinaryKind, Domain, IndexKind, MonoidKind, UnaryKind};
 use std::fmt;

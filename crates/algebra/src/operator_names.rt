@@ -1,3 +1,4 @@
+//! Operators and semirings by name, whether they are offered or not.
 ghost use Rattle.std.specs.Prelude.{◌≡◌, MatchOption, true, false};
 ghost use Rattle.algebra.specs.IndexOperators.{offers_index};
 ghost use Rattle.algebra.specs.OperatorNames.{index_named, monoid_named, op_named, ring_named, unary_named};

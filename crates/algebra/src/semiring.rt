@@ -1,3 +1,4 @@
+//! Semirings (`GrB_Semiring`).
 ghost use Rattle.std.specs.Prelude.{◌≡◌, ◌↔◌, IsTrue, IsSome, IfSome, true};
 ghost use Rattle.algebra.specs.Operators.{answer_domain, combines_by, offers_semiring};
 

@@ -1,3 +1,4 @@
+//! Unary operators (`GrB_UnaryOp`).
 ghost use Rattle.std.specs.Prelude.{◌≡◌, ◌↔◌, IsTrue, IsSome, IfSome, true};
 ghost use Rattle.algebra.specs.UnaryOperators.{offers_unary, unary_eval_of};
 

@@ -1,10 +1,13 @@
 -- The command line of gbrun, in clap's words: its options and what each takes.
-use Rattle.std.specs.Prelude.{◌≡◌, ◌≢◌, ⊤, ◌⊎◌, ℕ, ◌-◌, ◌^◌, List, [], ◌∷◌, codes, Option, Some, None, option_map, option_and_then, true, Result, Ok, Err}
+use Rattle.std.specs.Prelude.{◌≡◌, ◌≢◌, ⊤, ◌⊎◌, ℕ, ◌-◌, ◌^◌, List, [], ◌∷◌, codes, Option, Some, None, option_map}
+use Rattle.std.specs.Prelude.{option_and_then, true, Result, Ok, Err}
 use Rattle.std.specs.Str.Parse.{digits_value, without_leading_plus}
 use Rattle.clap.specs.Kinds.{IsAmong, Kinds}
-use Rattle.clap.specs.Words.{App, IsUnsignedIn, Rule, Text, fault_of, first_of, matches_of, new_app, new_rule, one_of, with_rule}
+use Rattle.clap.specs.Words.{App, IsUnsignedIn, Rule, Text, fault_of, first_of, matches_of, new_app, new_rule, one_of}
+use Rattle.clap.specs.Words.{with_rule}
 use Rattle.clap.specs.declared.builder.value_parser.ValueParser.TheVariants.{Unsigned}
-use Rattle.clap.specs.declared.error.kind.ErrorKind.TheVariants.{DisplayHelp, DisplayVersion, OutOfMemory as NoMemoryLeft}
+use Rattle.clap.specs.declared.error.kind.ErrorKind.TheVariants.{DisplayHelp, DisplayVersion}
+use Rattle.clap.specs.declared.error.kind.ErrorKind.TheVariants.{OutOfMemory as NoMemoryLeft}
 use Rattle.clap.specs.declared.error.kind.ErrorKind.{ErrorKind}
 use Rattle.gbrun.specs.Orders.{order_of}
 use Rattle.gbrun.specs.declared.order.Order.{Order}
@@ -58,8 +61,8 @@ order_in words = option_and_then order_of (text_of (codes "order") words)
 abbrev pub number_text_of : Text → List Text → Option Text
 number_text_of id words = one_of id (matches_of command_line words)
 
--- n is the number below 2 ^ 64 that the word writes, perhaps after `+`, if it writes one; where there is no word, n is a
--- given number
+-- n is the number below 2 ^ 64 that the word writes, perhaps after `+`, if it writes one; where there is no word, n is
+-- a given number
 abbrev pub IsNumberOf : Option Text → ℕ → ℕ → Type 0
 IsNumberOf None given n = n ≡ given
 IsNumberOf (Some word) given n = IsUnsignedIn 0 (2 ^ 64 - 1) word → n ≡ digits_value 10 (without_leading_plus word)

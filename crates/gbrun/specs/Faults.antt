@@ -1,7 +1,8 @@
 -- The exit status of each fault, and the line that standard error gets.
 use Rattle.std.specs.Prelude.{⊤, ℕ, List, codes, string_bytes}
 use Rattle.gbrun.specs.declared.fault.Fault.{Fault}
-use Rattle.gbrun.specs.declared.fault.Fault.TheVariants.{CommandLine, BadOrder, UnreadableScript, OutOfMemory, OutOfMemoryUndelivered, UnwritableOutput}
+use Rattle.gbrun.specs.declared.fault.Fault.TheVariants.{CommandLine, BadOrder, UnreadableScript, OutOfMemory}
+use Rattle.gbrun.specs.declared.fault.Fault.TheVariants.{OutOfMemoryUndelivered, UnwritableOutput}
 
 abbrev pub status_of : Fault → ℕ
 status_of (CommandLine _) = 2

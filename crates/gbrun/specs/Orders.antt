@@ -1,5 +1,6 @@
 -- The order that a word of `--order` names.
-use Rattle.std.specs.Prelude.{ℕ, ◌^◌, ◌&&◌, nat_lt, nat_le, List, codes, length, drop, Some, None, if◌then◌else◌, option_map, nat_eq}
+use Rattle.std.specs.Prelude.{ℕ, ◌^◌, ◌&&◌, nat_lt, nat_le, List, codes, length, drop, Some, None, if◌then◌else◌}
+use Rattle.std.specs.Prelude.{option_map, nat_eq}
 use Rattle.std.specs.Char.{is_ascii_digit}
 use Rattle.std.specs.List.{list_all, starts_with}
 use Rattle.std.specs.Str.{bytes_eq}

@@ -1,5 +1,6 @@
 -- How the program ends: on which words, and what output and standard error then hold.
-use Rattle.std.specs.Prelude.{ℕ, ◌≡◌, ◌⊎◌, [], codes, List, take, Option, None, IfSome, is_some, true, All, Any, IsUtf8, Result, Ok, Err}
+use Rattle.std.specs.Prelude.{ℕ, ◌≡◌, ◌⊎◌, [], codes, List, take, Option, None, IfSome, is_some, true, All, Any, IsUtf8}
+use Rattle.std.specs.Prelude.{Result, Ok, Err}
 use Rattle.std.specs.Option.{option_map_or}
 use Rattle.std.specs.Io.KnownBytes.{Appends, Keeps}
 use Rattle.clap.specs.Words.{Text, fault_of}
@@ -10,7 +11,8 @@ use Rattle.gbrun.specs.CommandLine.{IsMistake, IsRequest, command_line, order_in
 use Rattle.gbrun.specs.Faults.{line_of, status_of}
 use Rattle.gbrun.specs.Writing.{Begins, Grows}
 use Rattle.gbrun.specs.declared.fault.Fault.{Fault}
-use Rattle.gbrun.specs.declared.fault.Fault.TheVariants.{CommandLine, BadOrder, UnreadableScript, OutOfMemory, OutOfMemoryUndelivered, UnwritableOutput}
+use Rattle.gbrun.specs.declared.fault.Fault.TheVariants.{CommandLine, BadOrder, UnreadableScript, OutOfMemory}
+use Rattle.gbrun.specs.declared.fault.Fault.TheVariants.{OutOfMemoryUndelivered, UnwritableOutput}
 
 -- ---- what the words ask for
 

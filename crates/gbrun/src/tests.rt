@@ -10,7 +10,8 @@ use std::io;
 use std::io::{ErrorKind, Read, Write};
 
 const STORED: &str =
-    "matrix A INT64 1 2\nmatrix B INT64 2 1\nmatrix C INT64 1 1\nset A 0 0 1\nset A 0 1 1\nset B 0 0 5\nset B 1 0 -5\nmxm C - - PLUS.TIMES.INT64 A B -\nnvals C\nget C 0 0\nprint C\n";
+    "matrix A INT64 1 2\nmatrix B INT64 2 1\nmatrix C INT64 1 1\nset A 0 0 1\nset A 0 1 1\nset B 0 0 5\n\
+        set B 1 0 -5\nmxm C - - PLUS.TIMES.INT64 A B -\nnvals C\nget C 0 0\nprint C\n";
 
 const NO_SCRIPT: &str = "gbrun: cannot read script\n";
 

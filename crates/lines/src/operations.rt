@@ -2,7 +2,8 @@
 ghost use Rattle.std.specs.Prelude.{◌≡◌, map};
 ghost use Rattle.std.specs.Option.{option_map};
 ghost use Rattle.model.specs.Come.{out_has_come};
-ghost use Rattle.model.specs.Grammar.{is_none_word, multiply_of, name_of, op_name_of, operate_of, operation_of, out_of_words, perhaps, where_it};
+ghost use Rattle.model.specs.Grammar.{is_none_word, multiply_of, name_of, op_name_of, operate_of, operation_of};
+ghost use Rattle.model.specs.Grammar.{out_of_words, perhaps, where_it};
 ghost use Rattle.model.specs.Renamed.{renamed, renamed_operation, renamed_out};
 
 use crate::{kinds, words};

@@ -3,7 +3,8 @@ ghost use Rattle.std.specs.Prelude.{◌≡◌, ◌==◌, ◌||◌, ◌+◌, ◌<
 ghost use Rattle.std.specs.List.{list_all};
 ghost use Rattle.std.specs.Option.{option_map, option_map_or};
 ghost use Rattle.lines.specs.Meaning.{Reads};
-ghost use Rattle.model.specs.Grammar.{call_of, get_of, is_blank, is_plain, is_silent, is_well_formed, matrix_of, nvals_of, place_of, print_of, reading_of, set_of, words_of};
+ghost use Rattle.model.specs.Grammar.{call_of, get_of, is_blank, is_plain, is_silent, is_well_formed, matrix_of};
+ghost use Rattle.model.specs.Grammar.{nvals_of, place_of, print_of, reading_of, set_of, words_of};
 ghost use Rattle.model.specs.Renamed.{renamed};
 
 use crate::operations::operate;

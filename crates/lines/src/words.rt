@@ -1,8 +1,10 @@
 //! The words of a line, and what each says alone.
-ghost use Rattle.std.specs.Prelude.{◌≡◌, ◌+◌, ◌-◌, ◌*◌, ◌<◌, ◌≤◌, ◌^◌, ◌==◌, ◌||◌, IfOk, map, length, filter, not, IsTrue, if◌then◌else◌, ◌&&◌, nat_le, neg_ℤ, pos};
+ghost use Rattle.std.specs.Prelude.{◌≡◌, ◌+◌, ◌-◌, ◌*◌, ◌<◌, ◌≤◌, ◌^◌, ◌==◌, ◌||◌, IfOk, map, length, filter, not};
+ghost use Rattle.std.specs.Prelude.{IsTrue, if◌then◌else◌, ◌&&◌, nat_le, neg_ℤ, pos};
 ghost use Rattle.std.specs.List.{list_all};
 ghost use Rattle.std.specs.Option.{option_map};
-ghost use Rattle.model.specs.Grammar.{digits_value, domain_of, is_blank, is_digit, is_letter, is_name, is_number, name_of, number_of, value_of_word, words_of};
+ghost use Rattle.model.specs.Grammar.{digits_value, domain_of, is_blank, is_digit, is_letter, is_name, is_number};
+ghost use Rattle.model.specs.Grammar.{name_of, number_of, value_of_word, words_of};
 
 use algebra::Domain;
 use model::{LONGEST_NAME, domain_has_come};

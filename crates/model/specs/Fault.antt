@@ -1,6 +1,7 @@
 -- Which error a call answers (the return values of each method of the GraphBLAS C API; the order among
 -- several is this project's).
-use Rattle.std.specs.Prelude.{ℕ, ◌&&◌, ◌||◌, not, Bool, true, false, is_none, is_some, nat_le, List, [], ◌∷◌, Option, Some, None, if◌then◌else◌}
+use Rattle.std.specs.Prelude.{ℕ, ◌&&◌, ◌||◌, not, Bool, true, false, is_none, is_some, nat_le, List, [], ◌∷◌, Option}
+use Rattle.std.specs.Prelude.{Some, None, if◌then◌else◌}
 use Rattle.std.specs.List.{find, list_all}
 use Rattle.std.specs.Option.{option_map, option_map_or}
 use Rattle.algebra.specs.declared.domain.Domain.{Domain}
@@ -21,7 +22,8 @@ use Rattle.model.specs.declared.shape.Signature.{Signature}
 use Rattle.model.specs.declared.status.Status.{Status}
 use Rattle.model.specs.declared.status.Status.TheVariants as status
 use Rattle.model.specs.Come.{operation_has_come, out_has_come}
-use Rattle.model.specs.Object.{Object, col_of, cols_of, empty_object, is_inside, is_of_kind, row_of, rows_of, same_kind, same_shape, signature_of, turned_signature}
+use Rattle.model.specs.Object.{Object, col_of, cols_of, empty_object, is_inside, is_of_kind, row_of, rows_of, same_kind}
+use Rattle.model.specs.Object.{same_shape, signature_of, turned_signature}
 use Rattle.model.specs.Renamed.{objects_of, renamed}
 use Rattle.model.specs.Table.{is_offered, plan_of, turned}
 

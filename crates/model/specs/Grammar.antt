@@ -1,5 +1,7 @@
 -- How the bytes of a script are read: lines, words, and the grammar of each call.
-use Rattle.std.specs.Prelude.{ℕ, ℤ, pos, neg_ℤ, ◌+◌, ◌-◌, ◌*◌, ◌^◌, ◌==◌, nat_le, nat_lt, not, Bool, true, false, ◌&&◌, ◌||◌, if◌then◌else◌, List, [], ◌∷◌, map, length, drop, slice_index, slice_index_or, Option, Some, None, codes, filter, fold}
+use Rattle.std.specs.Prelude.{ℕ, ℤ, pos, neg_ℤ, ◌+◌, ◌-◌, ◌*◌, ◌^◌, ◌==◌, nat_le, nat_lt, not, Bool, true, false, ◌&&◌}
+use Rattle.std.specs.Prelude.{◌||◌, if◌then◌else◌, List, [], ◌∷◌, map, length, drop, slice_index, slice_index_or}
+use Rattle.std.specs.Prelude.{Option, Some, None, codes, filter, fold}
 use Rattle.std.specs.List.{list_all, slice_split}
 use Rattle.std.specs.Option.{option_and_then, option_map_or}
 use Rattle.std.specs.Str.{bytes_eq}
@@ -32,7 +34,8 @@ without_empty_last [] = []
 without_empty_last (part ∷ []) = if length part == 0 then [] else part ∷ []
 without_empty_last (part ∷ next ∷ parts) = part ∷ without_empty_last (next ∷ parts)
 
--- the parts that line feeds end, and what follows the last one, if anything does; without one carriage return at their ends
+-- the parts that line feeds end, and what follows the last one, if anything does; without one carriage return at
+-- their ends
 unfoldable pub lines_of : List ℕ → List (List ℕ)
 lines_of bytes = map strip_carriage_return (without_empty_last (slice_split (λ b. b == 10) bytes))
 
@@ -188,7 +191,8 @@ flag_added desc word =
     else if bytes_eq word (codes "S") then (if desc.structure then None else Some (record desc { structure = true }))
     else if bytes_eq word (codes "C") then (if desc.complement then None else Some (record desc { complement = true }))
     else if bytes_eq word (codes "T0") then (if desc.turn_first then None else Some (record desc { turn_first = true }))
-    else if bytes_eq word (codes "T1") then (if desc.turn_second then None else Some (record desc { turn_second = true }))
+    else if bytes_eq word (codes "T1")
+    then (if desc.turn_second then None else Some (record desc { turn_second = true }))
     else None
 
 abbrev pub flags_added : Desc → List (List ℕ) → Option Desc

@@ -12,7 +12,8 @@ use Rattle.model.specs.declared.call.Desc.{Desc}
 use Rattle.model.specs.declared.call.Operation.{Operation}
 use Rattle.model.specs.declared.call.Out.{Out}
 use Rattle.model.specs.Fault.{plan_in}
-use Rattle.model.specs.Object.{Content, Object, cast_content, col_of, no_content, row_of, signature_of, turned_object, with_entry}
+use Rattle.model.specs.Object.{Content, Object, cast_content, col_of, no_content, row_of, signature_of, turned_object}
+use Rattle.model.specs.Object.{with_entry}
 use Rattle.model.specs.Operations.{operation}
 use Rattle.model.specs.Renamed.{renamed_operation}
 use Rattle.model.specs.Table.{turned}

@@ -1,7 +1,8 @@
 //! Shapes of objects, and positions in them.
 ghost use Rattle.std.specs.Prelude.{◌≡◌};
 ghost use Rattle.model.specs.Fault.{are_dimensions, is_dimension};
-ghost use Rattle.model.specs.Object.{cols_of, is_inside, is_matrix, is_of_kind, row_of, col_of, rows_of, same_kind, same_shape, turned_shape};
+ghost use Rattle.model.specs.Object.{cols_of, is_inside, is_matrix, is_of_kind, row_of, col_of, rows_of, same_kind};
+ghost use Rattle.model.specs.Object.{same_shape, turned_shape};
 
 use crate::limits::GREATEST_DIMENSION;
 use algebra::Domain;

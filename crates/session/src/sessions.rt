@@ -49,7 +49,8 @@ impl Session {
     ghost use Rattle.calls.specs.Checks.{Decides, IsFoundOf, known_call};
     ghost use Rattle.model.specs.Fault.{early_fault};
     ghost use Rattle.session.specs.Objects.{object_of};
-    ghost use Rattle.session.specs.Performed.{Answers, IsPerformed, count_in, environment_of, known_in, made_in, next_object};
+    ghost use Rattle.session.specs.Performed.{Answers, IsPerformed, count_in, environment_of, known_in, made_in};
+    ghost use Rattle.session.specs.Performed.{next_object};
 
     /// A session without objects. It takes no memory.
     pub fn new(alloc: Global) -> Session

@@ -1,3 +1,4 @@
+//! The product of two stores, on a range of rows.
 ghost use Rattle.std.specs.Prelude.{◌≡◌, ℕ, ◌<◌, ◌≤◌, [], IfOk, MatchOption};
 ghost use Rattle.std.specs.List.{All};
 ghost use Rattle.algebra.specs.OperatorNames.{ring_named};

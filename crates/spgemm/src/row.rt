@@ -1,3 +1,4 @@
+//! One row of a product.
 ghost use Rattle.std.specs.Prelude.{◌≡◌, ◌<◌, [], IfOk};
 ghost use Rattle.std.specs.List.{All, AllPairs};
 ghost use Rattle.spgemm.specs.Products.{IsRowOf, IsProductRow};

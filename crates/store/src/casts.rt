@@ -1,3 +1,4 @@
+//! Casts of entries and rows to another domain.
 ghost use Rattle.std.specs.Prelude.{◌≡◌, map};
 ghost use Rattle.algebra.specs.Value.{cast_of};
 ghost use Rattle.store.specs.Casts.{cast_entry, cast_line, line_of};

@@ -1,3 +1,4 @@
+//! Rows and blocks of rows, as kernels make them.
 ghost use Rattle.std.specs.Prelude.{◌≡◌, ℕ, ◌<◌, ◌≤◌, length};
 ghost use Rattle.std.specs.List.{All, AllPairs};
 ghost use Rattle.model.specs.Object.{cast_content};

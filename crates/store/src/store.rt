@@ -1,3 +1,4 @@
+//! Stores: what an object holds.
 ghost use Rattle.std.specs.Prelude.{◌≡◌, ℕ, ◌<◌, ◌≤◌, None, length, OnOk, OnErr, IfOk};
 ghost use Rattle.std.specs.List.{All};
 ghost use Rattle.model.specs.Entries.{entries_between, entries_of, row_entries, InOrder, IsInside};
