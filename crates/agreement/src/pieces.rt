@@ -66,17 +66,14 @@ fn evaluates_a_part_of_the_rows(rt: HostRuntime) -> Result<(), Status> {
     let rows = recipe.signatures.of(recipe.out.c).shape.rows();
     assert_eq!(rt; rows, 3);
     let part = eval_piece(alloc, &recipe, &stores, 1..2)?;
-    assert_eq!(rt; (part.first, part.past, part.rows.len()), (1, 2, 1));
-    for row in &part.rows {
-        assert_eq!(rt; (row.index, row.cols.as_slice()), (1, [0, 1].as_slice()));
-        // -6 + 2 * 3 is 0, and 2 * 9 isn't.
-        assert_eq!(rt; row.words.as_slice(), [0, 1].as_slice());
-    }
-    let whole = join(
-        alloc,
-        &recipe,
-        &eval_piece(alloc, &recipe, &stores, 0..rows)?,
-    )?;
+    assert_eq!(rt; (part.first(), part.past()), (1, 2));
+    let part = Store::from_block(rows, part);
+    // -6 + 2 * 3 is 0, and 2 * 9 isn't.
+    assert_eq!(rt;
+        (part.nvals(), part.row(1)),
+        (2, ([0, 1].as_slice(), [0, 1].as_slice()))
+    );
+    let whole = join(&recipe, eval_piece(alloc, &recipe, &stores, 0..rows)?);
     assert_eq!(rt; (whole.rows(), whole.cols(), whole.nvals()), (3, 2, 6));
     assert_eq!(rt; (whole.get(1, 0), whole.get(2, 1)), (Some(0), Some(1)));
     Ok(())

@@ -22,22 +22,48 @@ fn multiplies_rows_and_keeps_a_sum_of_zero(rt: HostRuntime) -> Result<(), NoMemo
     b.set(9, 2, 5)?;
     b.set(9, 3, minus_two)?;
     let semiring = Semiring::new(MonoidKind::Plus, BinaryKind::Times, Domain::Int64).unwrap();
-    let mut block = multiply_rows(alloc, &a, &b, semiring, 0..4)?;
-    let c = Store::from_rows(alloc, 5, 8, &block)?;
-    assert_eq!(rt; c.nvals(), 7);
-    let row = [(1, 32), (2, 15), (3, 0), (7, 2)];
-    for (entry, (col, word)) in c.row(0).iter().zip(&row) {
-        assert_eq!(rt; (entry.col, entry.word), (*col, *word));
-    }
+    let block = multiply_rows(alloc, &a, &b, semiring, 0..4)?;
+    let c = Store::from_block(5, block);
+    assert_eq!(rt; (c.rows(), c.cols(), c.nvals()), (5, 8, 7));
+    let (cols, words) = c.row(0);
+    assert_eq!(rt;
+        (cols, words),
+        ([1, 2, 3, 7].as_slice(), [32, 15, 0, 2].as_slice())
+    );
     assert_eq!(rt;
         (c.get(3, 1), c.get(3, 3), c.get(3, 7)),
         (Some(4), Some(minus_two), None)
     );
-    block.cast(Domain::Int64, Domain::Bool);
-    if let Some(first) = block.rows.first() {
-        for (word, wanted) in first.words.iter().zip(&[1, 1, 0, 1]) {
-            assert_eq!(rt; word, wanted);
-        }
-    }
+    let mut first = multiply_rows(alloc, &a, &b, semiring, 0..1)?;
+    assert_eq!(rt; (first.first(), first.past()), (0, 1));
+    first.cast(Domain::Int64, Domain::Bool);
+    let truths = Store::from_block(5, first);
+    assert_eq!(rt; truths.row(0).1, [1, 1, 0, 1].as_slice());
+    Ok(())
+}
+
+#[test]
+fn multiplies_columns(rt: HostRuntime) -> Result<(), NoMemory> {
+    let alloc = rt.alloc();
+    let semiring = Semiring::new(MonoidKind::Plus, BinaryKind::Times, Domain::Int64).unwrap();
+    let mut column = Store::new(alloc, 4, 1);
+    column.set(3, 0, 5)?;
+    column.set(1, 0, 2)?;
+    let mut row = Store::new(alloc, 1, 3);
+    row.set(0, 2, 7)?;
+    row.set(0, 0, 1)?;
+    let outer = Store::from_block(4, multiply_rows(alloc, &column, &row, semiring, 0..4)?);
+    assert_eq!(rt; outer.nvals(), 4);
+    assert_eq!(rt; outer.row(3), ([0, 2].as_slice(), [5, 35].as_slice()));
+    let mut a = Store::new(alloc, 3, 4);
+    a.set(0, 1, 10)?;
+    a.set(2, 1, 3)?;
+    a.set(2, 3, 1)?;
+    let product = Store::from_block(3, multiply_rows(alloc, &a, &column, semiring, 0..3)?);
+    assert_eq!(rt; (product.cols(), product.nvals()), (1, 2));
+    assert_eq!(rt;
+        (product.get(0, 0), product.get(1, 0), product.get(2, 0)),
+        (Some(20), None, Some(11))
+    );
     Ok(())
 }

@@ -17,13 +17,57 @@ fn sets_and_reads(rt: HostRuntime) -> Result<(), NoMemory> {
     let copy = store.try_clone()?;
     store.set(3, 0, 30)?;
     assert_eq!(rt; copy.nvals(), 3);
-    for (range, words) in [(0..4, [9, 23, 28]), (2..9, [23, 28, 30])] {
-        let entries = store.rows_in(range);
-        for (entry, word) in entries.iter().zip(&words) {
-            assert_eq!(rt; entry.word, *word);
+    let all = [9, 23, 28, 30].as_slice();
+    for (range, wanted) in [(0..4, all), (2..9, &all[1..])] {
+        let mut wanted = wanted;
+        let mut rest = store.rows_in(range);
+        while let Some((row, others)) = rest.split_first() {
+            let (words, left) = wanted.split_at(row.words.len().min(wanted.len()));
+            assert_eq!(rt; row.words, words);
+            wanted = left;
+            rest = others;
         }
+        assert_eq!(rt; wanted.is_empty(), true);
     }
-    assert_eq!(rt; store.rows_in(3..3).len(), 0);
+    assert_eq!(rt; store.rows_in(3..3).split_first().is_none(), true);
+    store.remove(2, 7);
+    store.remove(2, 4);
+    assert_eq!(rt; store.row(2), ([3].as_slice(), [23].as_slice()));
+    store.remove(2, 3);
+    assert_eq!(rt; (store.nvals(), store.get(2, 3)), (2, None));
+    Ok(())
+}
+
+#[test]
+fn holds_a_column(rt: HostRuntime) -> Result<(), NoMemory> {
+    let mut store = Store::new(rt.alloc(), 4294967296, 1);
+    store.set(4294967295, 0, 3)?;
+    store.set(7, 0, 1)?;
+    store.set(9, 0, 2)?;
+    store.set(9, 0, 5)?;
+    assert_eq!(rt;
+        (store.nvals(), store.get(9, 0), store.get(8, 0)),
+        (3, Some(5), None)
+    );
+    assert_eq!(rt; store.row(7), ([0].as_slice(), [1].as_slice()));
+    assert_eq!(rt; store.row(8).0.is_empty(), true);
+    let (rows, words, others) = store.fibers_in(8..4294967296).split(0);
+    assert_eq!(rt;
+        (rows, words),
+        ([9, 4294967295].as_slice(), [5, 3].as_slice())
+    );
+    assert_eq!(rt; (others.len(), others.outer()), (0, u64::MAX));
+    let (first, others) = store.rows_in(0..10).split_first().unwrap();
+    assert_eq!(rt;
+        (first.index, first.cols, first.words),
+        (7, [0].as_slice(), [1].as_slice())
+    );
+    assert_eq!(rt; others.split_first().unwrap().0.index, 9);
+    store.remove(9, 0);
+    assert_eq!(rt;
+        (store.nvals(), store.get(9, 0), store.get(7, 0)),
+        (2, None, Some(1))
+    );
     Ok(())
 }
 

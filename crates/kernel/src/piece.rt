@@ -1,12 +1,10 @@
 //! Pieces of a recipe's result.
 ghost use Rattle.std.specs.Prelude.{◌≡◌, ℕ, ◌<◌, ◌≤◌, IfOk};
-ghost use Rattle.std.specs.List.{All};
 ghost use Rattle.calls.specs.Recipes.{meaning};
 ghost use Rattle.calls.specs.Roles.{role_of};
 ghost use Rattle.kernel.specs.Evaluated.{AreInputs, object_in, output_of};
-ghost use Rattle.model.specs.Object.{cols_of, rows_of};
-ghost use Rattle.store.specs.Rows.{HasColumnsBelow, block_content};
-ghost use Rattle.store.specs.Stored.{content_of};
+ghost use Rattle.model.specs.Object.{IsWithin, cols_of, rows_of};
+ghost use Rattle.store.specs.Stored.{block_content, content_of};
 
 use crate::product::{Input, product_rows};
 use calls::{Recipe, Role, Roles};
@@ -40,8 +38,7 @@ pub fn eval_piece(
     requires rows { range.end ≤ rows_of (output_of recipe.now).shape }
     ensures first { IfOk result (λ block. block.first ≡ range.start) }
     ensures past { IfOk result (λ block. block.past ≡ range.end) }
-    ensures cols { IfOk result (λ block. All (HasColumnsBelow
-        (cols_of (output_of recipe.now).shape)) block.rows.items) }
+    ensures cols { IfOk result (λ block. block.cols ≡ cols_of (output_of recipe.now).shape) }
     ensures words { IfOk result (λ block. (i j : ℕ) → range.start ≤ i → i < range.end
         → block_content block i j ≡ meaning recipe.now
         (object_in recipe.now (λ role. (role_of stores.now role).now)) i j) }
@@ -52,15 +49,13 @@ pub fn eval_piece(
     product_rows(alloc, recipe.step.ring, a, b, to, range)
 }
 
-/// The store of what a recipe gives, of the block that holds all its rows. It takes memory for the
-/// entries once, and time in proportion to their number.
-pub fn join(alloc: Global, recipe: &Recipe, block: &RowBlock) -> Result<Store, NoMemory>
-    requires past { block.now.past ≡ rows_of (output_of recipe.now).shape }
-    requires cols { All (HasColumnsBelow (cols_of (output_of recipe.now).shape)) block.now.rows.items }
-    ensures rows { IfOk result (λ store. store.rows ≡ rows_of (output_of recipe.now).shape) }
-    ensures cols { IfOk result (λ store. store.cols ≡ cols_of (output_of recipe.now).shape) }
-    ensures content { IfOk result (λ store. (i j : ℕ) → content_of store i j ≡ block_content block.now i j) }
+/// The store of what a recipe gives, of the block that holds all its rows, whose lists it takes over.
+pub fn join(recipe: &Recipe, block: RowBlock) -> Store
+    requires past { block.past ≡ rows_of (output_of recipe.now).shape }
+    ensures rows { result.rows ≡ rows_of (output_of recipe.now).shape }
+    ensures cols { result.cols ≡ block.cols }
+    ensures content { (i j : ℕ) → content_of result i j ≡ block_content block i j }
+    ensures within { IsWithin result.rows result.cols (content_of result) }
 {
-    let shape = recipe.signatures.of(recipe.out.c).shape;
-    Store::from_rows(alloc, shape.rows(), shape.cols(), block)
+    Store::from_block(recipe.signatures.of(recipe.out.c).shape.rows(), block)
 }

@@ -1,12 +1,10 @@
 //! Rows of products of objects of any domains.
 ghost use Rattle.std.specs.Prelude.{◌≡◌, ℕ, ◌<◌, ◌≤◌, IfOk, Some};
-ghost use Rattle.std.specs.List.{All};
 ghost use Rattle.algebra.specs.OperatorNames.{ring_named};
 ghost use Rattle.algebra.specs.Value.{IsWordOf};
 ghost use Rattle.model.specs.Object.{AreWordsOf, cast_content};
 ghost use Rattle.model.specs.Product.{product, sum_domain};
-ghost use Rattle.store.specs.Rows.{HasColumnsBelow, block_content};
-ghost use Rattle.store.specs.Stored.{content_of};
+ghost use Rattle.store.specs.Stored.{block_content, content_of};
 
 use crate::casts::InDomain;
 use algebra::{Domain, Semiring};
@@ -40,7 +38,7 @@ pub(crate) fn product_rows(
     requires second_words { AreWordsOf b.domain (content_of b.store.now) }
     ensures first { IfOk result (λ block. block.first ≡ range.start) }
     ensures past { IfOk result (λ block. block.past ≡ range.end) }
-    ensures cols { IfOk result (λ block. All (HasColumnsBelow b.entry.store.now.cols) block.rows.items) }
+    ensures cols { IfOk result (λ block. block.cols ≡ b.entry.store.now.cols) }
     ensures words { IfOk result (λ block. (i j : ℕ) → range.start ≤ i → i < range.end
         → block_content block i j ≡ cast_content (sum_domain (ring_named ring)) to
         (product (ring_named ring) a.entry.store.now.cols
@@ -58,8 +56,7 @@ pub(crate) fn product_rows(
 fn block_in_domain(mut block: RowBlock, from: Domain, to: Domain) -> RowBlock
     ensures first { result.first ≡ block.first }
     ensures past { result.past ≡ block.past }
-    ensures cols { (cols : ℕ) → All (HasColumnsBelow cols) block.rows.items
-        → All (HasColumnsBelow cols) result.rows.items }
+    ensures cols { result.cols ≡ block.cols }
     ensures content { (i j : ℕ) → ((word : ℕ) → block_content block i j ≡ Some word → IsWordOf from word)
         → block_content result i j ≡ cast_content from to (block_content block) i j }
 {

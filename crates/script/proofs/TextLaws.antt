@@ -1,7 +1,14 @@
 -- Texts put together from their parts.
-use Rattle.std.proofs.Common.{◌≡◌, ℕ, List, ◌∷◌, ◌++◌, ◌∙◌, append_assoc, Result, Ok, Err, OnErr, OnOk}
-use Rattle.std.specs.List.{flat_map}
-use Rattle.model.specs.Text.{ended}
+use Rattle.std.proofs.Common.{◌≡◌, ℕ, ◌+◌, ◌<◌, List, [], ◌∷◌, ◌++◌, ◌∙◌, append_assoc, arith, get_or, length, map, take, Result, Ok, Err, OnErr, OnOk}
+use Rattle.std.specs.List.{All, flat_map}
+use Rattle.std.proofs.lemmas.List.{append-nil, get_or_default, map-append, take_more}
+use Rattle.std.proofs.lemmas.List.Concat.{flat_map-append}
+use Rattle.algebra.specs.declared.domain.Domain.{Domain}
+use Rattle.model.specs.declared.entry.Entry.{Entry}
+use Rattle.model.specs.Entries.{entry_at}
+use Rattle.model.specs.Text.{ended, entry_line}
+use Rattle.store.specs.Fibers.{entries_along}
+use Rattle.store.proofs.Places.{length_row, row_at}
 
 -- the text of an object, put together from its parts
 pub object_text : {E : Type 0} (r : Result (Unit {0}) E) (out texted sized written banner size : List ℕ) (lines : List (List ℕ))
@@ -13,3 +20,23 @@ object_text (Err refused) out texted sized written banner size lines e f g = tt
 pub on_err : {T E P : Type 0} (r : Result T E) → P → OnErr r P
 on_err (Ok x) p = tt
 on_err (Err e) p = p
+
+-- the lines of entries behind a text
+abbrev pub lines_of : Domain → List Entry → List ℕ → List ℕ
+lines_of domain es text = text ++ flat_map ended (map (entry_line domain) es)
+
+-- one line more
+pub lines_more : (domain : Domain) (es : List Entry) (k : ℕ) (d e : Entry) (text before after : List ℕ) → k < length es → get_or es k d ≡ e → before ≡ lines_of domain (take k es) text → after ≡ before ++ ended (entry_line domain e) → after ≡ lines_of domain (take (k + 1) es) text
+lines_more domain es k d e text before after within at so_far more =
+    more ∙ rw (so_far, take_more es k d within, at, map-append (entry_line domain) (take k es) (e ∷ []), flat_map-append ended (map (entry_line domain) (take k es)) (entry_line domain e ∷ [])) (simp (append_assoc, append-nil))
+
+-- what holds of each entry's row and column holds of the row's index and of its columns
+pub index_below : (n index : ℕ) (cols words : List ℕ) → length words ≡ length cols → 0 < length cols → All (λ e. (e.row < n) × (e.col < n)) (entries_along index cols words) → index < n
+index_below n index cols words same some h =
+    let first : (entry_at index (get_or cols 0 0) (get_or words 0 0)).row < n = rw (row_at index cols words 0 (entry_at 0 0 0) same some) at (h 0 (entry_at 0 0 0) (omega (arith, length_row index cols words same))).0 in
+    first
+
+pub cols_below : (n index : ℕ) (cols words : List ℕ) → length words ≡ length cols → All (λ e. (e.row < n) × (e.col < n)) (entries_along index cols words) → All (λ col. col < n) cols
+cols_below n index cols words same h k d within =
+    let col : (entry_at index (get_or cols k 0) (get_or words k 0)).col < n = rw (row_at index cols words k (entry_at 0 0 0) same within) at (h k (entry_at 0 0 0) (omega (arith, length_row index cols words same))).1 in
+    rw (get_or_default cols k d 0 within) col

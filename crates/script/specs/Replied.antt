@@ -26,8 +26,8 @@ pub record IsReplied (old new : Names) (call : Call Name Name) (result : Result 
   pub reads : IfOk result (λ reply. HasLines reply → environment_in new ≡ environment_in old)
 
 -- the same of a call whose data lines stand behind a text
-pub record IsAnswered (old new : Names) (call : Call Name Name) (before after : List ℕ) (result : Result (Unit {0}) Status)
-    : Type 0 where
+pub record IsAnswered (old new : Names) (call : Call Name Name) (before after : List ℕ)
+    (result : Result (Unit {0}) Status) : Type 0 where
   pub status : Ends (fault_of (environment_in old).count (seen (environment_in old) call)) result
   pub effect : OnOk result (environment_in new ≡ run.effect bytes_eq (environment_in old) call)
   pub kept : OnErr result (environment_in new ≡ environment_in old)

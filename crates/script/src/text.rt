@@ -2,15 +2,17 @@
 ghost use Rattle.std.specs.Prelude.{◌≡◌, ◌+◌, ◌-◌, ◌<◌, ◌^◌, ◌++◌, ◌∷◌, [], OnOk, codes, decimal, length, map, take};
 ghost use Rattle.std.specs.Fmt.{signed_decimal};
 ghost use Rattle.std.specs.List.{All, flat_map};
-ghost use Rattle.model.specs.Entries.{IsInside};
+ghost use Rattle.model.specs.Entries.{entry_at};
 ghost use Rattle.model.specs.Text.{canonical_lines, ended, entry_line, size_line, status_name, value_text};
 ghost use Rattle.session.specs.Objects.{object_of};
+ghost use Rattle.store.specs.Fibers.{entries_along};
 
 use algebra::Domain;
 use itoa::Buffer;
-use model::{Entry, Status};
+use model::Status;
 use session::Held;
 use std::alloc::AllocError;
+use store::{Row, Rows};
 
 /// The first line of a canonical text (NIST Matrix Market, coordinate format).
 const BANNER: &[u8] = b"%%MatrixMarket matrix coordinate integer general\n";
@@ -52,7 +54,7 @@ pub fn write_object(out: &mut Vec<u8>, held: &Held) -> Result<(), AllocError>
     let store = &held.store;
     out.extend_from_slice(BANNER)?;
     write_size(out, store.rows(), store.cols(), store.nvals())?;
-    write_entries(out, held.domain, store.rows_in(0..store.rows()))
+    write_rows(out, held.domain, store.rows_in(0..store.rows()))
 }
 
 /// Appends the size line of a canonical text.
@@ -68,27 +70,50 @@ fn write_size(out: &mut Vec<u8>, rows: u64, cols: u64, nvals: u64) -> Result<(),
     Ok(())
 }
 
-/// Appends a line for each entry.
-fn write_entries(out: &mut Vec<u8>, domain: Domain, entries: &[Entry]) -> Result<(), AllocError>
-    requires { All (λ e. (e.row < 2 ^ 64 - 1) × (e.col < 2 ^ 64 - 1)) entries.now }
-    ensures { OnOk result (out.new.items ≡ out.old.items ++ flat_map ended (map (entry_line domain) entries.now)) }
+/// Appends a line for each entry of the rows.
+fn write_rows(out: &mut Vec<u8>, domain: Domain, rows: Rows<'_>) -> Result<(), AllocError>
+    requires { All (λ e. (e.row < 2 ^ 64 - 1) × (e.col < 2 ^ 64 - 1)) rows.entries }
+    ensures { OnOk result (out.new.items
+        ≡ out.old.items ++ flat_map ended (map (entry_line domain) rows.entry.entries)) }
 {
-    for entry in entries {
-        write_entry(out, domain, entry)?;
+    let mut rest = rows;
+    while let Some((row, others)) = rest.split_first() {
+        write_row(out, domain, row)?;
+        rest = others;
     }
     Ok(())
 }
 
-fn write_entry(out: &mut Vec<u8>, domain: Domain, entry: &Entry) -> Result<(), AllocError>
-    requires row { entry.now.row < 2 ^ 64 - 1 }
-    requires col { entry.now.col < 2 ^ 64 - 1 }
-    ensures { OnOk result (out.new.items ≡ out.old.items ++ ended (entry_line domain entry.now)) }
+/// Appends a line for each entry of a row.
+fn write_row(out: &mut Vec<u8>, domain: Domain, row: Row<'_>) -> Result<(), AllocError>
+    requires lengths { length row.words.now ≡ length row.cols.now }
+    requires index { row.index < 2 ^ 64 - 1 }
+    requires cols { All (λ col. col < 2 ^ 64 - 1) row.cols.now }
+    ensures { OnOk result (out.new.items ≡ out.old.items ++ flat_map ended (map (entry_line domain)
+        (entries_along row.entry.index row.entry.cols.now row.entry.words.now))) }
 {
-    write_number(out, entry.row + 1)?;
+    for k in 0..row.cols.len() {
+        write_entry(out, domain, row.index, row.cols[k], row.words[k])?;
+    }
+    Ok(())
+}
+
+fn write_entry(
+    out: &mut Vec<u8>,
+    domain: Domain,
+    row: u64,
+    col: u64,
+    word: u64,
+) -> Result<(), AllocError>
+    requires row { row < 2 ^ 64 - 1 }
+    requires col { col < 2 ^ 64 - 1 }
+    ensures { OnOk result (out.new.items ≡ out.old.items ++ ended (entry_line domain (entry_at row col word))) }
+{
+    write_number(out, row + 1)?;
     out.push(b' ')?;
-    write_number(out, entry.col + 1)?;
+    write_number(out, col + 1)?;
     out.push(b' ')?;
-    write_value(out, domain, entry.word)?;
+    write_value(out, domain, word)?;
     out.push(b'\n')?;
     Ok(())
 }

@@ -65,7 +65,7 @@ impl Session {
         };
         let rows = recipe.signatures.of(recipe.out.c).shape.rows();
         let block = eval_piece(self.alloc(), recipe, &stores, 0..rows)?;
-        join(self.alloc(), recipe, &block)
+        Ok(join(recipe, block))
     }
 
     /// The store of an object that is there.

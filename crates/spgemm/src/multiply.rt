@@ -1,19 +1,16 @@
 //! The product of two stores, on a range of rows.
-ghost use Rattle.std.specs.Prelude.{◌≡◌, ℕ, ◌<◌, ◌≤◌, [], IfOk, MatchOption};
-ghost use Rattle.std.specs.List.{All};
+ghost use Rattle.std.specs.Prelude.{◌≡◌, ℕ, ◌<◌, ◌≤◌, IfOk};
 ghost use Rattle.algebra.specs.OperatorNames.{ring_named};
-ghost use Rattle.model.specs.Entries.{InOrder};
 ghost use Rattle.model.specs.Product.{product};
-ghost use Rattle.store.specs.Rows.{block_content, HasColumnsBelow};
-ghost use Rattle.store.specs.Stored.{content_of};
-ghost use Rattle.spgemm.specs.Products.{StartsWithRow, IsProductBlock};
+ghost use Rattle.store.specs.Stored.{block_content, content_of};
+ghost use Rattle.spgemm.specs.Products.{IsProductBlock};
 
-use crate::row::{Scratch, multiply_row};
+use crate::row::multiply_row;
 use algebra::{Semiring, with_semiring};
-use model::{Entry, NoMemory};
+use model::NoMemory;
 use std::alloc::Global;
 use std::ops::Range;
-use store::{RowBlock, Store};
+use store::{FiberLists, RowBlock, Store};
 
 /// The rows in `range` of the product of `a` and `b` over a semiring. An entry stands where some k has
 /// both A(i, k) and B(k, j), also where its sum is 0, and is the sum of these products in rising order
@@ -31,7 +28,7 @@ pub fn multiply_rows(
     requires rows { range.end ≤ a.now.rows }
     ensures first { IfOk result (λ block. block.first ≡ range.start) }
     ensures past { IfOk result (λ block. block.past ≡ range.end) }
-    ensures cols { IfOk result (λ block. All (HasColumnsBelow b.now.cols) block.rows.items) }
+    ensures cols { IfOk result (λ block. block.cols ≡ b.now.cols) }
     ensures words { IfOk result (λ block. (i j : ℕ) → range.start ≤ i → i < range.end
         → block_content block i j
         ≡ product (ring_named semiring) a.now.cols (content_of a.now) (content_of b.now) i j) }
@@ -56,26 +53,12 @@ fn multiply_by(
 {
     prove_eq!(a.cols(), b.rows());
     let (first, past) = (range.start, range.end);
-    let mut rows = Vec::new(alloc);
-    let mut scratch = Scratch::new(alloc);
+    let mut lists = FiberLists::new(alloc);
+    let mut terms = Vec::new(alloc);
     let mut rest = a.rows_in(range);
-    while let Some((index, row, others)) = split_row(rest) {
-        if let Some(product) = multiply_row(alloc, index, row, b, semiring, &mut scratch)? {
-            rows.push(product)?;
-        }
+    while let Some((row, others)) = rest.split_first() {
+        multiply_row(&mut lists, &mut terms, row, b, semiring)?;
         rest = others;
     }
-    Ok(RowBlock { first, past, rows })
-}
-
-/// The first row that has entries, with its index, and the entries of the rows behind it.
-fn split_row(entries: &[Entry]) -> Option<(u64, &[Entry], &[Entry])>
-    requires { InOrder entries.now }
-    ensures { MatchOption result
-        (entries.now ≡ [])
-        (λ parts. StartsWithRow parts.0 parts.1.now parts.2.now entries.now) }
-{
-    let index = entries.first()?.row;
-    let (row, others) = entries.split_at(entries.partition_point(|e| e.row <= index));
-    Some((index, row, others))
+    Ok(RowBlock::of_rows(first, past, b.cols(), lists))
 }

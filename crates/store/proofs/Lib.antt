@@ -1,6 +1,14 @@
-pub mod Blocks
 pub mod CastLaws
+pub mod CloseLaws
+pub mod ColumnLaws
 pub mod Content
+pub mod Contents
+pub mod EditLaws
+pub mod FlatLaws
 pub mod Order
+pub mod Places
 pub mod Positions
+pub mod RangeLaws
 pub mod RowEntries
+pub mod StoreLaws
+pub mod Walks

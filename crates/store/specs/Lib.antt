@@ -1,4 +1,4 @@
-pub mod Casts
 pub mod Entries
-pub mod Rows
+pub mod Fibers
 pub mod Stored
+pub mod Walks

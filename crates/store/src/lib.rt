@@ -1,10 +1,18 @@
-//! Stores: what a matrix holds, as its entries in row-major order.
+//! Stores: what an object holds, as fibers that lie flat.
 #![tactic(auto)]
 
+mod block;
 mod casts;
-mod entries;
+mod edits;
+mod fibers;
+mod finding;
+mod lists;
+mod ranges;
 mod rows;
 mod store;
 
-pub use rows::{Row, RowBlock};
+pub use block::RowBlock;
+pub use fibers::Fibers;
+pub use lists::{FiberEnd, FiberLists};
+pub use rows::{Row, Rows};
 pub use store::Store;

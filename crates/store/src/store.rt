@@ -1,40 +1,44 @@
 //! Stores: what an object holds.
 ghost use Rattle.std.specs.Prelude.{◌≡◌, ℕ, ◌<◌, ◌≤◌, None, length, OnOk, OnErr, IfOk};
-ghost use Rattle.std.specs.List.{All};
-ghost use Rattle.model.specs.Entries.{entries_between, entries_of, row_entries, InOrder, IsInside};
+ghost use Rattle.model.specs.Entries.{InOrder, IsInside, entries_between, entries_of, row_entries};
 ghost use Rattle.model.specs.Object.{cast_content, with_entry, IsWithin};
 
-use crate::casts::cast_entries;
-use crate::entries::{append, find, put, row_at, rows_between};
-use crate::{Row, RowBlock};
+use crate::casts::cast_words;
+use crate::edits::{put, take_out};
+use crate::finding::{fiber, find, row_of_column};
+use crate::ranges::{column_between, fibers_between};
+use crate::{FiberLists, Fibers, RowBlock, Rows};
 use algebra::Domain;
-use model::{Entry, NoMemory};
+use model::NoMemory;
 use std::alloc::Global;
 use std::marker::Model;
 use std::ops::Range;
 
 /// What a matrix holds (`GrB_Matrix` of GraphBLAS C API 2.0): its number of rows and of columns, and
-/// its entries in row-major order, at most one at a position.
+/// its entries, at most one at a position. They lie row by row, and where there is one column as one
+/// fiber; no caller sees which.
 #[derive(Drop)]
 pub struct Store {
     rows: u64,
     cols: u64,
-    entries: Vec<Entry>,
+    lists: FiberLists,
 }
 
 impl Model for Store {
-    ghost use Rattle.store.specs.Stored.{Stored, IsStored};
+    ghost use Rattle.store.specs.Fibers.{entries_in};
+    ghost use Rattle.store.specs.Stored.{AreHeld, Stored, along};
 
     ghost Value = { Stored };
 
-    ghost view = { λ s. record { rows = s.rows; cols = s.cols; entries = s.entries.items } };
+    ghost view = { λ s. record { rows = s.rows; cols = s.cols; entries = along s.cols (entries_in s.lists) } };
 
-    ghost invariant = { λ s. IsStored s.rows s.cols s.entries.items };
+    ghost invariant = { λ s. AreHeld 0 s.rows s.cols s.lists.ends.items s.lists.inner.items s.lists.words.items };
 }
 
 impl Store {
-    ghost use Rattle.store.specs.Rows.{block_content, HasColumnsBelow};
-    ghost use Rattle.store.specs.Stored.{content_of};
+    ghost use Rattle.store.specs.Entries.{without_entry};
+    ghost use Rattle.store.specs.Fibers.{entries_along};
+    ghost use Rattle.store.specs.Stored.{along, block_content, content_of};
 
     /// A store of `rows` rows and `cols` columns with no entry. It takes no memory.
     pub fn new(alloc: Global, rows: u64, cols: u64) -> Store
@@ -45,40 +49,28 @@ impl Store {
         Store {
             rows,
             cols,
-            entries: Vec::new(alloc),
+            lists: FiberLists::new(alloc),
         }
     }
 
-    /// A store of `rows` rows and `cols` columns with the entries of a block. It takes memory for
-    /// them once, and time in proportion to their number.
-    pub fn from_rows(
-        alloc: Global,
-        rows: u64,
-        cols: u64,
-        block: &RowBlock,
-    ) -> Result<Store, NoMemory>
-        requires rows { block.now.past ≤ rows }
-        requires cols { All (HasColumnsBelow cols) block.now.rows.items }
-        ensures shape { IfOk result (λ store. (store.rows ≡ rows) × (store.cols ≡ cols)) }
-        ensures content { IfOk result (λ store. (i j : ℕ) → content_of store i j ≡ block_content block.now i j) }
+    /// The store of `rows` rows with the entries of a block, whose lists it takes over without a copy.
+    pub fn from_block(rows: u64, block: RowBlock) -> Store
+        requires { block.past ≤ rows }
+        ensures rows { result.rows ≡ rows }
+        ensures cols { result.cols ≡ block.cols }
+        ensures content { (i j : ℕ) → content_of result i j ≡ block_content block i j }
+        ensures within { IsWithin result.rows result.cols (content_of result) }
     {
-        let mut entries = Vec::with_capacity(alloc, count(&block.rows))?;
-        for row in &block.rows {
-            append(&mut entries, row)?;
-        }
-        Ok(Store {
-            rows,
-            cols,
-            entries,
-        })
+        let RowBlock { cols, lists, .. } = block;
+        Store { rows, cols, lists }
     }
 
     /// A store with the same shape and entries, in memory of its own.
     pub fn try_clone(&self) -> Result<Store, NoMemory>
         ensures { IfOk result (λ store. store ≡ self.now) }
     {
-        let entries = self.entries.clone()?;
-        Ok(Store { entries, ..*self })
+        let lists = self.lists.try_clone()?;
+        Ok(Store { lists, ..*self })
     }
 
     /// A store with the same shape, and each word cast from one domain to another, in memory of its
@@ -89,7 +81,7 @@ impl Store {
             → content_of store i j ≡ cast_content from to (content_of self.now) i j) }
     {
         let mut store = self.try_clone()?;
-        cast_entries(&mut store.entries, from, to);
+        cast_words(from, to, &mut store.lists.words);
         Ok(store)
     }
 
@@ -114,7 +106,7 @@ impl Store {
     pub fn nvals(&self) -> u64
         ensures { result ≡ length (entries_of self.now.rows self.now.cols (content_of self.now)) }
     {
-        self.entries.len() as u64
+        self.lists.inner.len() as u64
     }
 
     /// The word at row `i` and column `j`, where there is one. Its time grows with the logarithm of
@@ -122,26 +114,70 @@ impl Store {
     pub fn get(&self, i: u64, j: u64) -> Option<u64>
         ensures { result ≡ content_of self.now i j }
     {
-        find(&self.entries, i, j)
+        let FiberLists { ends, inner, words } = &self.lists;
+        if self.cols == 1 {
+            find(ends, inner, words, j, i)
+        } else {
+            find(ends, inner, words, i, j)
+        }
     }
 
-    /// The entries of the rows in a range, in order, as they lie in the store. The range may be empty
-    /// or reach beyond the rows. Its time grows with the logarithm of the number of entries.
-    pub fn rows_in(&self, range: Range<u64>) -> &[Entry]
-        ensures entries { result.now ≡ entries_between range.start range.end self.now.cols (content_of self.now) }
-        ensures order { InOrder result.now }
-        ensures inside { IsInside self.now.rows self.now.cols result.now }
+    /// The columns and the words of row `i`, in order, as they lie in the store. Its time grows with
+    /// the logarithm of the number of entries.
+    pub fn row(&self, i: u64) -> (&[u64], &[u64])
+        ensures lengths { length result.1.now ≡ length result.0.now }
+        ensures entries { entries_along i result.0.now result.1.now
+            ≡ row_entries self.now.cols (content_of self.now) i }
     {
-        rows_between(&self.entries, range.start, range.end)
+        let FiberLists { ends, inner, words } = &self.lists;
+        if self.cols == 1 {
+            row_of_column(ends, inner, words, i)
+        } else {
+            fiber(ends, inner, words, i)
+        }
     }
 
-    /// The entries of row `i`, in order, as they lie in the store. Its time grows with the logarithm of
-    /// the number of entries.
-    pub fn row(&self, i: u64) -> &[Entry]
-        ensures entries { result.now ≡ row_entries self.now.cols (content_of self.now) i }
-        ensures inside { IsInside self.now.rows self.now.cols result.now }
+    /// The fibers of the rows in a range: these rows, or the part of the one column that lies in them.
+    /// The range may be empty or reach beyond the rows. Its time grows with the logarithm of the number
+    /// of entries.
+    pub fn fibers_in(&self, range: Range<u64>) -> Fibers<'_>
+        ensures entries { along self.now.cols result.entries
+            ≡ entries_between range.start range.end self.now.cols (content_of self.now) }
+        ensures inside { IsInside self.now.rows self.now.cols (along self.now.cols result.entries) }
     {
-        row_at(&self.entries, i)
+        let FiberLists { ends, inner, words } = &self.lists;
+        if self.cols == 1 {
+            let (inner, words) = column_between(inner, words, range.start, range.end);
+            Fibers::of_column(inner, words)
+        } else {
+            fibers_between(ends, inner, words, range.start, range.end)
+        }
+    }
+
+    /// The rows in a range. The range may be empty or reach beyond the rows. Its time grows with the
+    /// logarithm of the number of entries.
+    pub fn rows_in(&self, range: Range<u64>) -> Rows<'_>
+        ensures entries { result.entries ≡ entries_between range.start range.end self.now.cols (content_of self.now) }
+        ensures order { InOrder result.entries }
+        ensures inside { IsInside self.now.rows self.now.cols result.entries }
+    {
+        let FiberLists { ends, inner, words } = &self.lists;
+        if self.cols == 1 {
+            let (column, words) = column_between(inner, words, range.start, range.end);
+            let fibers = Fibers::none();
+            Rows {
+                column,
+                words,
+                fibers,
+            }
+        } else {
+            let fibers = fibers_between(ends, inner, words, range.start, range.end);
+            Rows {
+                column: &[],
+                words: &[],
+                fibers,
+            }
+        }
     }
 
     /// Sets the word at row `i` and column `j`. A new entry behind all others takes logarithmic time,
@@ -158,23 +194,24 @@ impl Store {
         // Only a new entry may be refused.
         ensures absent { OnErr result (content_of self.old i j ≡ None) }
     {
-        put(
-            &mut self.entries,
-            Entry {
-                row: i,
-                col: j,
-                word,
-            },
-        )
+        if self.cols == 1 {
+            put(&mut self.lists, j, i, word)
+        } else {
+            put(&mut self.lists, i, j, word)
+        }
     }
-}
 
-/// How many entries the rows have; no number that large fits the memory, so the sum may stop at the
-/// greatest one.
-fn count(rows: &[Row]) -> usize {
-    let mut total: usize = 0;
-    for row in rows {
-        total = total.saturating_add(row.cols.len());
+    /// Removes the entry at row `i` and column `j`, where there is one. It moves those behind it, and
+    /// takes no memory.
+    pub fn remove(&mut self, i: u64, j: u64)
+        ensures content { (p q : ℕ) → content_of self.new p q ≡ without_entry (content_of self.old) i j p q }
+        ensures rows { self.new.rows ≡ self.old.rows }
+        ensures cols { self.new.cols ≡ self.old.cols }
+    {
+        if self.cols == 1 {
+            take_out(&mut self.lists, j, i)
+        } else {
+            take_out(&mut self.lists, i, j)
+        }
     }
-    total
 }

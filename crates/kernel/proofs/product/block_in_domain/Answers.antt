@@ -2,7 +2,7 @@
 use Rattle.std.proofs.Common.{◌≡◌, rules, true}
 use Rattle.algebra.specs.Value.{same_domain}
 use Rattle.model.proofs.ObjectLaws.{cast_word-own}
-use Rattle.store.specs.Rows.{block_content}
+use Rattle.store.specs.Stored.{block_content}
 use Rattle.kernel.proofs.product.block_in_domain.Goals as goal
 
 pub returns-else-not-is_same-clause-content : goal.returns-else-not-is_same-clause-content

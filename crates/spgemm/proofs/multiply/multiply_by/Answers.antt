@@ -1,30 +1,30 @@
-use Rattle.std.proofs.Common.{Some, None, refl, ◌∙◌}
-use Rattle.std.proofs.lemmas.List.{append-nil}
-use Rattle.spgemm.specs.Products.{IsProductRow}
-use Rattle.spgemm.proofs.Blocks.{done_none, done_more, done_all, rest_in_order}
+use Rattle.std.proofs.Common.{◌∙◌, ap, arith, length, length-append}
+use Rattle.model.specs.Entries.{word_at}
+use Rattle.store.specs.Fibers.{entries_along}
+use Rattle.store.proofs.Places.{length_row}
+use Rattle.spgemm.proofs.Blocks.{done_none, done_more, done_all}
 use Rattle.spgemm.proofs.Product.{rows_product_is}
 use Rattle.spgemm.proofs.multiply.multiply_by.Goals as goal
 
-pub loop-index-init : goal.loop-index-init
-loop-index-init c =
-    rw (c.new-rows.ensures.items, c.rows_in-rest.ensures.entries) (done_none c.args.semiring c.args.range.start c.args.range.end c.args.a.now c.args.b.now)
+pub loop-row-init : goal.loop-row-init
+loop-row-init c =
+    rw (c.new-lists.ensures.ends, c.new-lists.ensures.inner, c.new-lists.ensures.words, c.rows_in-rest.ensures.entries) (done_none c.args.semiring c.args.range.start c.args.range.end c.args.a.now c.args.b.now)
 
-pub split_row-requires : goal.split_row-requires
-split_row-requires c =
-    rest_in_order c.args.semiring c.args.range.start c.args.range.end c.args.a.now c.args.b.now c.loop-index.rows.items c.loop-index.rest.now
-    (rw c.rows_in-rest.ensures.entries at c.rows_in-rest.ensures.order) c.loop-index.invariant
+pub loop-row-smaller : goal.loop-row-smaller
+loop-row-smaller c =
+    let row = c.in-Some.row in
+    let starts = c.in-Some.ensures in
+    let whole = ap length starts.whole in
+    let some = starts.some in
+    omega (arith, length-append (entries_along row.index row.cols.now row.words.now) c.in-Some.others.entries, length_row row.index row.cols.now row.words.now starts.lengths)
 
-pub loop-index-preserved-in_ok-push : goal.loop-index-preserved-in_ok-push
-loop-index-preserved-in_ok-push c =
-    let made : IsProductRow c.args.semiring c.in-Some.index c.in-Some.row.now c.args.b.now (Some c.in-Some-2.product) = rw c.in-Some-2.is at c.in_ok-product.ensures in
-    rw c.in_ok-push.ensures.items
-    (done_more c.args.semiring c.args.range.start c.args.range.end c.args.a.now c.args.b.now c.loop-index.rows.items c.loop-index.rest.now c.in-Some.index c.in-Some.row.now c.in-Some.others.now (Some c.in-Some-2.product) c.loop-index.invariant c.in-Some.ensures made)
-
-pub loop-index-preserved : goal.loop-index-preserved
-loop-index-preserved c =
-    let made : IsProductRow c.args.semiring c.in-Some.index c.in-Some.row.now c.args.b.now None = rw c.in_default-2.is at c.in_ok-product.ensures in
-    let more = done_more c.args.semiring c.args.range.start c.args.range.end c.args.a.now c.args.b.now c.loop-index.rows.items c.loop-index.rest.now c.in-Some.index c.in-Some.row.now c.in-Some.others.now None c.loop-index.invariant c.in-Some.ensures made in
-    rw append-nil at more
+pub loop-row-preserved : goal.loop-row-preserved
+loop-row-preserved c =
+    let row = c.in-Some.row in
+    let made = c.in_ok-multiply_row.ensures in
+    let s = c.loop-row in
+    let more = done_more c.args.semiring c.args.range.start c.args.range.end c.args.a.now c.args.b.now s.lists.ends.items s.lists.inner.items s.lists.words.items s.rest.entries row.index row.cols.now row.words.now c.in-Some.others.entries made.cols made.added s.invariant c.in-Some.ensures made.product in
+    rw (made.ends, made.inner, made.words) more
 
 pub returns : goal.returns
 returns c =
@@ -32,11 +32,13 @@ returns c =
     let b = c.args.b.now in
     let range = c.args.range in
     let semiring = c.args.semiring in
+    let s = c.loop-row in
     record {
-      first_is = refl;
-      past_is = refl;
-      cols = c.loop-index.invariant.cols;
+      first_is = c.of_rows.ensures.first;
+      past_is = c.of_rows.ensures.past;
+      cols = c.of_rows.ensures.cols ∙ c.cols-2.ensures;
       words = λ i j low high.
-          done_all semiring range.start range.end a b c.loop-index.rows.items c.loop-index.rest.now c.loop-index.invariant c.in_default.ensures i j
+          ap (λ es. word_at es i j) c.of_rows.ensures.entries
+          ∙ done_all semiring range.start range.end a b s.lists.ends.items s.lists.inner.items s.lists.words.items s.rest.entries s.invariant c.in_default.ensures i j
           ∙ rows_product_is semiring range.start range.end i j a b c.rows.ensures.within low high;
     }

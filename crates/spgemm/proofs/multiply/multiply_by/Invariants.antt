@@ -2,8 +2,8 @@ use Rattle.std.proofs.Common.{length}
 use Rattle.spgemm.proofs.Blocks.{IsDone}
 use Rattle.spgemm.proofs.multiply.multiply_by.Given as goal
 
-abbrev pub invariant-loop-index : goal.invariant-loop-index
-invariant-loop-index l = IsDone l.semiring l.first l.past l.a l.b l.rows.items l.rest
+abbrev pub invariant-loop-row : goal.invariant-loop-row
+invariant-loop-row l = IsDone l.semiring l.first l.past l.a l.b l.lists.ends.items l.lists.inner.items l.lists.words.items l.rest.entries
 
-abbrev pub decreases-loop-index : goal.decreases-loop-index
-decreases-loop-index l = length l.rest
+abbrev pub decreases-loop-row : goal.decreases-loop-row
+decreases-loop-row l = length l.rest.entries

@@ -6,12 +6,11 @@ use Rattle.calls.specs.declared.role.Roles.{Roles}
 use Rattle.calls.specs.Recipes.{meaning}
 use Rattle.calls.specs.Roles.{role_of}
 use Rattle.kernel.specs.Evaluated.{AreInputs, object_in, output_of}
-use Rattle.kernel.proofs.Wholes.{whole_block}
-use Rattle.model.specs.Object.{cols_of, rows_of}
+use Rattle.kernel.proofs.Wholes.{whole_store}
+use Rattle.model.specs.Object.{rows_of}
 use Rattle.session.specs.Performed.{environment_of}
-use Rattle.session.specs.Results.{IsEvaluated, IsStoreOf}
-use Rattle.session.proofs.ResultLaws.{each_role, evaluated, if_ok_three, inputs_taken, known_there}
-use Rattle.store.specs.Rows.{block_content}
+use Rattle.session.specs.Results.{IsStoreOf}
+use Rattle.session.proofs.ResultLaws.{each_role, evaluated, inputs_taken, known_there}
 use Rattle.store.specs.Stored.{Stored, content_of}
 use Rattle.session.proofs.sessions.Session.evaluated.Goals as goal
 
@@ -38,10 +37,7 @@ returns c =
     each_role (λ (role : Role). IsStoreOf env (role_of objects role) (stored role)) c.store_of.ensures c.store_of-2.ensures c.store_of-3.ensures c.store_of-4.ensures in
     let inputs : AreInputs recipe stored = inputs_taken env recipe objects stored c.requires are in
     let rows : c.rows-rows.result ≡ rows_of (output_of recipe).shape = rw c.of.ensures at c.rows-rows.ensures in
-    let block = c.in_ok-block.block in
-    let whole : (i j : ℕ) → block_content block i j ≡ meaning recipe (object_in recipe stored) i j =
-    whole_block recipe stored block inputs c.in_ok-block.ensures.first (c.in_ok-block.ensures.past ∙ rows) (λ i j low high. c.in_ok-block.ensures.words i j low (rw rows high)) in
-    if_ok_three c.join.result (λ store. store.rows ≡ rows_of (output_of recipe).shape) (λ store. store.cols ≡ cols_of (output_of recipe).shape)
-    (λ store. (i j : ℕ) → content_of store i j ≡ block_content block i j) (IsEvaluated env recipe objects)
-    (λ store rows cols content. evaluated env recipe objects stored store c.requires are rows cols (λ i j. content i j ∙ whole i j))
-    c.join.ensures.rows c.join.ensures.cols c.join.ensures.content
+    let is : c.join.result.rows ≡ rows_of (output_of recipe).shape = c.join.ensures.rows in
+    let whole : (i j : ℕ) → content_of c.join.result i j ≡ meaning recipe (object_in recipe stored) i j =
+    whole_store recipe stored c.in_ok-block.block c.join.result inputs is c.join.ensures.within c.join.ensures.content (λ i j low high. c.in_ok-block.ensures.words i j low (rw rows high)) in
+    evaluated env recipe objects stored c.join.result c.requires are is (c.join.ensures.cols ∙ c.in_ok-block.ensures.cols) whole

@@ -1,0 +1,162 @@
+//! Entries and fibers found in lists.
+ghost use Rattle.std.specs.Prelude.{◌≡◌, ◌<◌, ◌≤◌, ◌+◌, ◌∷◌, length, take, drop, slice_index, slice_range, None, Some};
+ghost use Rattle.std.specs.Prelude.{IfOk, IfErr, IfSome, MatchOption};
+ghost use Rattle.std.specs.List.{All};
+ghost use Rattle.std.specs.List.Sorted.{IsSearchInRange};
+ghost use Rattle.std.specs.Option.{option_map, option_to_list};
+ghost use Rattle.model.specs.Entries.{entry_at, word_at};
+ghost use Rattle.store.specs.Fibers.{AreApart, AreAt, AreFlat, IsAbsent, IsFound, Rises, RisesIn};
+ghost use Rattle.store.specs.Fibers.{end_at, entries_along, entries_from, last_end, outers};
+ghost use Rattle.store.specs.Stored.{entries_in_row};
+
+use crate::FiberEnd;
+
+/// Where the fiber at an outer index stands among the fibers, or would stand, and its places.
+#[derive(Clone, Copy)]
+pub(crate) struct Spot {
+    pub(crate) fiber: usize,
+    pub(crate) start: usize,
+    pub(crate) end: usize,
+}
+
+/// The places of the fiber at `outer`; by a binary search.
+pub(crate) fn fiber_at(ends: &[FiberEnd], outer: u64) -> Spot
+    requires rises { Rises 0 ends.now }
+    requires apart { AreApart ends.now }
+    ensures fiber { result.fiber ≤ length ends.now }
+    ensures before { All (λ r. r.outer < outer) (take result.fiber ends.now) }
+    ensures behind { All (λ r. outer ≤ r.outer) (drop result.fiber ends.now) }
+    ensures start { result.start ≡ last_end 0 (take result.fiber ends.now) }
+    ensures at { AreAt outer result.start result.end (outers 0 ends.now) }
+    ensures there { result.start < result.end → drop result.fiber ends.now
+        ≡ end_at outer result.end ∷ drop (result.fiber + 1) ends.now }
+    ensures absent { result.end ≤ result.start → All (λ r. outer < r.outer) (drop result.fiber ends.now) }
+{
+    let fiber = first_from(ends, outer);
+    let start = end_of(ends, fiber);
+    if fiber < ends.len() && ends[fiber].outer == outer {
+        let end = ends[fiber].end;
+        return Spot { fiber, start, end };
+    }
+    Spot {
+        fiber,
+        start,
+        end: start,
+    }
+}
+
+/// How many fibers are before an outer index.
+pub(crate) fn first_from(ends: &[FiberEnd], outer: u64) -> usize
+    requires { AreApart ends.now }
+    ensures bound { result ≤ length ends.now }
+    ensures before { All (λ r. r.outer < outer) (take result ends.now) }
+    ensures behind { All (λ r. outer ≤ r.outer) (drop result ends.now) }
+{
+    ends.partition_point(|e| e.outer < outer)
+}
+
+/// Where the first fibers end.
+#[inline(always)]
+pub(crate) fn end_of(ends: &[FiberEnd], count: usize) -> usize
+    requires { count ≤ length ends.now }
+    ensures { result ≡ last_end 0 (take count ends.now) }
+{
+    if count == 0 {
+        return 0;
+    }
+    ends[count - 1].end
+}
+
+/// Where a number stands in a part of a list that rises, or where it would stand.
+pub(crate) fn seek(list: &[u64], start: usize, end: usize, x: u64) -> Result<usize, usize>
+    requires low { start ≤ end }
+    requires high { end ≤ length list.now }
+    requires rises { RisesIn start end list.now }
+    ensures bound { IsSearchInRange result (length list.now) }
+    ensures found { IfOk result (IsFound x start end list.now) }
+    ensures absent { IfErr result (IsAbsent x start end list.now) }
+{
+    match list[start..end].binary_search(&x) {
+        Ok(at) => Ok(start + at),
+        Err(at) => Err(start + at),
+    }
+}
+
+/// The word at an outer and an inner index, where there is one.
+pub(crate) fn find(
+    ends: &[FiberEnd],
+    inner: &[u64],
+    words: &[u64],
+    outer: u64,
+    index: u64,
+) -> Option<u64>
+    requires { AreFlat ends.now inner.now words.now }
+    ensures { result ≡ word_at (entries_from 0 ends.now inner.now words.now) outer index }
+{
+    let at = place(ends, inner, words, outer, index)?;
+    Some(words[at])
+}
+
+/// The place of the entry at an outer and an inner index, where there is one.
+pub(crate) fn place(
+    ends: &[FiberEnd],
+    inner: &[u64],
+    words: &[u64],
+    outer: u64,
+    index: u64,
+) -> Option<usize>
+    requires { AreFlat ends.now inner.now words.now }
+    ensures bound { IfSome result (λ at. at < length words.now) }
+    ensures word { MatchOption result
+        (word_at (entries_from 0 ends.now inner.now words.now) outer index ≡ None)
+        (λ at. word_at (entries_from 0 ends.now inner.now words.now) outer index ≡ Some (slice_index words.now at)) }
+{
+    let Spot { start, end, .. } = fiber_at(ends, outer);
+    match seek(inner, start, end, index) {
+        Ok(at) => Some(at),
+        Err(_) => None,
+    }
+}
+
+/// The fiber at an outer index: its inner indices and its words.
+pub(crate) fn fiber<'a>(
+    ends: &[FiberEnd],
+    inner: &'a [u64],
+    words: &'a [u64],
+    outer: u64,
+) -> (&'a [u64], &'a [u64])
+    requires { AreFlat ends.now inner.now words.now }
+    ensures lengths { length result.1.now ≡ length result.0.now }
+    ensures entries { entries_along outer result.0.now result.1.now
+        ≡ entries_in_row outer (entries_from 0 ends.now inner.now words.now) }
+{
+    let Spot { start, end, .. } = fiber_at(ends, outer);
+    (part(inner, start, end), part(words, start, end))
+}
+
+/// A row of a column that is one fiber: a zero and its word, or nothing.
+pub(crate) fn row_of_column<'a>(
+    ends: &[FiberEnd],
+    inner: &[u64],
+    words: &'a [u64],
+    row: u64,
+) -> (&'a [u64], &'a [u64])
+    requires { AreFlat ends.now inner.now words.now }
+    ensures lengths { length result.1.now ≡ length result.0.now }
+    ensures entries { entries_along row result.0.now result.1.now
+        ≡ option_to_list (option_map (entry_at row 0) (word_at (entries_from 0 ends.now inner.now words.now) 0 row)) }
+{
+    match place(ends, inner, words, 0, row) {
+        Some(at) => (&[0], part(words, at, at + 1)),
+        None => (&[], &[]),
+    }
+}
+
+/// The elements of a list from `start` up to before `end`.
+#[inline(always)]
+pub(crate) fn part(list: &[u64], start: usize, end: usize) -> &[u64]
+    requires { (start ≤ end) × (end ≤ length list.now) }
+    ensures { result.now ≡ slice_range list.now start end }
+{
+    &list[start..end]
+}
