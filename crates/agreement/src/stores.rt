@@ -1,10 +1,11 @@
 //! Stores, set and read.
 use algebra::Domain;
 use model::NoMemory;
+use std::test::Fail;
 use store::Store;
 
 #[test]
-fn sets_and_reads(rt: HostRuntime) -> Result<(), NoMemory> {
+fn sets_and_reads(rt: HostRuntime) -> Result<(), Fail> {
     let mut store = Store::new(rt.alloc(), 4, 4294967296);
     store.set(2, 7, 27)?;
     store.set(0, 4294967295, 9)?;
@@ -17,18 +18,18 @@ fn sets_and_reads(rt: HostRuntime) -> Result<(), NoMemory> {
     let copy = store.try_clone()?;
     store.set(3, 0, 30)?;
     assert_eq!(rt; copy.nvals(), 3);
-    let all = [9, 23, 28, 30].as_slice();
-    for (range, wanted) in [(0..4, all), (2..9, &all[1..])] {
-        let mut wanted = wanted;
-        let mut rest = store.rows_in(range);
-        while let Some((row, others)) = rest.split_first() {
-            let (words, left) = wanted.split_at(row.words.len().min(wanted.len()));
-            assert_eq!(rt; row.words, words);
-            wanted = left;
-            rest = others;
-        }
-        assert_eq!(rt; wanted.is_empty(), true);
-    }
+    let (first, rest) = store.rows_in(0..4).split_first().ok_or("row 0")?;
+    assert_eq!(rt;
+        (first.index, first.cols, first.words),
+        (0, [4294967295].as_slice(), [9].as_slice())
+    );
+    let (second, rest) = rest.split_first().ok_or("row 2")?;
+    assert_eq!(rt; (second.index, second.words), (2, [23, 28].as_slice()));
+    let (third, rest) = rest.split_first().ok_or("row 3")?;
+    assert_eq!(rt; (third.index, third.words), (3, [30].as_slice()));
+    assert_eq!(rt; rest.split_first().is_none(), true);
+    let (later, _) = store.rows_in(3..9).split_first().ok_or("row 3 again")?;
+    assert_eq!(rt; later.index, 3);
     assert_eq!(rt; store.rows_in(3..3).split_first().is_none(), true);
     store.remove(2, 7);
     store.remove(2, 4);
@@ -39,7 +40,7 @@ fn sets_and_reads(rt: HostRuntime) -> Result<(), NoMemory> {
 }
 
 #[test]
-fn holds_a_column(rt: HostRuntime) -> Result<(), NoMemory> {
+fn holds_a_column(rt: HostRuntime) -> Result<(), Fail> {
     let mut store = Store::new(rt.alloc(), 4294967296, 1);
     store.set(4294967295, 0, 3)?;
     store.set(7, 0, 1)?;
@@ -57,12 +58,12 @@ fn holds_a_column(rt: HostRuntime) -> Result<(), NoMemory> {
         ([9, 4294967295].as_slice(), [5, 3].as_slice())
     );
     assert_eq!(rt; (others.len(), others.outer()), (0, u64::MAX));
-    let (first, others) = store.rows_in(0..10).split_first().unwrap();
+    let (first, others) = store.rows_in(0..10).split_first().ok_or("row 7")?;
     assert_eq!(rt;
         (first.index, first.cols, first.words),
         (7, [0].as_slice(), [1].as_slice())
     );
-    assert_eq!(rt; others.split_first().unwrap().0.index, 9);
+    assert_eq!(rt; others.split_first().ok_or("row 9")?.0.index, 9);
     store.remove(9, 0);
     assert_eq!(rt;
         (store.nvals(), store.get(9, 0), store.get(7, 0)),

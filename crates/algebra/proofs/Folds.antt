@@ -65,7 +65,7 @@ fold-word W f laws [] c p = p
 fold-word W f laws (x ∷ xs) c p = fold-word W f laws xs (f c x) (laws.word c x)
 
 -- what is put onto a fold can be put onto its start
-put_on_start : (W : ℕ → Type 0) (f : ℕ → ℕ → ℕ) (laws : CombinesWords W f) (xs : List ℕ) (c a : ℕ)
+pub put_on_start : (W : ℕ → Type 0) (f : ℕ → ℕ → ℕ) (laws : CombinesWords W f) (xs : List ℕ) (c a : ℕ)
     → W c → W a → All W xs → f c (fold f a xs) ≡ fold f (f c a) xs
 put_on_start W f laws [] c a p q all = refl
 put_on_start W f laws (x ∷ xs) c a p q all =

@@ -1,11 +1,12 @@
 -- The identity on the right, and sums of words by a monoid: neither the order of the words nor the parts
 -- in which they are summed matter.
-use Rattle.std.proofs.Common.{◌≡◌, ℕ, zero, List, [], ◌∷◌, Some, true, refl, sym, ◌∙◌, ap, arith}
+use Rattle.std.proofs.Common.{◌≡◌, ℕ, zero, List, [], ◌∷◌, ◌++◌, Some, true, refl, sym, ◌∙◌, ap, arith}
 use Rattle.std.specs.List.{All, concat, filter_map, fold}
 use Rattle.std.specs.List.Sorted.{IsPermutation}
 use Rattle.std.specs.Option.{unwrap_or}
 use Rattle.std.proofs.lemmas.List.Sorted.{All-permutation, length_permutation}
-use Rattle.algebra.proofs.Folds.{CombinesWords, fold-permutation, fold-word, reduce-parts}
+use Rattle.std.proofs.lemmas.List.Sums.{fold-append}
+use Rattle.algebra.proofs.Folds.{CombinesWords, fold-permutation, fold-word, put_on_start, reduce-parts}
 use Rattle.algebra.proofs.Monoids.{monoid-word, monoid-commutes, monoid-associates, monoid-identity, identity-word}
 use Rattle.algebra.specs.Value.{IsWordOf}
 use Rattle.algebra.specs.Monoids.{identity_of, sum_of}
@@ -40,6 +41,23 @@ pub sum-from_identity : (kind : MonoidKind) (d : Domain) (words : List ℕ)
     → fold (eval_of (combines_by kind) d) (identity_of kind d) words ≡ unwrap_or (sum_of kind d words) (identity_of kind d)
 sum-from_identity kind d [] h all = refl
 sum-from_identity kind d (word ∷ words) h all = begins_at_identity kind d word words h all
+
+-- the folds of two lists, each from the identity, combine to that of one list behind the other
+pub fold-two : (kind : MonoidKind) (d : Domain) (xs ys : List ℕ)
+    → offers (combines_by kind) d ≡ true → All (IsWordOf d) ys
+    → eval_of (combines_by kind) d
+    (fold (eval_of (combines_by kind) d) (identity_of kind d) xs)
+    (fold (eval_of (combines_by kind) d) (identity_of kind d) ys)
+    ≡ fold (eval_of (combines_by kind) d) (identity_of kind d) (xs ++ ys)
+fold-two kind d xs ys h all =
+    let f = eval_of (combines_by kind) d in
+    let start = identity_of kind d in
+    let laws = monoid-laws kind d h in
+    let word = identity-word kind d h in
+    let sum = fold-word (IsWordOf d) f laws xs start word in
+    put_on_start (IsWordOf d) f laws ys (fold f start xs) start sum word all
+    ∙ ap (λ first. fold f first ys) (monoid-identity_right kind d (fold f start xs) h sum)
+    ∙ sym (fold-append f start xs ys)
 
 -- a sum of words is a word
 pub sum-word : (kind : MonoidKind) (d : Domain) (word : ℕ) (words : List ℕ) (sum : ℕ)

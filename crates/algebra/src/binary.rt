@@ -61,6 +61,17 @@ impl BinaryOp {
         }
     }
 
+    /// The operator of a kind that is known to be offered: where both are literals, the compiler sees
+    /// through it.
+    #[inline(always)]
+    pub fn of(kind: BinaryKind, domain: Domain) -> BinaryOp
+        requires { offers kind domain ≡ true }
+        ensures kind { result.kind ≡ kind }
+        ensures domain { result.domain ≡ domain }
+    {
+        BinaryOp::new(kind, domain).unwrap()
+    }
+
     /// The domain of the answer: BOOL for a comparison, else that of the inputs.
     pub const fn answer(self) -> Domain
         ensures { result ≡ answer_domain self.kind self.domain }

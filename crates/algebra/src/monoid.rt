@@ -1,5 +1,5 @@
 //! Monoids (`GrB_Monoid`).
-ghost use Rattle.std.specs.Prelude.{◌≡◌, ◌↔◌, IsTrue, IsSome, IfSome};
+ghost use Rattle.std.specs.Prelude.{◌≡◌, ◌↔◌, IsTrue, IsSome, IfSome, true};
 ghost use Rattle.algebra.specs.Monoids.{identity_of};
 ghost use Rattle.algebra.specs.Operators.{combines_by, offers};
 
@@ -27,6 +27,18 @@ impl Monoid {
             Some(op) => Some(Monoid { kind, op }),
             None => None,
         }
+    }
+
+    /// The monoid of a kind that is known to be offered: where both are literals, the compiler sees
+    /// through it.
+    #[inline(always)]
+    pub fn of(kind: MonoidKind, domain: Domain) -> Monoid
+        requires { offers (combines_by kind) domain ≡ true }
+        ensures kind { result.op.kind ≡ combines_by kind }
+        ensures domain { result.op.domain ≡ domain }
+        ensures name { result.kind ≡ kind }
+    {
+        Monoid::new(kind, domain).unwrap()
     }
 
     /// The word that changes no word that it is combined with.

@@ -40,6 +40,17 @@ impl UnaryOp {
         }
     }
 
+    /// The operator of a kind that is known to be offered: where both are literals, the compiler sees
+    /// through it.
+    #[inline(always)]
+    pub fn of(kind: UnaryKind, domain: Domain) -> UnaryOp
+        requires { offers_unary kind domain ≡ true }
+        ensures kind { result.kind ≡ kind }
+        ensures domain { result.domain ≡ domain }
+    {
+        UnaryOp::new(kind, domain).unwrap()
+    }
+
     /// What the operator gives for a word of its domain.
     #[inline(always)]
     pub const fn eval(self, a: u64) -> u64

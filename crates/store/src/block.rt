@@ -4,9 +4,9 @@ ghost use Rattle.std.specs.List.{All};
 ghost use Rattle.store.specs.Fibers.{AreFlat, entries_in};
 ghost use Rattle.store.specs.Stored.{turned};
 
-use crate::casts::cast_words;
 use crate::{FiberEnd, FiberLists};
 use algebra::Domain;
+use lanes::cast_words;
 use std::marker::Model;
 
 /// The entries of the rows from `first` up to before `past`, of a shape with so many columns. They lie

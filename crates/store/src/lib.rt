@@ -2,7 +2,6 @@
 #![tactic(auto)]
 
 mod block;
-mod casts;
 mod edits;
 mod fibers;
 mod finding;

@@ -3,12 +3,12 @@ ghost use Rattle.std.specs.Prelude.{◌≡◌, ℕ, ◌<◌, ◌≤◌, None, le
 ghost use Rattle.model.specs.Entries.{InOrder, IsInside, entries_between, entries_of, row_entries};
 ghost use Rattle.model.specs.Object.{cast_content, with_entry, IsWithin};
 
-use crate::casts::cast_words;
 use crate::edits::{put, take_out};
 use crate::finding::{fiber, find, row_of_column};
 use crate::ranges::{column_between, fibers_between};
 use crate::{FiberLists, Fibers, RowBlock, Rows};
 use algebra::Domain;
+use lanes::cast_words;
 use model::NoMemory;
 use std::alloc::Global;
 use std::marker::Model;

@@ -1,0 +1,3 @@
+pub mod Folded
+pub mod Kept
+pub mod Lists

@@ -1,0 +1,14 @@
+//! Loops over words that depend on an operator: each is compiled for each operator, which is chosen
+//! once a call. Everything here is total and takes no memory.
+#![tactic(auto)]
+
+mod arms;
+mod binary;
+mod casts;
+mod monoid;
+mod unary;
+
+pub use binary::{unite_words, zip_words};
+pub use casts::cast_words;
+pub use monoid::fold_words;
+pub use unary::map_words;
