@@ -1,6 +1,7 @@
 pub mod EnvironmentLaws
 pub mod ObjectLaws
 pub mod ProductLaws
+pub mod RenamedLaws
 pub mod ResultLaws
 pub mod Rows
 pub mod RunLaws

@@ -22,32 +22,11 @@ use Rattle.model.specs.Renamed.{inputs_of, objects_of, output_of, outputs_of, re
 use Rattle.model.specs.Run.{Environment, data_lines_of, effect, object_at, on_objects, seen, with_content, with_object}
 use Rattle.model.specs.WriteBack.{left_by, result_of}
 use Rattle.model.proofs.EnvironmentLaws.{environments_equal}
+use Rattle.model.proofs.RenamedLaws.{renamed_twice}
 use Rattle.script.specs.Named.{is_create, through}
 use Rattle.session.specs.Performed.{count_in, environment_of, fault_in, made_in, numbered}
 use Rattle.session.specs.declared.sessions.Session.{Session}
 use Rattle.session.specs.Tables.{same_object}
-
--- ---- names in turn
-
-twice : {K L M : Type 0} (f : K → L) (g : L → M) (mask : Option K) → option_map g (option_map f mask) ≡ option_map (λ k. g (f k)) mask
-twice f g None = refl
-twice f g (Some k) = refl
-
-out_twice : {K L M : Type 0} (f : K → L) (g : L → M) (out : Out K) → renamed_out g (renamed_out f out) ≡ renamed_out (λ k. g (f k)) out
-out_twice {M = M} f g out = ap (λ (mask : Option M). let o : Out M = record { c = g (f out.c); mask = mask; accum = out.accum; desc = out.desc } in o) (twice f g out.mask)
-
-operation_twice : {K L M : Type 0} (f : K → L) (g : L → M) (operation : Operation K) → renamed_operation g (renamed_operation f operation) ≡ renamed_operation (λ k. g (f k)) operation
-operation_twice f g (Multiply ring a b) = refl
-
-pub renamed_twice : {K L M A B C : Type 0} (f : K → L) (g : L → M) (h : A → B) (k : B → C) (call : Call K A) → renamed g k (renamed f h call) ≡ renamed (λ x. g (f x)) (λ n. k (h n)) call
-renamed_twice f g h k (Create name domain shape) = refl
-renamed_twice f g h k (Set o p value) = refl
-renamed_twice f g h k (Get o p) = refl
-renamed_twice f g h k (Nvals o) = refl
-renamed_twice f g h k (Print o) = refl
-renamed_twice {M = M} {C = C} f g h k (Operate out operation) =
-    ap (λ (o : Out M). let c : Call M C = Operate o (renamed_operation g (renamed_operation f operation)) in c) (out_twice f g out)
-    ∙ ap (λ (o : Operation M). let c : Call M C = Operate (renamed_out (λ x. g (f x)) out) o in c) (operation_twice f g operation)
 
 -- what is made of a call's numbers is what is made of its names
 pub along : {K L M A B : Type 0} (number : K → Option L) (h : Option L → M) (k : A → B) (call : Call K A) (r : Call L A) → renamed Some (λ n. n) r ≡ renamed number (λ n. n) call

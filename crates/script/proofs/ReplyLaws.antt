@@ -17,7 +17,8 @@ use Rattle.model.specs.Renamed.{output_of, renamed}
 use Rattle.model.specs.Run.{Environment, data_lines_of, effect, object_at, on_objects, seen, with_content}
 use Rattle.model.specs.Text.{canonical_lines}
 use Rattle.model.specs.WriteBack.{left_by}
-use Rattle.script.proofs.NameLaws.{AreDistinct, create_renamed, data_renamed, effect-unmade, fault-along, fault-missing, left_renamed, on_objects-along, output_renamed, place-along, renamed_twice, there_renamed}
+use Rattle.model.proofs.RenamedLaws.{renamed_twice}
+use Rattle.script.proofs.NameLaws.{AreDistinct, create_renamed, data_renamed, effect-unmade, fault-along, fault-missing, left_renamed, on_objects-along, output_renamed, place-along, there_renamed}
 use Rattle.script.specs.declared.names.Names.{Names}
 use Rattle.script.specs.Named.{Asks, HasLines, environment_in, is_create, number_in, reply_lines, through}
 use Rattle.script.specs.Replied.{IsReplied}

@@ -8,7 +8,6 @@ use Rattle.calls.specs.declared.obj.Obj.{Obj}
 use Rattle.model.specs.declared.call.Call.{Call}
 use Rattle.model.specs.declared.call.Call.TheVariants.{Create, Set, Get, Nvals, Print, Operate}
 use Rattle.model.specs.declared.call.Operation.{Operation}
-use Rattle.model.specs.declared.call.Operation.TheVariants.{Multiply}
 use Rattle.model.specs.declared.call.Out.{Out}
 use Rattle.model.specs.declared.shape.Place.{Place}
 use Rattle.model.specs.declared.shape.Shape.{Shape}
@@ -16,6 +15,7 @@ use Rattle.model.specs.declared.status.Status.{Status}
 use Rattle.model.specs.Fault.{early_fault, found_object, late_fault}
 use Rattle.model.specs.declared.shape.Signature.{Signature}
 use Rattle.model.specs.Object.{Content, Object, col_of, empty_object, row_of, signature_of}
+use Rattle.model.proofs.RenamedLaws.{operation_twice, out_twice}
 use Rattle.model.specs.Renamed.{renamed_operation, renamed_out}
 use Rattle.model.specs.Run.{effect, object_at, with_content, with_object}
 use Rattle.model.specs.WriteBack.{result_of}
@@ -66,16 +66,6 @@ unfolding effect
 performed-print session o x accepted = performed session session (Print o) x (no_late _ accepted) refl refl
 
 -- ---- operations
-
-twice : {K L M : Type 0} (f : K → L) (g : L → M) (mask : Option K) → option_map g (option_map f mask) ≡ option_map (λ k. g (f k)) mask
-twice f g None = refl
-twice f g (Some k) = refl
-
-out_twice : {K L M : Type 0} (f : K → L) (g : L → M) (out : Out K) → renamed_out g (renamed_out f out) ≡ renamed_out (λ k. g (f k)) out
-out_twice {M = M} f g out = ap (λ (mask : Option M). let o : Out M = record { c = g (f out.c); mask = mask; accum = out.accum; desc = out.desc } in o) (twice f g out.mask)
-
-operation_twice : {K L M : Type 0} (f : K → L) (g : L → M) (operation : Operation K) → renamed_operation g (renamed_operation f operation) ≡ renamed_operation (λ k. g (f k)) operation
-operation_twice f g (Multiply ring a b) = refl
 
 fault_in-operate : (session : Session) (out : Out Obj) (operation : Operation Obj) → early_fault (count_in session) (Operate (renamed_out (known_in session) out) (renamed_operation (known_in session) operation)) ≡ None
     → fault_in session (Operate out operation) ≡ None

@@ -14,7 +14,7 @@ use Rattle.model.specs.Entries.{entry_at}
 use Rattle.store.specs.declared.lists.FiberEnd.{FiberEnd}
 use Rattle.store.specs.Entries.{HasRemoved, HasSet, IsAt, IsGap}
 use Rattle.store.specs.Fibers.{AreApart, AreAt, AreFlat, IsAbsent, IsFound, IsSpot, Rises, earlier, end_at, entries_from, last_end, later, outers, placed}
-use Rattle.store.proofs.FlatLaws.{rises_le}
+use Rattle.store.proofs.FlatLaws.{last_append, rises_le}
 use Rattle.store.proofs.Order.{all_pairs_from_map, all_pairs_insert, all_pairs_map}
 use Rattle.store.proofs.Places.{found_from, gap_from, length_outers, length_placed, long_outers, outers_append, rises_part, rises_rest}
 use Rattle.store.proofs.Positions.{has_removed_at, has_removed_none, has_set_between, has_set_over}
@@ -25,11 +25,6 @@ rises_append : (from : ℕ) (xs ys : List FiberEnd) → Rises from xs → Rises 
 unfolding Rises last_end
 rises_append from [] ys h t = t
 rises_append from (x ∷ xs) ys h t = (h.0, rises_append x.end xs ys h.1 t)
-
-last_append : (from : ℕ) (xs ys : List FiberEnd) → last_end from (xs ++ ys) ≡ last_end (last_end from xs) ys
-unfolding last_end
-last_append from [] ys = refl
-last_append from (x ∷ xs) ys = last_append x.end xs ys
 
 -- each fiber ends behind the place where the first begins, and none behind the last
 pub ends_within : (from : ℕ) (rs : List FiberEnd) → Rises from rs → All (λ r. (from < r.end) × (r.end ≤ last_end from rs)) rs
@@ -316,7 +311,9 @@ opened_within outer k from to ends inner words flat spot =
     let h = parts.1.1 in
     let front : length (take k ends) ≡ k = length-take-le k ends spot.high in
     let rest : drop k (opened outer k from to ends) ≡ end_at outer to ∷ ys = rw parts.1.0 (drop_at (take k ends) (end_at outer to ∷ ys) k front) in
-    let all : last_end to ys ≡ length inner = h.whole ∙ flat.whole in
+    let whole = h.whole in
+    let end = flat.whole in
+    let all : last_end to ys ≡ length inner = omega arith in
     let last = rises_le to ys h.behind in
     rw rest
     (All-cons (λ r. r.end ≤ length inner) (end_at outer to) ys (omega arith)

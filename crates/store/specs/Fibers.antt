@@ -45,13 +45,17 @@ entries_in lists = entries_from 0 lists.ends.items lists.inner.items lists.words
 abbrev pub AreApart : List FiberEnd → Type 0
 AreApart ends = AllPairs (λ r s. r.outer < s.outer) ends
 
--- the lists are fibers: one word beside each inner index, each place in a fiber, and all entries in order
-pub record AreFlat (ends : List FiberEnd) (inner words : List ℕ) : Type 0 where
+-- the lists are fibers, of which the first begins at from: one word beside each inner index, each place in a fiber,
+-- and all entries in order
+pub record AreFrom (from : ℕ) (ends : List FiberEnd) (inner words : List ℕ) : Type 0 where
   pub same_length : length words ≡ length inner
-  pub rises : Rises 0 ends
-  pub whole : last_end 0 ends ≡ length inner
+  pub rises : Rises from ends
+  pub whole : last_end from ends ≡ from + length inner
   pub apart : AreApart ends
-  pub order : InOrder (entries_from 0 ends inner words)
+  pub order : InOrder (entries_from from ends inner words)
+
+abbrev pub AreFlat : List FiberEnd → List ℕ → List ℕ → Type 0
+AreFlat ends inner words = AreFrom 0 ends inner words
 
 -- ---- places
 

@@ -4,7 +4,7 @@ use Rattle.std.specs.List.{All, AllPairs, zip}
 use Rattle.model.specs.declared.entry.Entry.{Entry}
 use Rattle.model.specs.Entries.{InOrder, entry_at}
 use Rattle.store.specs.declared.lists.FiberEnd.{FiberEnd}
-use Rattle.store.specs.Fibers.{AreApart, Rises, entries_along, entries_from, last_end}
+use Rattle.store.specs.Fibers.{AreApart, AreFrom, Rises, entries_along, entries_from, last_end}
 use Rattle.store.specs.Stored.{entries_in_rows}
 
 -- the entries that are left, as they lie
@@ -43,14 +43,6 @@ pub record IsPartOfColumn (first past : ℕ) (all all_words rows words : List �
   pub lengths : length words ≡ length rows
   pub rising : AllPairs (λ a b. a < b) rows
   pub whole : entries_down rows words ≡ entries_in_rows first past (entries_down all all_words)
-
--- the lists are fibers, of which the first begins at from
-pub record AreFrom (from : ℕ) (ends : List FiberEnd) (inner words : List ℕ) : Type 0 where
-  pub same_length : length words ≡ length inner
-  pub rises : Rises from ends
-  pub whole : last_end from ends ≡ from + length inner
-  pub apart : AreApart ends
-  pub order : InOrder (entries_from from ends inner words)
 
 -- the places of the fibers from low up to before high, which have the rows from first up to before past
 pub record AreBetweenEnds (first past : ℕ) (ends : List FiberEnd) (inner words : List ℕ) (low high start end : ℕ)
