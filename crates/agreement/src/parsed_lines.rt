@@ -41,7 +41,7 @@ fn parts_silence_from_syntax(rt: HostRuntime) {
         b"get A 000000000000000000001",
         b"get A 18446744073709551616",
         b"set A 0 0 -9223372036854775809",
-        b"matrix A BOOL 1 1",
+        b"matrix A USER:1 1 1",
         b"mxm C M - PLUS.TIMES.INT64 A B -",
         b"mxm C - - MINUS.TIMES.INT64 A B -",
         b"mxm C - - PLUS.TIMES.INT64.INT64 A B -",

@@ -25,8 +25,8 @@ fn appends_one_answer_a_call(rt: HostRuntime) -> Result<(), Fail> {
 #[test]
 fn tests_in_order(rt: HostRuntime) -> Result<(), Fail> {
     for (call, status) in [
-        ("mxm C - - MAX.PLUS.INT64 Z A -", "UNINITIALIZED_OBJECT"),
-        ("mxm C - - MAX.PLUS.INT64 A A -", "NOT_IMPLEMENTED"),
+        ("mxm C - - MAX.LAND.INT64 Z A -", "UNINITIALIZED_OBJECT"),
+        ("mxm C - - MAX.LAND.INT64 A A -", "NOT_IMPLEMENTED"),
         ("mxm C - - MIN.PLUS.INT64 A A -", "DIMENSION_MISMATCH"),
         ("set Z 9 9 9223372036854775808", "UNINITIALIZED_OBJECT"),
         ("set A 9 9223372036854775808", "WRONG_KIND"),

@@ -9,9 +9,10 @@ pub(crate) const PLUS_TIMES: RingName = RingName {
     domain: Domain::Int64,
 };
 
-const MAX_PLUS: RingName = RingName {
+// LAND is on BOOL alone.
+const MAX_LAND: RingName = RingName {
     add: MonoidKind::Max,
-    multiply: BinaryKind::Plus,
+    multiply: BinaryKind::Land,
     domain: Domain::Int64,
 };
 
@@ -142,9 +143,9 @@ fn tells_the_first_fault_of_a_product(rt: HostRuntime) -> Result<(), Status> {
     for (c, ring, a, b, want) in [
         (NONE, PLUS_TIMES, v, b, Status::UninitializedObject),
         (c, PLUS_TIMES, v, NONE, Status::UninitializedObject),
-        (c, MAX_PLUS, a, v, Status::WrongKind),
-        (v, MAX_PLUS, a, b, Status::WrongKind),
-        (c, MAX_PLUS, user, a, Status::NotImplemented),
+        (c, MAX_LAND, a, v, Status::WrongKind),
+        (v, MAX_LAND, a, b, Status::WrongKind),
+        (c, MAX_LAND, user, a, Status::NotImplemented),
         (c, PLUS_TIMES, user, b, Status::DomainMismatch),
         (user, PLUS_TIMES, a, a, Status::DomainMismatch),
         (c, PLUS_TIMES, a, a, Status::DimensionMismatch),

@@ -9,27 +9,33 @@
 #[macro_export]
 macro_rules! with_semiring {
     ($semiring:expr, |$own:ident| $call:expr) => {
+        $crate::with_semirings!(
+            $semiring, $own, $call,
+            Plus Times Int64, Min Plus Int64, Max Plus Int64,
+            Plus First Int64, Plus Second Int64, Plus Oneb Int64, Min First Int64, Min Second Int64,
+            Plus Times Uint64, Min Plus Uint64, Bor Band Uint64,
+            Lor Land Bool,
+        )
+    };
+}
+
+/// An arm for each semiring of a list, by its monoid, its operator and its domain, and one for any other.
+#[macro_export]
+macro_rules! with_semirings {
+    ($semiring:expr, $own:ident, $call:expr, $($add:ident $multiply:ident $domain:ident,)*) => {
         match (
             $semiring.add.kind,
             $semiring.multiply.kind,
             $semiring.multiply.domain,
         ) {
-            ($crate::MonoidKind::Plus, $crate::BinaryKind::Times, $crate::Domain::Int64) => {
+            $(($crate::MonoidKind::$add, $crate::BinaryKind::$multiply, $crate::Domain::$domain) => {
                 let $own = $crate::Semiring::of(
-                    $crate::MonoidKind::Plus,
-                    $crate::BinaryKind::Times,
-                    $crate::Domain::Int64,
+                    $crate::MonoidKind::$add,
+                    $crate::BinaryKind::$multiply,
+                    $crate::Domain::$domain,
                 );
                 $call
-            }
-            ($crate::MonoidKind::Min, $crate::BinaryKind::Plus, $crate::Domain::Int64) => {
-                let $own = $crate::Semiring::of(
-                    $crate::MonoidKind::Min,
-                    $crate::BinaryKind::Plus,
-                    $crate::Domain::Int64,
-                );
-                $call
-            }
+            })*
             _ => {
                 let $own = $semiring;
                 $call

@@ -16,7 +16,7 @@ use Rattle.model.specs.declared.call.Operation.TheVariants.{Multiply}
 use Rattle.model.specs.declared.call.Out.{Out}
 use Rattle.model.specs.declared.shape.Shape.{Shape}
 use Rattle.model.specs.declared.shape.Shape.TheVariants.{One, Two}
-use Rattle.model.specs.Come.{operation_has_come, out_has_come}
+use Rattle.model.specs.Come.{out_has_come}
 use Rattle.model.specs.Fault.{accumulates, operation_fault, plan_in}
 use Rattle.model.specs.Object.{AreWordsOf, Content, IsObject, IsWithin, Object, cast_content, cols_of, in_domain, rows_of, signature_of, turned_object, turned_signature}
 use Rattle.model.specs.Operations.{operation}
@@ -167,7 +167,7 @@ result-words out op accepted old =
     let moved = turned turned_object out.desc op in
     let implemented = accepted-implemented sig_out sig accepted in
     let accumulates_in = accumulator_gives out.c.domain out.accum
-    (and_parts (is_offered sig && operation_has_come sig && out_has_come sig_out) (option_map_or (accumulates out.c.domain) out.accum true) implemented).1 in
+    (and_parts (is_offered sig && out_has_come sig_out) (option_map_or (accumulates out.c.domain) out.accum true) implemented).1 in
     written-words out (cast_content plan.domain out.c.domain (operation moved)) out.c.domain accumulates_in old
     (cast_content-words plan.domain out.c.domain (operation moved))
 

@@ -10,7 +10,7 @@ use Rattle.model.specs.declared.call.Out.{Out}
 use Rattle.model.specs.declared.shape.Signature.{Signature}
 use Rattle.model.specs.declared.status.Status.{Status}
 use Rattle.model.specs.declared.status.Status.TheVariants as status
-use Rattle.model.specs.Come.{has_no_flags, operation_has_come, out_has_come}
+use Rattle.model.specs.Come.{has_no_flags, out_has_come}
 use Rattle.model.specs.Fault.{accumulates, is_implemented, mask_passes, operation_fails, operation_fault, plan_in}
 use Rattle.model.specs.Object.{Content, Object, cast_content, same_kind, same_shape, signature_of, turned_object, turned_signature}
 use Rattle.model.specs.Operations.{operation}
@@ -114,9 +114,8 @@ come-renamed f out = rw (none_renamed f out.mask) refl
 
 pub accepted-come : (out : Out Signature) (op : Operation Signature) → operation_fault out op ≡ None → out_has_come out ≡ true
 accepted-come out op accepted =
-    let come = is_offered op && operation_has_come op in
-    let all = and_parts (come && out_has_come out) (option_map_or (accumulates out.c.domain) out.accum true) (accepted-implemented out op accepted) in
-    (and_parts come (out_has_come out) all.0).1
+    let all = and_parts (is_offered op && out_has_come out) (option_map_or (accumulates out.c.domain) out.accum true) (accepted-implemented out op accepted) in
+    (and_parts (is_offered op) (out_has_come out) all.0).1
 
 -- what has come so far leaves what it computes, in the output's domain
 pub result-plain : (out : Out Object) (op : Operation Object) → out_has_come out ≡ true → (i j : ℕ)

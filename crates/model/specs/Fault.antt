@@ -21,7 +21,7 @@ use Rattle.model.specs.declared.shape.Shape.TheVariants.{One}
 use Rattle.model.specs.declared.shape.Signature.{Signature}
 use Rattle.model.specs.declared.status.Status.{Status}
 use Rattle.model.specs.declared.status.Status.TheVariants as status
-use Rattle.model.specs.Come.{operation_has_come, out_has_come}
+use Rattle.model.specs.Come.{out_has_come}
 use Rattle.model.specs.Object.{Object, col_of, cols_of, empty_object, is_inside, is_of_kind, row_of, rows_of, same_kind}
 use Rattle.model.specs.Object.{same_shape, signature_of, turned_signature}
 use Rattle.model.specs.Renamed.{objects_of, renamed}
@@ -71,10 +71,10 @@ plan_fails out plan status.DimensionMismatch =
 plan_fails out plan status.InvalidValue = not plan.values
 plan_fails out plan _ = false
 
--- whether all operators are there, and have come
+-- whether all operators are there, and the output has come
 abbrev pub is_implemented : Out Signature → Operation Signature → Bool
 is_implemented out operation =
-    is_offered operation && operation_has_come operation && out_has_come out
+    is_offered operation && out_has_come out
     && option_map_or (accumulates out.c.domain) out.accum true
 
 -- what an operation says of its inputs, which are turned first

@@ -15,7 +15,7 @@ use Rattle.model.specs.declared.shape.Place.{Place}
 use Rattle.model.specs.declared.shape.Signature.{Signature}
 use Rattle.model.specs.declared.status.Status.{Status}
 use Rattle.model.specs.declared.status.Status.TheVariants as status
-use Rattle.model.specs.Come.{operation_has_come, out_has_come}
+use Rattle.model.specs.Come.{out_has_come}
 use Rattle.model.specs.Fault.{accumulates, early_fault, fault_of, found_object, found_signature, operation_fault}
 use Rattle.model.specs.Object.{Object, is_inside, is_of_kind, signature_of}
 use Rattle.model.specs.Renamed.{inputs_of, outputs_of, renamed_operation, renamed_out}
@@ -187,8 +187,8 @@ pub accepted-operators : {K : Type 0} (f : K → Object) (out : Out K) (operatio
 accepted-operators f out operation accepted =
     let known_out = renamed_out signature_of (renamed_out f out) in
     let known = renamed_operation signature_of (renamed_operation f operation) in
-    let all = and_parts (is_offered known && operation_has_come known && out_has_come known_out) (option_map_or (accumulates known_out.c.domain) known_out.accum true) (accepted-implemented known_out known accepted) in
-    let offered = (and_parts (is_offered known) (operation_has_come known) (and_parts (is_offered known && operation_has_come known) (out_has_come known_out) all.0).0).0 in
+    let all = and_parts (is_offered known && out_has_come known_out) (option_map_or (accumulates known_out.c.domain) known_out.accum true) (accepted-implemented known_out known accepted) in
+    let offered = (and_parts (is_offered known) (out_has_come known_out) all.0).0 in
     rw (sym (offered_as f operation) ∙ sym (offered_as signature_of (renamed_operation f operation)) ∙ offered, accumulator-offered known_out.c.domain out.accum all.1) refl
 
 -- ---- other accepted calls

@@ -135,14 +135,11 @@ pub fn operation_fault(
     }
 }
 
-/// Whether all operators are there, and have come.
+/// Whether all operators are there, and the output has come.
 fn is_implemented(out: &Out<&PlainObject>, operation: &Operation<&PlainObject>) -> bool
     ensures { result ≡ is_implemented (known_out out.now) (known_operation operation.now) }
 {
-    is_offered(operation)
-        && operation.has_come()
-        && out.has_come()
-        && accumulator_serves(out.c.domain, out.accum)
+    is_offered(operation) && out.has_come() && accumulator_serves(out.c.domain, out.accum)
 }
 
 /// Whether values of a domain can be accumulated by an operator, or there is none.
