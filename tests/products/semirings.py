@@ -15,6 +15,7 @@ EVERYWHERE = ["FIRST", "SECOND", "ONEB", "EQ", "NE"]
 ON_INTEGERS = ["MIN", "MAX", "PLUS", "MINUS", "TIMES", "GT", "LT", "GE", "LE", "BOR", "BAND", "BXOR", "BXNOR"]
 ON_BOOL = ["LOR", "LAND", "LXOR", "LXNOR"]
 COMPARISONS = ["EQ", "NE", "GT", "LT", "GE", "LE"]
+OPERATORS = EVERYWHERE + ON_INTEGERS + ON_BOOL
 MONOIDS = ["PLUS", "TIMES", "MIN", "MAX", "BOR", "BAND", "BXOR"] + ON_BOOL
 VALUES = [0, 1, 2, -1, 2**63 - 1, -(2**63), 2**63, 2**64 - 1, 7, -3]
 
@@ -107,7 +108,7 @@ def each_semiring(domain):
         for i, j in places:
             place = f"{i} {j}" if name in "ABC" else f"{j} {i}"
             lines.append(f"set {name} {place} {random.choice(values)}")
-    for number, (add, multiply) in enumerate((a, m) for a in MONOIDS for m in EVERYWHERE + ON_INTEGERS + ON_BOOL):
+    for number, (add, multiply) in enumerate((a, m) for a in MONOIDS for m in OPERATORS):
         c, a, b = "XYZ"[number % 3], "ABC"[number // 3 % 3], "DEF"[number // 9 % 3]
         lines += [f"mxm {c} - - {add}.{multiply}.{domain} {a} {b} -", f"print {c}"]
     return lines
@@ -127,7 +128,7 @@ def some_products(seed):
         elif kind < 0.6:
             lines.append(f"get {name} {place}")
         else:
-            ring = f"{random.choice(MONOIDS)}.{random.choice(EVERYWHERE + ON_INTEGERS + ON_BOOL)}.{random.choice(DOMAINS)}"
+            ring = f"{random.choice(MONOIDS)}.{random.choice(OPERATORS)}.{random.choice(DOMAINS)}"
             lines += [f"mxm {name} - - {ring} {random.choice('ABCDEF')} {random.choice('ABCDEF')} -", f"print {name}"]
     return lines
 

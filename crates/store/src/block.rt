@@ -67,12 +67,7 @@ impl RowBlock {
         ensures entries { result.entries ≡ entries_in lists }
     {
         let lists = if cols == 1 { as_column(lists) } else { lists };
-        RowBlock {
-            first,
-            past,
-            cols,
-            lists,
-        }
+        RowBlock::of_fibers(first, past, cols, lists)
     }
 
     /// The first row.

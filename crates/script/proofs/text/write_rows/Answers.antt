@@ -1,35 +1,28 @@
-use Rattle.std.proofs.Common.{◌∙◌, ◌++◌, ◌-◌, ◌<◌, ◌^◌, append_assoc, ap, arith, length, length-append, map, subst, sym}
+use Rattle.std.proofs.Common.{◌∙◌, ◌++◌, ◌-◌, ◌<◌, ◌^◌, append_assoc, map, subst, sym}
 use Rattle.std.specs.List.{All}
 use Rattle.std.proofs.lemmas.List.{map-append}
 use Rattle.std.proofs.lemmas.List.Concat.{flat_map-append}
 use Rattle.model.specs.Text.{ended, entry_line}
 use Rattle.store.specs.Fibers.{entries_along}
-use Rattle.store.proofs.Order.{all_append_left, all_append_right}
-use Rattle.store.proofs.Places.{length_row}
+use Rattle.store.proofs.Order.{all_append_right}
+use Rattle.store.proofs.Walks.{rest_shorter}
 use Rattle.script.proofs.TextLaws.{cols_below, index_below}
 use Rattle.script.proofs.text.write_rows.Goals as goal
 
 pub write_row-requires-clause-index : goal.write_row-requires-clause-index
 write_row-requires-clause-index c =
     let row = c.in-Some.row in
-    let starts = c.in-Some.ensures in
-    let left = all_append_left (λ e. (e.row < 2 ^ 64 - 1) × (e.col < 2 ^ 64 - 1)) (entries_along row.index row.cols.now row.words.now) c.in-Some.others.entries (subst (All (λ e. (e.row < 2 ^ 64 - 1) × (e.col < 2 ^ 64 - 1))) starts.whole c.loop-row.invariant.left) in
-    index_below (2 ^ 64 - 1) row.index row.cols.now row.words.now starts.lengths starts.some left
+    index_below (2 ^ 64 - 1) row.index row.cols.now row.words.now c.loop-row.rest.entries c.in-Some.others.entries c.in-Some.ensures c.loop-row.invariant.left
 
 pub write_row-requires-clause-cols : goal.write_row-requires-clause-cols
 write_row-requires-clause-cols c =
     let row = c.in-Some.row in
-    let starts = c.in-Some.ensures in
-    let left = all_append_left (λ e. (e.row < 2 ^ 64 - 1) × (e.col < 2 ^ 64 - 1)) (entries_along row.index row.cols.now row.words.now) c.in-Some.others.entries (subst (All (λ e. (e.row < 2 ^ 64 - 1) × (e.col < 2 ^ 64 - 1))) starts.whole c.loop-row.invariant.left) in
-    cols_below (2 ^ 64 - 1) row.index row.cols.now row.words.now starts.lengths left
+    cols_below (2 ^ 64 - 1) row.index row.cols.now row.words.now c.loop-row.rest.entries c.in-Some.others.entries c.in-Some.ensures c.loop-row.invariant.left
 
 pub loop-row-smaller : goal.loop-row-smaller
 loop-row-smaller c =
     let row = c.in-Some.row in
-    let starts = c.in-Some.ensures in
-    let whole = ap length starts.whole in
-    let some = starts.some in
-    omega (arith, length-append (entries_along row.index row.cols.now row.words.now) c.in-Some.others.entries, length_row row.index row.cols.now row.words.now starts.lengths)
+    rest_shorter row.index row.cols.now row.words.now c.loop-row.rest.entries c.in-Some.others.entries c.in-Some.ensures
 
 pub loop-row-preserved : goal.loop-row-preserved
 loop-row-preserved c =

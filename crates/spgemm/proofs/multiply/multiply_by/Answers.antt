@@ -1,7 +1,6 @@
-use Rattle.std.proofs.Common.{◌∙◌, ap, arith, length, length-append}
+use Rattle.std.proofs.Common.{◌∙◌, ap}
 use Rattle.model.specs.Entries.{word_at}
-use Rattle.store.specs.Fibers.{entries_along}
-use Rattle.store.proofs.Places.{length_row}
+use Rattle.store.proofs.Walks.{rest_shorter}
 use Rattle.spgemm.proofs.Blocks.{done_none, done_more, done_all}
 use Rattle.spgemm.proofs.Product.{rows_product_is}
 use Rattle.spgemm.proofs.multiply.multiply_by.Goals as goal
@@ -13,10 +12,7 @@ loop-row-init c =
 pub loop-row-smaller : goal.loop-row-smaller
 loop-row-smaller c =
     let row = c.in-Some.row in
-    let starts = c.in-Some.ensures in
-    let whole = ap length starts.whole in
-    let some = starts.some in
-    omega (arith, length-append (entries_along row.index row.cols.now row.words.now) c.in-Some.others.entries, length_row row.index row.cols.now row.words.now starts.lengths)
+    rest_shorter row.index row.cols.now row.words.now c.loop-row.rest.entries c.in-Some.others.entries c.in-Some.ensures
 
 pub loop-row-preserved : goal.loop-row-preserved
 loop-row-preserved c =
