@@ -1,0 +1,7 @@
+//! Masks: which positions a call writes (the mask of a GraphBLAS call, with `GrB_STRUCTURE` and
+//! `GrB_COMP`), and what it leaves there (`GrB_REPLACE`).
+#![tactic(auto)]
+
+mod view;
+
+pub use view::MaskView;
