@@ -1,5 +1,5 @@
 -- The rows of a product, one after another.
-use Rattle.std.proofs.Common.{◌≡◌, ◌≢◌, ℕ, ◌<◌, ◌≤◌, false, cond, ◌&&◌, eqb, List, [], ◌∷◌, ◌++◌, length, get_or, Some, None, refl, sym, ◌∙◌, ap, subst, inl, inr, arith, append_assoc}
+use Rattle.std.proofs.Common.{◌≡◌, ◌≢◌, ℕ, ◌<◌, ◌≤◌, false, cond, ◌&&◌, eqb, Bool, List, [], ◌∷◌, ◌++◌, length, get_or, Some, None, refl, sym, ◌∙◌, ap, subst, inl, inr, arith, append_assoc}
 use Rattle.std.specs.List.{All}
 use Rattle.std.proofs.lemmas.Bool.{cases_Bool, cases_eq, eq-eqb, ne_eqb}
 use Rattle.std.proofs.lemmas.List.{append-nil}
@@ -17,21 +17,28 @@ use Rattle.store.proofs.Order.{all_append_left, all_append_right}
 use Rattle.store.proofs.Places.{length_row}
 use Rattle.store.proofs.Positions.{word_at-none}
 use Rattle.store.proofs.RowEntries.{entries_between-inside}
-use Rattle.spgemm.specs.Products.{IsProductRow, product_at, rows_product}
+use Rattle.spgemm.specs.declared.term.Term.{Term}
+use Rattle.spgemm.specs.Products.{IsSumRow, product_at, rows_product}
+use Rattle.spgemm.specs.Terms.{kept_terms, terms_of_row}
+use Rattle.spgemm.proofs.Kept.{sums_inside}
+
+-- the terms of a row of A, at the positions that are kept
+abbrev row_terms : Semiring → (ℕ → ℕ → Bool) → ℕ → List Entry → Stored → List Term
+row_terms semiring keeps index row b = kept_terms (keeps index) (terms_of_row semiring.multiply row b)
 
 -- the rows of a product so far: the entries `done` of A's rows are multiplied, and the rest are not
-pub record IsDone (semiring : Semiring) (first past : ℕ) (a b : Stored) (ends : List FiberEnd) (inner words : List ℕ) (rest : List Entry) : Type 0 where
+pub record IsDone (semiring : Semiring) (keeps : ℕ → ℕ → Bool) (first past : ℕ) (a b : Stored) (ends : List FiberEnd) (inner words : List ℕ) (rest : List Entry) : Type 0 where
   pub done : List Entry
   pub split : entries_between first past a.cols (content_of a) ≡ done ++ rest
   pub apart : All (λ e. All (λ f. e.row < f.row) rest) done
   pub flat : AreFlat ends inner words
   pub inside : AreIn first past b.cols (entries_from 0 ends inner words)
   pub behind : All (λ r. All (λ e. r.outer < e.row) rest) ends
-  pub words_are : (i j : ℕ) → word_at (entries_from 0 ends inner words) i j ≡ rows_product semiring done b i j
+  pub words_are : (i j : ℕ) → word_at (entries_from 0 ends inner words) i j ≡ rows_product semiring keeps done b i j
 
-pub done_none : (semiring : Semiring) (first past : ℕ) (a b : Stored) → IsDone semiring first past a b [] [] [] (entries_between first past a.cols (content_of a))
+pub done_none : (semiring : Semiring) (keeps : ℕ → ℕ → Bool) (first past : ℕ) (a b : Stored) → IsDone semiring keeps first past a b [] [] [] (entries_between first past a.cols (content_of a))
 unfolding word_at outers
-done_none semiring first past a b = record {
+done_none semiring keeps first past a b = record {
   done = [];
   split = refl;
   apart = λ k d within. absurd (omega arith);
@@ -71,14 +78,14 @@ away_test : (i j row : ℕ) (e : Entry) → e.row ≡ row → i ≢ row → (eqb
 away_test i j row e at away = rw (at, ne_eqb i row away) refl
 
 -- a row has no word in other rows
-elsewhere : (index : ℕ) (cols words : List ℕ) (i j : ℕ) → i ≢ index → word_at (entries_along index cols words) i j ≡ None
+pub elsewhere : (index : ℕ) (cols words : List ℕ) (i j : ℕ) → i ≢ index → word_at (entries_along index cols words) i j ≡ None
 elsewhere index cols words i j away =
     word_at-none i j (entries_along index cols words)
     (All-weaker (λ e. e.row ≡ index) (λ e. (eqb i e.row && eqb j e.col) ≡ false) (λ e p. away_test i j index e p away) (entries_along index cols words) (all_rows index cols words))
 
-words_more : (semiring : Semiring) (index : ℕ) (b : Stored) (xs done row : List Entry) (cols words : List ℕ) → IsProductRow semiring index row b cols words → All (λ e. e.row < index) done → All (λ e. e.row ≡ index) row
-    → ((i j : ℕ) → word_at xs i j ≡ rows_product semiring done b i j) → (i j : ℕ) → word_at (xs ++ entries_along index cols words) i j ≡ rows_product semiring (done ++ row) b i j
-words_more semiring index b xs done row cols words here before at old i j =
+words_more : (semiring : Semiring) (keeps : ℕ → ℕ → Bool) (index : ℕ) (b : Stored) (xs done row : List Entry) (cols words : List ℕ) → IsSumRow semiring.add.op index (row_terms semiring keeps index row b) cols words → All (λ e. e.row < index) done → All (λ e. e.row ≡ index) row
+    → ((i j : ℕ) → word_at xs i j ≡ rows_product semiring keeps done b i j) → (i j : ℕ) → word_at (xs ++ entries_along index cols words) i j ≡ rows_product semiring keeps (done ++ row) b i j
+words_more semiring keeps index b xs done row cols words here before at old i j =
     let joined = filter-append (λ (e : Entry). eqb e.row i) done row in
     let new = entries_along index cols words in
     elim (cases_eq i index) [
@@ -86,17 +93,17 @@ words_more semiring index b xs done row cols words here before at old i j =
           let none = in_row_none i done (All-weaker (λ e. e.row < index) (λ e. e.row ≢ i) (λ e p q. omega arith) done before) in
           let all = in_row_all i row (All-weaker (λ e. e.row ≡ index) (λ e. e.row ≡ i) (λ e p. p ∙ sym same) row at) in
           let empty : word_at xs i j ≡ None = rw none at (old i j) in
-          let made : word_at new i j ≡ product_at semiring row b j = ap (λ i. word_at new i j) same ∙ here.words_are j in
+          let made : word_at new i j ≡ product_at semiring (keeps i) row b j = ap (λ i. word_at new i j) same ∙ here.words_are j ∙ ap (λ i. product_at semiring (keeps i) row b j) (sym same) in
           word_at-right i j xs new empty ∙ rw (joined, none, all) made
       | inr away ↦
           let none = in_row_none i row (All-weaker (λ e. e.row ≡ index) (λ e. e.row ≢ i) (λ e p q. away (sym q ∙ p)) row at) in
           word_at-left i j xs new (elsewhere index cols words i j away) ∙ rw (joined, none, append-nil) (old i j)
     ]
 
-pub done_more : (semiring : Semiring) (first past : ℕ) (a b : Stored) (ends : List FiberEnd) (inner words : List ℕ) (rest : List Entry) (index : ℕ) (row_cols row_words : List ℕ) (others : List Entry) (cols added : List ℕ)
-    → IsDone semiring first past a b ends inner words rest → IsFirstRow index row_cols row_words rest others → IsProductRow semiring index (entries_along index row_cols row_words) b cols added
-    → IsDone semiring first past a b (closed ends index (length (inner ++ cols))) (inner ++ cols) (words ++ added) others
-done_more semiring first past a b ends inner words rest index row_cols row_words others cols added here starts made =
+pub done_more : (semiring : Semiring) (keeps : ℕ → ℕ → Bool) (first past : ℕ) (a b : Stored) (ends : List FiberEnd) (inner words : List ℕ) (rest : List Entry) (index : ℕ) (row_cols row_words : List ℕ) (others : List Entry) (cols added : List ℕ)
+    → IsDone semiring keeps first past a b ends inner words rest → IsFirstRow index row_cols row_words rest others → IsSumRow semiring.add.op index (row_terms semiring keeps index (entries_along index row_cols row_words) b) cols added
+    → IsDone semiring keeps first past a b (closed ends index (length (inner ++ cols))) (inner ++ cols) (words ++ added) others
+done_more semiring keeps first past a b ends inner words rest index row_cols row_words others cols added here starts made =
     let row = entries_along index row_cols row_words in
     let d : Entry = record { row = 0; col = 0; word = 0 } in
     let row_is = all_rows index row_cols row_words in
@@ -123,19 +130,19 @@ done_more semiring first past a b ends inner words rest index row_cols row_words
       inside =
           subst (AreIn first past b.cols) (sym fiber.entries)
           (All-append (λ e. ((first ≤ e.row) × (e.row < past)) × (e.col < b.cols)) (entries_from 0 ends inner words) (entries_along index cols added) here.inside
-          (All-weaker (λ e. (e.row ≡ index) × (e.col < b.cols)) (λ e. ((first ≤ e.row) × (e.row < past)) × (e.col < b.cols)) (λ e p. ((omega (arith, p.0, range.0), omega (arith, p.0, range.1)), p.1)) (entries_along index cols added) (all_cols (λ col. col < b.cols) index cols added made.columns)));
+          (All-weaker (λ e. (e.row ≡ index) × (e.col < b.cols)) (λ e. ((first ≤ e.row) × (e.row < past)) × (e.col < b.cols)) (λ e p. ((omega (arith, p.0, range.0), omega (arith, p.0, range.1)), p.1)) (entries_along index cols added) (all_cols (λ col. col < b.cols) index cols added (sums_inside semiring (keeps index) row b cols made.columns))));
       behind =
           fiber.outers_are (λ o. All (λ e. o < e.row) others)
           (All-weaker (λ (r : FiberEnd). All (λ e. r.outer < e.row) rest) (λ (r : FiberEnd). All (λ e. r.outer < e.row) others) (λ r h. at_others (λ row. r.outer < row) h) ends here.behind)
           starts.behind;
       words_are = λ i j.
           ap (λ (es : List Entry). word_at es i j) fiber.entries
-          ∙ words_more semiring index b (entries_from 0 ends inner words) here.done row cols added made before row_is here.words_are i j;
+          ∙ words_more semiring keeps index b (entries_from 0 ends inner words) here.done row cols added made before row_is here.words_are i j;
     }
 
 -- where nothing is left, the words are those of all the entries
-pub done_all : (semiring : Semiring) (first past : ℕ) (a b : Stored) (ends : List FiberEnd) (inner words : List ℕ) (rest : List Entry) → IsDone semiring first past a b ends inner words rest → rest ≡ []
-    → (i j : ℕ) → word_at (entries_from 0 ends inner words) i j ≡ rows_product semiring (entries_between first past a.cols (content_of a)) b i j
-done_all semiring first past a b ends inner words rest here none i j =
+pub done_all : (semiring : Semiring) (keeps : ℕ → ℕ → Bool) (first past : ℕ) (a b : Stored) (ends : List FiberEnd) (inner words : List ℕ) (rest : List Entry) → IsDone semiring keeps first past a b ends inner words rest → rest ≡ []
+    → (i j : ℕ) → word_at (entries_from 0 ends inner words) i j ≡ rows_product semiring keeps (entries_between first past a.cols (content_of a)) b i j
+done_all semiring keeps first past a b ends inner words rest here none i j =
     let whole : entries_between first past a.cols (content_of a) ≡ here.done = here.split ∙ rw none (append-nil here.done) in
-    here.words_are i j ∙ ap (λ es. rows_product semiring es b i j) (sym whole)
+    here.words_are i j ∙ ap (λ es. rows_product semiring keeps es b i j) (sym whole)

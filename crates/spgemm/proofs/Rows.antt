@@ -1,26 +1,26 @@
 -- The rows of a product against the sums of their terms.
 use Rattle.std.proofs.Common.{Err, Ok, OnOk, Result, Vec, length, ◌≡◌, ℕ, ◌<◌, Bool, ◌&&◌, not, eqb, List, [], ◌∷◌, map, Option, Some, None, refl, sym, ◌∙◌, ap, inl, inr, arith}
 use Rattle.std.specs.Option.{option_to_list}
-use Rattle.std.specs.List.Sorted.{IsStableByKey}
+use Rattle.std.specs.List.Sorted.{IsPermutation, IsStableByKey}
+use Rattle.std.proofs.lemmas.List.Sorted.{All-permutation}
+use Rattle.algebra.specs.declared.binary.BinaryOp.{BinaryOp}
 use Rattle.std.specs.Ordering.{is_lt, nat_cmp}
 use Rattle.std.proofs.lemmas.Bool.Decides.{nat_tests}
 use Rattle.std.specs.List.{All, Contains, filter}
 use Rattle.std.proofs.lemmas.Bool.{cases_eq, eq-eqb, ne_eqb}
 use Rattle.std.proofs.lemmas.List.{length-map}
-use Rattle.std.proofs.lemmas.List.Elements.{All-weaker, All-map, All-contains, filter_agree}
-use Rattle.algebra.specs.declared.semiring.Semiring.{Semiring}
+use Rattle.std.proofs.lemmas.List.Elements.{All-weaker, All-map, All-contains, All-contains_itself, filter_agree}
 use Rattle.model.specs.declared.entry.Entry.{Entry}
 use Rattle.model.specs.Entries.{word_at}
 use Rattle.store.specs.Fibers.{entries_along}
-use Rattle.store.specs.Stored.{Stored}
 use Rattle.store.specs.declared.lists.FiberEnd.{FiberEnd}
 use Rattle.store.specs.declared.lists.FiberLists.{FiberLists}
 use Rattle.store.proofs.CloseLaws.{closed}
-use Rattle.store.proofs.Order.{all_pairs_map}
+use Rattle.store.proofs.Order.{all_from_map, all_pairs_map}
 use Rattle.model.specs.declared.memory.NoMemory.{NoMemory}
 use Rattle.spgemm.specs.declared.term.Term.{Term}
-use Rattle.spgemm.specs.Terms.{term_at, words_at, sum_at, terms_of_row, AreSums}
-use Rattle.spgemm.specs.Products.{HasRow, HasSums, IsProductRow, product_at}
+use Rattle.spgemm.specs.Terms.{term_at, words_at, sum_at, AreSums}
+use Rattle.spgemm.specs.Products.{HasRow, HasSums, IsSumRow}
 
 cons_from_list : (o : Option ℕ) (a : ℕ) (as' : List ℕ) → a ∷ as' ≡ option_to_list o → o ≡ Some a
 cons_from_list None a as' h = cc
@@ -48,18 +48,23 @@ side_by_side_words index col (s ∷ rest) o h =
           rw (eq-eqb index index refl, ne_eqb col s.col (λ e. away (sym e))) (side_by_side_words index col rest o words)
     ]
 
--- what sort and sum make of the terms of a row
-pub product_row : (semiring : Semiring) (index : ℕ) (row : List Entry) (b : Stored) (terms sorted sums : List Term) → terms ≡ terms_of_row semiring.multiply row b → All (λ t. t.col < b.cols) sorted
-    → ((col : ℕ) → words_at col sorted ≡ words_at col terms) → AreSums semiring.add.op sorted sums → IsProductRow semiring index row b (map (λ s. s.col) sums) (map (λ s. s.word) sums)
-product_row semiring index row b terms sorted sums made below same here = record {
+-- a list in another order has no other columns
+columns_moved : (terms sorted : List Term) (col : ℕ) → IsPermutation terms sorted → Contains (map (λ (t : Term). t.col) sorted) col → Contains (map (λ (t : Term). t.col) terms) col
+columns_moved terms sorted col moved p =
+    let at : Term → ℕ = λ t. t.col in
+    let P : ℕ → Type 0 = λ col. Contains (map at terms) col in
+    All-contains P (map at sorted) col (All-map P at sorted (All-permutation (λ t. P (at t)) terms sorted moved (all_from_map P at terms (All-contains_itself (map at terms))))) p
+
+-- what sort and sum make of terms
+pub sum_row : (op : BinaryOp) (index : ℕ) (terms sorted sums : List Term) → IsPermutation terms sorted → ((col : ℕ) → words_at col sorted ≡ words_at col terms) → AreSums op sorted sums
+    → IsSumRow op index terms (map (λ s. s.col) sums) (map (λ s. s.word) sums)
+sum_row op index terms sorted sums moved same here = record {
   lengths = length-map sums (λ (s : Term). s.word) ∙ sym (length-map sums (λ (s : Term). s.col));
   rising = all_pairs_map (λ p q. p < q) (λ (s : Term). s.col) sums here.rising;
   columns =
-      All-map (λ col. col < b.cols) (λ (s : Term). s.col) sums
-      (All-weaker (λ s. Contains (map (λ t. t.col) sorted) s.col) (λ s. s.col < b.cols) (λ s p. All-contains (λ col. col < b.cols) (map (λ t. t.col) sorted) s.col (All-map (λ col. col < b.cols) (λ (t : Term). t.col) sorted below) p) sums here.columns);
-  words_are = λ col.
-      let kept : sum_at semiring.add.op col sorted ≡ product_at semiring row b col = rw (same col, made) refl in
-      side_by_side_words index col sums (product_at semiring row b col) (rw kept at (here.words col));
+      All-map (λ col. Contains (map (λ t. t.col) terms) col) (λ (s : Term). s.col) sums
+      (All-weaker (λ s. Contains (map (λ t. t.col) sorted) s.col) (λ s. Contains (map (λ t. t.col) terms) s.col) (λ s p. columns_moved terms sorted s.col moved p) sums here.columns);
+  words_are = λ col. side_by_side_words index col sums (sum_at op col terms) (rw (same col) at (here.words col));
 }
 
 ties_is : (a b : ℕ) → (not (is_lt (nat_cmp a b)) && not (is_lt (nat_cmp b a))) ≡ eqb b a
@@ -76,16 +81,16 @@ words_at-sorted terms sorted stable col =
     ap (map (λ (t : Term). t.word)) (sym one ∙ kept ∙ two)
 
 -- the sums behind the rows, where the row was closed
-pub row_closed : (r : Result (Unit {0}) NoMemory) (semiring : Semiring) (index : ℕ) (row : List Entry) (b : Stored) (terms sorted : List Term) (old mid new : FiberLists)
-    → terms ≡ terms_of_row semiring.multiply row b → All (λ t. t.col < b.cols) sorted → ((col : ℕ) → words_at col sorted ≡ words_at col terms) → HasSums semiring.add.op sorted old mid
-    → OnOk r (new.ends.items ≡ closed mid.ends.items index (length mid.inner.items)) → new.inner.items ≡ mid.inner.items → new.words.items ≡ mid.words.items → OnOk r (HasRow semiring index row b old new)
-row_closed (Err e) semiring index row b terms sorted old mid new made below same summed ends inner words = tt
-row_closed (Ok u) semiring index row b terms sorted old mid new made below same summed ends inner words =
+pub row_closed : (r : Result (Unit {0}) NoMemory) (op : BinaryOp) (index : ℕ) (terms sorted : List Term) (old mid new : FiberLists)
+    → IsPermutation terms sorted → ((col : ℕ) → words_at col sorted ≡ words_at col terms) → HasSums op sorted old mid
+    → OnOk r (new.ends.items ≡ closed mid.ends.items index (length mid.inner.items)) → new.inner.items ≡ mid.inner.items → new.words.items ≡ mid.words.items → OnOk r (HasRow op index terms old new)
+row_closed (Err e) op index terms sorted old mid new moved same summed ends inner words = tt
+row_closed (Ok u) op index terms sorted old mid new moved same summed ends inner words =
     let sums = summed.sums in
     record {
       cols = map (λ s. s.col) sums;
       added = map (λ s. s.word) sums;
-      product = product_row semiring index row b terms sorted sums made below same summed.are_sums;
+      sums = sum_row op index terms sorted sums moved same summed.are_sums;
       inner = inner ∙ summed.inner;
       words = words ∙ summed.words;
       ends = ends ∙ ap (λ es. closed es index (length mid.inner.items)) (ap (λ (v : Vec FiberEnd _). v.items) summed.ends) ∙ ap (λ is. closed old.ends.items index (length is)) (sym inner);

@@ -3,7 +3,7 @@ ghost use Rattle.std.specs.Prelude.{◌≡◌, ℕ, ◌<◌, ◌≤◌, IfOk};
 ghost use Rattle.algebra.specs.OperatorNames.{ring_named};
 ghost use Rattle.model.specs.Product.{product};
 ghost use Rattle.store.specs.Stored.{block_content, content_of};
-ghost use Rattle.spgemm.specs.Products.{IsProductBlock};
+ghost use Rattle.spgemm.specs.Products.{IsProductBlock, everywhere};
 
 use crate::row::multiply_row;
 use algebra::{Semiring, with_semiring};
@@ -49,7 +49,7 @@ fn multiply_by(
     requires inner { a.now.cols ≡ b.now.rows }
     requires range { range.start ≤ range.end }
     requires rows { range.end ≤ a.now.rows }
-    ensures { IfOk result (IsProductBlock semiring range.start range.end a.now b.now) }
+    ensures { IfOk result (IsProductBlock semiring everywhere range.start range.end a.now b.now) }
 {
     prove_eq!(a.cols(), b.rows());
     let (first, past) = (range.start, range.end);

@@ -1,13 +1,17 @@
-use Rattle.std.proofs.Common.{◌∙◌, ap}
+use Rattle.std.proofs.Common.{◌∙◌, ap, subst, sym}
 use Rattle.model.specs.Entries.{word_at}
 use Rattle.store.proofs.Walks.{rest_shorter}
+use Rattle.store.specs.Fibers.{entries_along}
+use Rattle.spgemm.specs.Products.{IsSumRow, everywhere}
+use Rattle.spgemm.specs.Terms.{terms_of_row}
+use Rattle.spgemm.proofs.Kept.{kept_all}
 use Rattle.spgemm.proofs.Blocks.{done_none, done_more, done_all}
 use Rattle.spgemm.proofs.Product.{rows_product_is}
 use Rattle.spgemm.proofs.multiply.multiply_by.Goals as goal
 
 pub loop-row-init : goal.loop-row-init
 loop-row-init c =
-    rw (c.new-lists.ensures.ends, c.new-lists.ensures.inner, c.new-lists.ensures.words, c.rows_in-rest.ensures.entries) (done_none c.args.semiring c.args.range.start c.args.range.end c.args.a.now c.args.b.now)
+    rw (c.new-lists.ensures.ends, c.new-lists.ensures.inner, c.new-lists.ensures.words, c.rows_in-rest.ensures.entries) (done_none c.args.semiring everywhere c.args.range.start c.args.range.end c.args.a.now c.args.b.now)
 
 pub loop-row-smaller : goal.loop-row-smaller
 loop-row-smaller c =
@@ -19,7 +23,9 @@ loop-row-preserved c =
     let row = c.in-Some.row in
     let made = c.in_ok-multiply_row.ensures in
     let s = c.loop-row in
-    let more = done_more c.args.semiring c.args.range.start c.args.range.end c.args.a.now c.args.b.now s.lists.ends.items s.lists.inner.items s.lists.words.items s.rest.entries row.index row.cols.now row.words.now c.in-Some.others.entries made.cols made.added s.invariant c.in-Some.ensures made.product in
+    let all = sym (kept_all (terms_of_row c.args.semiring.multiply (entries_along row.index row.cols.now row.words.now) c.args.b.now)) in
+    let sums = subst (λ ts. IsSumRow c.args.semiring.add.op row.index ts made.cols made.added) all made.sums in
+    let more = done_more c.args.semiring everywhere c.args.range.start c.args.range.end c.args.a.now c.args.b.now s.lists.ends.items s.lists.inner.items s.lists.words.items s.rest.entries row.index row.cols.now row.words.now c.in-Some.others.entries made.cols made.added s.invariant c.in-Some.ensures sums in
     rw (made.ends, made.inner, made.words) more
 
 pub returns : goal.returns
@@ -35,6 +41,6 @@ returns c =
       cols = c.of_rows.ensures.cols ∙ c.cols-2.ensures;
       words = λ i j low high.
           ap (λ es. word_at es i j) c.of_rows.ensures.entries
-          ∙ done_all semiring range.start range.end a b s.lists.ends.items s.lists.inner.items s.lists.words.items s.rest.entries s.invariant c.in_default.ensures i j
-          ∙ rows_product_is semiring range.start range.end i j a b c.rows.ensures.within low high;
+          ∙ done_all semiring everywhere range.start range.end a b s.lists.ends.items s.lists.inner.items s.lists.words.items s.rest.entries s.invariant c.in_default.ensures i j
+          ∙ rows_product_is semiring everywhere range.start range.end i j a b c.rows.ensures.within low high;
     }
