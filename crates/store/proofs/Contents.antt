@@ -7,7 +7,7 @@ use Rattle.std.specs.List.Sorted.{IsPartitionPoint}
 use Rattle.std.proofs.lemmas.Bool.{cases_Bool, cases_lt, eqb-true}
 use Rattle.std.proofs.lemmas.Bool.Decides.{nat_tests}
 use Rattle.std.proofs.lemmas.List.{ext_get_or, get_or-drop, get_or-map, get_or-take, get_or_default, length-map, drop_more}
-use Rattle.std.proofs.lemmas.List.Elements.{All-filter, All-head, All-tail, All-weaker}
+use Rattle.std.proofs.lemmas.List.Elements.{All-filter, All-nil, All-head, All-tail, All-weaker}
 use Rattle.std.proofs.lemmas.Slice.Zip.{get_or-zip, length-zip}
 use Rattle.model.specs.declared.entry.Entry.{Entry}
 use Rattle.model.specs.Entries.{InOrder, IsInside, Precedes, entry_at, word_at, count_from, row_entries, entries_between}
@@ -16,7 +16,8 @@ use Rattle.store.specs.declared.lists.FiberEnd.{FiberEnd}
 use Rattle.store.specs.Fibers.{AreAt, entries_along, entries_from, outers, placed}
 use Rattle.store.specs.Stored.{AreHeld, AreIn, IsStored, along, entries_in_row, entries_in_rows, turned}
 use Rattle.store.specs.Walks.{entries_down}
-use Rattle.store.proofs.Content.{entries_between-words}
+use Rattle.store.proofs.Content.{entries_between-words, word_at-in_rows}
+use Rattle.store.proofs.FlatLaws.{flat_none}
 use Rattle.store.proofs.Order.{all_from_map, all_pairs_filter, all_pairs_map}
 use Rattle.store.proofs.Positions.{one_row}
 use Rattle.store.proofs.Places.{placed_at, length_placed, long_outers, part_at, length_part, length_row, row_at}
@@ -59,6 +60,23 @@ length_along cols es = elim (eqb cols 1) as (λ b. length (cond b (turned es) es
   | true ↦ length-map es (λ (e : Entry). entry_at e.col e.row e.word)
   | false ↦ refl
 ]
+
+pub along_none : (cols : ℕ) → along cols [] ≡ []
+along_none cols = elim (eqb cols 1) as (λ b. cond b (turned []) [] ≡ []) [
+  | true ↦ refl
+  | false ↦ refl
+]
+
+-- lists without a fiber have no entry
+pub no_entries : (from : ℕ) (ends : List FiberEnd) (inner words : List ℕ) → ends ≡ [] → entries_from from ends inner words ≡ []
+unfolding outers
+no_entries from ends inner words none = rw none refl
+
+pub none_held : (first past cols : ℕ) → AreHeld first past cols [] [] []
+none_held first past cols = record {
+  flat = flat_none;
+  inside = rw (no_entries 0 [] [] [] refl, along_none cols) (All-nil (λ (e : Entry). ((first ≤ e.row) × (e.row < past)) × (e.col < cols)));
+}
 
 -- entries of the first outer index are what a column has
 pub column_first : (first past cols : ℕ) (es : List Entry) → eqb cols 1 ≡ true → AreIn first past cols (along cols es) → All (λ e. e.row < 1) es
@@ -139,12 +157,14 @@ pub record AreBetween (first past rows cols : ℕ) (all some : List Entry) : Typ
   pub entries : some ≡ entries_between first past cols (word_at all)
   pub order : InOrder some
   pub inside : IsInside rows cols some
+  pub words : (i j : ℕ) → first ≤ i → i < past → word_at some i j ≡ word_at all i j
 
 pub kept_between : (first past rows cols : ℕ) (all some : List Entry) → IsStored rows cols all → some ≡ entries_in_rows first past all → AreBetween first past rows cols all some
 kept_between first past rows cols all some stored is = record {
   entries = is ∙ sym (entries_between-words first past rows cols all stored.order stored.inside);
   order = subst InOrder (sym is) (all_pairs_filter Precedes (λ e. leb first e.row && ltb e.row past) all stored.order);
   inside = subst (IsInside rows cols) (sym is) (All-filter (λ e. leb first e.row && ltb e.row past) (λ e. (e.row < rows) × (e.col < cols)) all stored.inside);
+  words = λ i j low high. ap (λ es. word_at es i j) is ∙ word_at-in_rows first past i j all low high;
 }
 
 -- ---- a column

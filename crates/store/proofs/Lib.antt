@@ -3,6 +3,7 @@ pub mod CloseLaws
 pub mod ColumnLaws
 pub mod Content
 pub mod Contents
+pub mod CopyLaws
 pub mod EditLaws
 pub mod FlatLaws
 pub mod Order

@@ -101,3 +101,7 @@ later r = end_at r.outer (r.end + 1)
 -- a fiber behind one entry less
 abbrev pub earlier : FiberEnd → FiberEnd
 earlier r = end_at r.outer (r.end - 1)
+
+-- a fiber behind so many entries fewer
+abbrev pub end_back : ℕ → FiberEnd → FiberEnd
+end_back count r = end_at r.outer (r.end - count)

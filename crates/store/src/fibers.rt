@@ -1,10 +1,12 @@
 //! Walks along fibers.
-ghost use Rattle.std.specs.Prelude.{◌≡◌, ◌-◌, ◌^◌, ◌<◌, ◌≤◌, ◌++◌, [], length};
+ghost use Rattle.std.specs.Prelude.{◌≡◌, ◌-◌, ◌^◌, ◌<◌, ◌≤◌, ◌++◌, ◌∷◌, [], length, map, IfOk};
 ghost use Rattle.std.specs.List.{All, AllPairs};
 ghost use Rattle.model.specs.Entries.{InOrder};
-ghost use Rattle.store.specs.Fibers.{entries_along};
+ghost use Rattle.store.specs.Fibers.{AreFlat, end_back, entries_along, entries_from, entries_in};
 
-use crate::FiberEnd;
+use crate::{FiberEnd, FiberLists};
+use model::NoMemory;
+use std::alloc::Global;
 use std::marker::Model;
 
 /// Fibers that lie one behind the other, from the first that is left on. A walk splits off one fiber
@@ -43,6 +45,23 @@ impl<'a> Fibers<'a> {
             from: 0,
             inner: &[],
             words: &[],
+        }
+    }
+
+    /// The fibers of whole lists.
+    pub(crate) fn of_lists(ends: &'a [FiberEnd], inner: &'a [u64], words: &'a [u64]) -> Fibers<'a>
+        requires { AreFlat ends.now inner.now words.now }
+        ensures { result.entries ≡ entries_from 0 ends.now inner.now words.now }
+    {
+        let Some((head, others)) = ends.split_first() else {
+            return Fibers::none();
+        };
+        Fibers {
+            head: *head,
+            others,
+            from: 0,
+            inner,
+            words,
         }
     }
 
@@ -123,5 +142,47 @@ impl<'a> Fibers<'a> {
             words: others,
         };
         (inner, words, rest)
+    }
+
+    /// The fibers that are left, in memory of their own.
+    pub(crate) fn try_copy(&self, alloc: Global) -> Result<FiberLists, NoMemory>
+        ensures flat { IfOk result (λ lists. AreFlat lists.ends.items lists.inner.items lists.words.items) }
+        ensures entries { IfOk result (λ lists. entries_in lists ≡ self.now.entries) }
+    {
+        if self.inner.is_empty() {
+            return Ok(FiberLists::new(alloc));
+        }
+        let ends = ends_from(alloc, self.head, self.others, self.from)?;
+        let inner = Vec::from_slice(alloc, self.inner)?;
+        let words = Vec::from_slice(alloc, self.words)?;
+        Ok(FiberLists { ends, inner, words })
+    }
+}
+
+/// Where fibers end in lists that begin with the first of them, at the place `from`.
+fn ends_from(
+    alloc: Global,
+    head: FiberEnd,
+    others: &[FiberEnd],
+    from: usize,
+) -> Result<Vec<FiberEnd>, NoMemory>
+    requires { All (λ r. from ≤ r.end) (head ∷ others.now) }
+    ensures { IfOk result (λ ends. ends.items ≡ map (end_back from) (head ∷ others.now)) }
+{
+    let mut ends = Vec::new(alloc);
+    ends.reserve(others.len())?;
+    ends.push(head)?;
+    ends.extend_from_slice(others)?;
+    move_back(&mut ends, from);
+    Ok(ends)
+}
+
+/// Moves the ends of fibers behind so many entries fewer.
+fn move_back(ends: &mut [FiberEnd], count: usize)
+    requires { All (λ r. count ≤ r.end) ends.old }
+    ensures { ends.new ≡ map (end_back count) ends.old }
+{
+    for fiber in ends.iter_mut() {
+        fiber.end -= count;
     }
 }

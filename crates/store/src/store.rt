@@ -1,6 +1,6 @@
 //! Stores: what an object holds.
 ghost use Rattle.std.specs.Prelude.{◌≡◌, ℕ, ◌<◌, ◌≤◌, None, length, OnOk, OnErr, IfOk};
-ghost use Rattle.model.specs.Entries.{InOrder, IsInside, entries_between, entries_of, row_entries};
+ghost use Rattle.model.specs.Entries.{InOrder, IsInside, entries_between, entries_of, row_entries, word_at};
 ghost use Rattle.model.specs.Object.{cast_content, with_entry, IsWithin};
 
 use crate::edits::{put, take_out};
@@ -144,6 +144,8 @@ impl Store {
         ensures entries { along self.now.cols result.entries
             ≡ entries_between range.start range.end self.now.cols (content_of self.now) }
         ensures inside { IsInside self.now.rows self.now.cols (along self.now.cols result.entries) }
+        ensures words { (i j : ℕ) → range.start ≤ i → i < range.end
+            → word_at (along self.now.cols result.entries) i j ≡ content_of self.now i j }
     {
         let FiberLists { ends, inner, words } = &self.lists;
         if self.cols == 1 {
@@ -152,6 +154,20 @@ impl Store {
         } else {
             fibers_between(ends, inner, words, range.start, range.end)
         }
+    }
+
+    /// The rows in a range as a block, in memory of their own. The range may be empty or reach beyond the
+    /// rows.
+    pub fn copy_rows(&self, alloc: Global, range: Range<u64>) -> Result<RowBlock, NoMemory>
+        ensures first { IfOk result (λ block. block.first ≡ range.start) }
+        ensures past { IfOk result (λ block. block.past ≡ range.end) }
+        ensures cols { IfOk result (λ block. block.cols ≡ self.now.cols) }
+        ensures words { IfOk result (λ block. (i j : ℕ) → range.start ≤ i → i < range.end
+            → block_content block i j ≡ content_of self.now i j) }
+    {
+        let (first, past) = (range.start, range.end);
+        let lists = self.fibers_in(first..past).try_copy(alloc)?;
+        Ok(RowBlock::of_fibers(first, past, self.cols, lists))
     }
 
     /// The rows in a range. The range may be empty or reach beyond the rows. Its time grows with the

@@ -32,6 +32,9 @@ returns-then-self-eq1-clause-entries c = rw (← c.self.view_is) (column (search
 pub returns-then-self-eq1-clause-inside : goal.returns-then-self-eq1-clause-inside
 returns-then-self-eq1-clause-inside c = rw (← c.self.view_is) (column (search rules)).inside
 
+pub returns-then-self-eq1-clause-words : goal.returns-then-self-eq1-clause-words
+returns-then-self-eq1-clause-words c i j low high = rw (← c.self.view_is) (((column (search rules))).words i j low high)
+
 fibers : (c : After-fibers_between) → AreBetween c.args.range.start c.args.range.end c.self.inside.rows c.self.inside.cols (along c.self.inside.cols (entries_from 0 c.self.inside.lists.ends.items c.self.inside.lists.inner.items c.self.inside.lists.words.items)) (along c.self.inside.cols c.fibers_between.result.entries)
 fibers c =
     let s = c.self.inside in
@@ -46,3 +49,6 @@ returns-else-self-eq1-clause-entries c = rw (← c.self.view_is) (fibers (search
 
 pub returns-else-self-eq1-clause-inside : goal.returns-else-self-eq1-clause-inside
 returns-else-self-eq1-clause-inside c = rw (← c.self.view_is) (fibers (search rules)).inside
+
+pub returns-else-self-eq1-clause-words : goal.returns-else-self-eq1-clause-words
+returns-else-self-eq1-clause-words c i j low high = rw (← c.self.view_is) (((fibers (search rules))).words i j low high)
