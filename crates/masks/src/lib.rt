@@ -2,6 +2,8 @@
 //! `GrB_COMP`), and what it leaves there (`GrB_REPLACE`).
 #![tactic(auto)]
 
+mod join;
+mod merge;
 mod view;
 
 pub use view::MaskView;

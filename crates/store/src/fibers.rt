@@ -88,6 +88,7 @@ impl<'a> Fibers<'a> {
     #[inline(always)]
     pub fn len(&self) -> usize
         ensures count { result ≡ length self.now.entries }
+        ensures room { result < 2 ^ 62 }
         ensures order { InOrder self.now.entries }
     {
         self.inner.len()

@@ -1,0 +1,5 @@
+mod Joins
+mod Merges
+mod Merging
+mod Unions
+mod Unites

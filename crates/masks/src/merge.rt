@@ -1,0 +1,132 @@
+//! Fibers merged: at each place of two sides the inner index, the word of each side, and which sides are
+//! there.
+ghost use Rattle.std.specs.Prelude.{◌≡◌, ℕ, ◌<◌, ◌≤◌, ◌+◌, length, take, replicate, [], IfOk};
+ghost use Rattle.std.specs.List.{All, AllPairs};
+ghost use Rattle.store.specs.Fibers.{entries_along};
+ghost use Rattle.masks.specs.Merges.{AreMerged, IsMerge};
+
+use model::NoMemory;
+use store::{FiberEnd, Fibers};
+
+/// Merges two fibers, and answers how many places there are. The side of a place is 1 where the left is
+/// there alone, 2 where the right is, and 3 where both are.
+#[inline(never)]
+fn merge_fiber(
+    left: &[u64],
+    left_words: &[u64],
+    right: &[u64],
+    right_words: &[u64],
+    inner: &mut [u64],
+    lefts: &mut [u64],
+    rights: &mut [u64],
+    sides: &mut [u64],
+) -> usize
+    requires left_rises { AllPairs (λ x y. x < y) left.now }
+    requires right_rises { AllPairs (λ x y. x < y) right.now }
+    requires left_words { length left_words.now ≡ length left.now }
+    requires right_words { length right_words.now ≡ length right.now }
+    requires inner_room { length left.now + length right.now ≤ length inner.old }
+    requires lefts_room { length lefts.old ≡ length inner.old }
+    requires rights_room { length rights.old ≡ length inner.old }
+    requires sides_room { length sides.old ≡ length inner.old }
+    ensures bound { result ≤ length left.now + length right.now }
+    ensures inner_length { length inner.new ≡ length inner.old }
+    ensures lefts_length { length lefts.new ≡ length inner.old }
+    ensures rights_length { length rights.new ≡ length inner.old }
+    ensures sides_length { length sides.new ≡ length inner.old }
+    ensures merged { (outer : ℕ) → IsMerge
+        (entries_along outer left.now left_words.now)
+        (entries_along outer right.now right_words.now)
+        (replicate result outer)
+        (take result inner.new)
+        (take result lefts.new)
+        (take result rights.new)
+        (take result sides.new) }
+{
+    let mut i = 0;
+    let mut j = 0;
+    let mut k = 0;
+    while i < left.len() && j < right.len() {
+        let (p, q) = (left[i], right[j]);
+        inner[k] = if p < q { p } else { q };
+        lefts[k] = left_words[i];
+        rights[k] = right_words[j];
+        sides[k] = u64::from(p <= q) + 2 * u64::from(q <= p);
+        i += usize::from(p <= q);
+        j += usize::from(q <= p);
+        k += 1;
+    }
+    while i < left.len() {
+        inner[k] = left[i];
+        lefts[k] = left_words[i];
+        rights[k] = 0;
+        sides[k] = 1;
+        i += 1;
+        k += 1;
+    }
+    while j < right.len() {
+        inner[k] = right[j];
+        lefts[k] = 0;
+        rights[k] = right_words[j];
+        sides[k] = 2;
+        j += 1;
+        k += 1;
+    }
+    k
+}
+
+/// Merges fibers, one outer index after another, and answers how many places there are.
+pub(crate) fn merge_fibers<'a>(
+    mut left: Fibers<'a>,
+    mut right: Fibers<'a>,
+    ends: &mut Vec<FiberEnd>,
+    inner: &mut [u64],
+    lefts: &mut [u64],
+    rights: &mut [u64],
+    sides: &mut [u64],
+) -> Result<usize, NoMemory>
+    requires none { ends.old.items ≡ [] }
+    requires inner_room { length left.entries + length right.entries ≤ length inner.old }
+    requires lefts_room { length lefts.old ≡ length inner.old }
+    requires rights_room { length rights.old ≡ length inner.old }
+    requires sides_room { length sides.old ≡ length inner.old }
+    ensures bound { IfOk result (λ count. count ≤ length inner.old) }
+    ensures inner_length { length inner.new ≡ length inner.old }
+    ensures lefts_length { length lefts.new ≡ length inner.old }
+    ensures rights_length { length rights.new ≡ length inner.old }
+    ensures sides_length { length sides.new ≡ length inner.old }
+    ensures merged { IfOk result (λ count. AreMerged
+        left.entry.entries right.entry.entries count ends.new.items inner.new lefts.new rights.new sides.new) }
+{
+    let mut count = 0;
+    while left.len() > 0 || right.len() > 0 {
+        let outer = least(&left, &right);
+        let (a, a_words, left_rest) = left.split(outer);
+        let (b, b_words, right_rest) = right.split(outer);
+        left = left_rest;
+        right = right_rest;
+        count += merge_fiber(
+            a,
+            a_words,
+            b,
+            b_words,
+            &mut inner[count..],
+            &mut lefts[count..],
+            &mut rights[count..],
+            &mut sides[count..],
+        );
+        ends.push(FiberEnd { outer, end: count })?;
+    }
+    Ok(count)
+}
+
+/// The least outer index that is left on either side.
+#[inline(always)]
+fn least(left: &Fibers<'_>, right: &Fibers<'_>) -> u64
+    requires { 0 < length left.now.entries + length right.now.entries }
+    ensures left { All (λ e. result ≤ e.row) left.now.entries }
+    ensures right { All (λ e. result ≤ e.row) right.now.entries }
+    ensures there { All (λ e. result < e.row) left.now.entries → All (λ e. result < e.row) right.now.entries → ⊥ }
+{
+    left.outer().min(right.outer())
+}
