@@ -1,4 +1,6 @@
 mod Joins
+mod Keeping
+mod Keeps
 mod Merges
 mod Merging
 mod Unions

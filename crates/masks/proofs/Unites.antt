@@ -218,11 +218,11 @@ part_more a b x y x' y' fs gs outer count n room ends cols lefts rights sides co
       sides_long = long_s;
     }
 
-pub length_put : (a k : ℕ) (xs ys : List ℕ) → a + k ≡ length xs → length ys ≡ k → length (put_mid a k xs ys) ≡ length xs
-length_put a k xs ys whole same =
+pub length_put : (a k : ℕ) (xs ys : List ℕ) → a + k ≤ length xs → length ys ≡ k → length (put_mid a k xs ys) ≡ length xs
+length_put a k xs ys room same =
     let low : a ≤ length xs = omega arith in
-    let front = take-put_mid a k xs ys (length xs) (omega arith) low in
-    let back = drop-put_mid a k xs ys (length xs) (omega arith) low same in
-    let parts = take-append-drop (length xs) (put_mid a k xs ys) in
+    let front = take-put_mid a k xs ys (a + k) (omega arith) low in
+    let back = drop-put_mid a k xs ys (a + k) (omega arith) low same in
+    let parts = take-append-drop (a + k) (put_mid a k xs ys) in
     let sizes = ap length parts in
-    omega (arith, length-append (take (length xs) (put_mid a k xs ys)) (drop (length xs) (put_mid a k xs ys)), ap length front, ap length back, length-append (take a xs) ys, length-take a xs, length-drop (length xs) xs)
+    omega (arith, length-append (take (a + k) (put_mid a k xs ys)) (drop (a + k) (put_mid a k xs ys)), ap length front, ap length back, length-append (take a xs) ys, length-take a xs, length-drop (a + k) xs)

@@ -1,3 +1,4 @@
 pub mod Joins
+pub mod Keeps
 pub mod Masks
 pub mod Merges

@@ -3,6 +3,7 @@
 #![tactic(auto)]
 
 mod join;
+mod keep;
 mod merge;
 mod view;
 

@@ -1,0 +1,155 @@
+//! What a mask keeps of the entries of fibers, in the same memory.
+ghost use Rattle.std.specs.Prelude.{◌≡◌, ℕ, ◌<◌, ◌≤◌, ◌-◌, length, take, drop};
+ghost use Rattle.std.specs.List.{All, AllPairs};
+ghost use Rattle.model.specs.Entries.{word_at};
+ghost use Rattle.store.specs.Fibers.{AreFlat, entries_along, entries_from, entries_in};
+ghost use Rattle.masks.specs.Keeps.{IsFirstFrom, kept_by, lets_word};
+ghost use Rattle.masks.specs.Masks.{has_word};
+
+use crate::MaskView;
+use store::{FiberEnd, FiberLists, Fibers};
+
+/// What the mask keeps of the entries of lists. The fibers of the mask's store are `stored`.
+pub(crate) fn keep_entries(mut lists: FiberLists, mask: &MaskView<'_>, stored: Fibers<'_>) -> FiberLists
+    requires { AreFlat lists.ends.items lists.inner.items lists.words.items }
+    ensures flat { AreFlat result.ends.items result.inner.items result.words.items }
+    ensures entries { entries_in result ≡ kept_by mask.now stored.entry.entries (entries_in lists) }
+{
+    let (fibers, kept) = keep_fibers(&mut lists.ends, &mut lists.inner, &mut lists.words, mask, stored);
+    lists.ends.truncate(fibers);
+    lists.inner.truncate(kept);
+    lists.words.truncate(kept);
+    lists
+}
+
+/// Brings what the mask keeps to the front of each list, and answers how many fibers and entries there are.
+fn keep_fibers(
+    ends: &mut [FiberEnd],
+    inner: &mut [u64],
+    words: &mut [u64],
+    mask: &MaskView<'_>,
+    stored: Fibers<'_>,
+) -> (usize, usize)
+    requires { AreFlat ends.old inner.old words.old }
+    ensures ends_length { length ends.new ≡ length ends.old }
+    ensures inner_length { length inner.new ≡ length inner.old }
+    ensures words_length { length words.new ≡ length words.old }
+    ensures flat { AreFlat (take result.0 ends.new) (take result.1 inner.new) (take result.1 words.new) }
+    ensures entries { entries_from 0 (take result.0 ends.new) (take result.1 inner.new) (take result.1 words.new)
+        ≡ kept_by mask.now stored.entry.entries (entries_from 0 ends.old inner.old words.old) }
+{
+    let mut rest = stored;
+    let mut fibers = 0;
+    let mut kept = 0;
+    let mut start = 0;
+    for at in 0..ends.len() {
+        let FiberEnd { outer, end } = ends[at];
+        let (stored_inner, stored_words, behind) = seek(rest, outer);
+        rest = behind;
+        let count = keep_fiber(
+            &mut inner[kept..end],
+            &mut words[kept..end],
+            start - kept,
+            mask,
+            stored_inner,
+            stored_words,
+        );
+        kept += count;
+        ends[fibers] = FiberEnd { outer, end: kept };
+        fibers += usize::from(count > 0);
+        start = end;
+    }
+    (fibers, kept)
+}
+
+/// The fiber at an outer index, which has no entries where there is none, and the fibers behind it.
+fn seek<'a>(fibers: Fibers<'a>, outer: u64) -> (&'a [u64], &'a [u64], Fibers<'a>)
+    ensures lengths { length result.1.now ≡ length result.0.now }
+    ensures rising { AllPairs (λ a b. a < b) result.0.now }
+    ensures here { (j : ℕ) → word_at (entries_along outer result.0.now result.1.now) outer j
+        ≡ word_at fibers.entry.entries outer j }
+    ensures behind { (i j : ℕ) → outer < i → word_at result.2.entries i j ≡ word_at fibers.entry.entries i j }
+{
+    let mut rest = fibers;
+    let mut first = rest.outer();
+    while first < outer {
+        let (_, _, behind) = rest.split(first);
+        rest = behind;
+        first = rest.outer();
+    }
+    rest.split(outer)
+}
+
+/// Brings what the mask keeps of a fiber's entries, which lie from the place `from` on, to the front of the
+/// lists, and answers how many there are.
+#[inline(never)]
+fn keep_fiber(
+    inner: &mut [u64],
+    words: &mut [u64],
+    from: usize,
+    mask: &MaskView<'_>,
+    stored_inner: &[u64],
+    stored_words: &[u64],
+) -> usize
+    requires words { length words.old ≡ length inner.old }
+    requires from { from ≤ length inner.old }
+    requires rising { AllPairs (λ a b. a < b) (drop from inner.old) }
+    requires stored_words { length stored_words.now ≡ length stored_inner.now }
+    requires stored_rising { AllPairs (λ a b. a < b) stored_inner.now }
+    ensures bound { result ≤ length inner.old - from }
+    ensures inner_length { length inner.new ≡ length inner.old }
+    ensures words_length { length words.new ≡ length words.old }
+    ensures kept { (outer : ℕ) → entries_along outer (take result inner.new) (take result words.new)
+        ≡ kept_by mask.now (entries_along outer stored_inner.now stored_words.now)
+            (entries_along outer (drop from inner.old) (drop from words.old)) }
+{
+    let mut kept = 0;
+    let mut next = 0;
+    for at in from..inner.len() {
+        let index = inner[at];
+        next = first_from(stored_inner, next, index);
+        let is_kept = lets_through(mask, stored_inner, stored_words, next, index);
+        inner[kept] = index;
+        words[kept] = words[at];
+        kept += usize::from(is_kept);
+    }
+    kept
+}
+
+/// The place of the first index that isn't below `index`; all before `from` are.
+#[inline(always)]
+fn first_from(inner: &[u64], from: usize, index: u64) -> usize
+    requires from { from ≤ length inner.now }
+    requires before { All (λ x. x < index) (take from inner.now) }
+    ensures { IsFirstFrom index inner.now result }
+{
+    let mut at = from;
+    while at < inner.len() && inner[at] < index {
+        at += 1;
+    }
+    at
+}
+
+/// Whether the mask lets an inner index of a fiber through, of which `at` is the place of the first that
+/// isn't below it.
+#[inline(always)]
+fn lets_through(mask: &MaskView<'_>, inner: &[u64], words: &[u64], at: usize, index: u64) -> bool
+    requires words { length words.now ≡ length inner.now }
+    requires rising { AllPairs (λ a b. a < b) inner.now }
+    requires first { IsFirstFrom index inner.now at }
+    ensures { (outer : ℕ) → result ≡ lets_word mask.now (word_at (entries_along outer inner.now words.now) outer index) }
+{
+    has_index(mask, inner, words, at, index) != mask.complement
+}
+
+/// Whether a fiber of the mask's store has an inner index that counts.
+#[inline(always)]
+fn has_index(mask: &MaskView<'_>, inner: &[u64], words: &[u64], at: usize, index: u64) -> bool
+    requires words { length words.now ≡ length inner.now }
+    requires rising { AllPairs (λ a b. a < b) inner.now }
+    requires first { IsFirstFrom index inner.now at }
+    ensures { (outer : ℕ) → result
+        ≡ has_word mask.now.valued (word_at (entries_along outer inner.now words.now) outer index) }
+{
+    at < inner.len() && inner[at] == index && mask.counts(words[at])
+}
