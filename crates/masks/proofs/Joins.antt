@@ -1,5 +1,5 @@
 -- The lists of a join are fibers.
-use Rattle.std.proofs.Common.{◌≡◌, ℕ, ◌+◌, ◌<◌, ◌≤◌, Bool, true, false, eqb, List, [], ◌∷◌, length, take, map, sym, ◌∙◌, ap, subst, inl, inr, arith, length-take}
+use Rattle.std.proofs.Common.{◌≡◌, ℕ, ◌<◌, ◌≤◌, Bool, true, false, eqb, List, length, take, map, sym, ◌∙◌, inl, inr, arith, length-take}
 use Rattle.std.specs.List.{All}
 use Rattle.std.proofs.lemmas.Bool.{cases_Bool}
 use Rattle.std.proofs.lemmas.List.Elements.{All-map}
@@ -11,7 +11,7 @@ use Rattle.store.specs.Stored.{AreIn, along}
 use Rattle.store.proofs.Contents.{as_column, by_rows}
 use Rattle.store.proofs.Order.{all_from_map}
 use Rattle.masks.specs.Joins.{AreJoined, joined}
-use Rattle.masks.specs.Merges.{AreMerged, IsMerge}
+use Rattle.masks.specs.Merges.{AreMerged}
 use Rattle.masks.proofs.Unions.{lengths, placed_all, placed_order, placed_words}
 
 -- the first places of a merge, so many, lie in lists of their own
@@ -41,7 +41,7 @@ abbrev turn : Entry → Entry
 turn e = entry_at e.col e.row e.word
 
 -- entries in some rows, by their positions as they lie
-abbrev LiesIn : Bool → ℕ → ℕ → ℕ → ℕ → ℕ → Type 0
+abbrev pub LiesIn : Bool → ℕ → ℕ → ℕ → ℕ → ℕ → Type 0
 LiesIn true first past cols o i = ((first ≤ i) × (i < past)) × (o < cols)
 LiesIn false first past cols o i = ((first ≤ o) × (o < past)) × (i < cols)
 

@@ -1,23 +1,22 @@
 -- What a mask keeps of fibers, one fiber after another, in the same lists.
-use Rattle.std.proofs.Common.{◌≡◌, ◌≢◌, ℕ, zero, suc, ◌+◌, ◌-◌, ◌<◌, ◌≤◌, Bool, true, false, eqb, ltb, cond, List, [], ◌∷◌, ◌++◌, length, get_or, set, take, drop, refl, sym, ◌∙◌, ap, subst, inl, inr, arith, append_assoc, length-append, length-take, length-drop}
+use Rattle.std.proofs.Common.{◌≡◌, ℕ, ◌+◌, ◌-◌, ◌<◌, ◌≤◌, Bool, true, false, eqb, ltb, List, [], ◌∷◌, ◌++◌, length, get_or, set, take, drop, refl, sym, ◌∙◌, ap, subst, inl, inr, arith, append_assoc, length-append, length-take, length-drop}
 use Rattle.std.specs.List.{All, AllPairs, filter}
 use borrow.Rule.Slice.PartMut.{put_mid}
-use Rattle.std.proofs.lemmas.Bool.{cases_Bool, cases_eq, eq-eqb, ne_eqb}
+use Rattle.std.proofs.lemmas.Bool.{cases_eq, eq-eqb, ne_eqb}
 use Rattle.std.proofs.lemmas.Bool.Decides.{nat_tests}
 use Rattle.std.proofs.lemmas.List.{append-nil, drop-drop, drop-set-lt, drop-take, drop_all, drop_more, get_or-drop, get_or-set_other, length-set, take-set-le, take_more_set}
-use Rattle.std.proofs.lemmas.List.Elements.{All-cons, All-head, All-nil, All-tail, All-weaker, filter-append}
+use Rattle.std.proofs.lemmas.List.Elements.{All-head, All-nil, All-tail, All-weaker, filter-append}
 use Rattle.std.proofs.lemmas.Slice.{drop-put_mid}
 use Rattle.model.specs.declared.entry.Entry.{Entry}
-use Rattle.model.specs.Entries.{InOrder, Precedes, entry_at, word_at}
+use Rattle.model.specs.Entries.{InOrder, Precedes, word_at}
 use Rattle.store.specs.declared.lists.FiberEnd.{FiberEnd}
 use Rattle.store.specs.Fibers.{AreFlat, AreFrom, Rises, end_at, entries_along, entries_from, last_end, outers}
-use Rattle.store.proofs.CloseLaws.{IsClosed, close_fiber, closed}
+use Rattle.store.proofs.CloseLaws.{close_fiber, closed}
 use Rattle.store.proofs.Contents.{no_entries}
 use Rattle.store.proofs.FlatLaws.{all_rows, flat_none, rises_le, row_in_order}
 use Rattle.store.proofs.Order.{all_pairs_filter, all_pairs_head}
-use Rattle.store.proofs.Places.{length_row}
 use Rattle.store.proofs.RangeLaws.{from_left, in_parts}
-use Rattle.store.proofs.Walks.{cols_rise, first_fiber, step_next}
+use Rattle.store.proofs.Walks.{cols_rise, step_next}
 use Rattle.masks.specs.declared.view.MaskView.{MaskView}
 use Rattle.masks.specs.Keeps.{kept_by, lets_word}
 use Rattle.masks.proofs.Unites.{length_put, put_take}
@@ -149,10 +148,10 @@ keeping_more mask stored all rest rest' ends inner words at fibers kept start ou
     let tail_words : drop n W ≡ drop end words = drop-drop n start words ∙ ap (λ k. drop k words) on in
     let fiber : entries_along outer cs ws ≡ kept_by mask (entries_along outer mi mw) (entries_along outer xs ys) = rw (lent_part kept start end inner fewer (omega arith), lent_part kept start end words fewer (omega arith)) at (made outer) in
     let tests : kept_by mask (entries_along outer mi mw) (entries_along outer xs ys) ≡ kept_by mask stored (entries_along outer xs ys) =
-        filter_same (λ e. lets_word mask (word_at (entries_along outer mi mw) e.row e.col)) (λ e. lets_word mask (word_at stored e.row e.col)) (entries_along outer xs ys)
-        (All-weaker (λ (e : Entry). e.row ≡ outer) (λ (e : Entry). lets_word mask (word_at (entries_along outer mi mw) e.row e.col) ≡ lets_word mask (word_at stored e.row e.col))
-        (λ e row. ap (lets_word mask) (ap (λ i. word_at (entries_along outer mi mw) i e.col) row ∙ at_outer e.col ∙ here.masked outer e.col within (rw is (omega arith)) ∙ ap (λ i. word_at stored i e.col) (sym row)))
-        (entries_along outer xs ys) (all_rows outer xs ys)) in
+    filter_same (λ e. lets_word mask (word_at (entries_along outer mi mw) e.row e.col)) (λ e. lets_word mask (word_at stored e.row e.col)) (entries_along outer xs ys)
+    (All-weaker (λ (e : Entry). e.row ≡ outer) (λ (e : Entry). lets_word mask (word_at (entries_along outer mi mw) e.row e.col) ≡ lets_word mask (word_at stored e.row e.col))
+    (λ e row. ap (lets_word mask) (ap (λ i. word_at (entries_along outer mi mw) i e.col) row ∙ at_outer e.col ∙ here.masked outer e.col within (rw is (omega arith)) ∙ ap (λ i. word_at stored i e.col) (sym row)))
+    (entries_along outer xs ys) (all_rows outer xs ys)) in
     let rising : AllPairs (λ a b. a < b) cs = cols_rise outer cs ws (omega arith) (subst InOrder (sym fiber) (all_pairs_filter Precedes (λ e. lets_word mask (word_at (entries_along outer mi mw) e.row e.col)) (entries_along outer xs ys) (row_in_order outer xs ys stepping.rising))) in
     let ahead : All (λ (q : FiberEnd). All (λ (s : FiberEnd). q.outer < s.outer) (r ∷ others)) (take fibers ends) = rw next.first at here.before in
     let below : All (λ (q : FiberEnd). q.outer < outer) (take fibers ends) = All-weaker (λ (q : FiberEnd). All (λ (s : FiberEnd). q.outer < s.outer) (r ∷ others)) (λ (q : FiberEnd). q.outer < outer) (λ q all. All-head (λ (s : FiberEnd). q.outer < s.outer) r others all) (take fibers ends) ahead in
@@ -173,7 +172,7 @@ keeping_more mask stored all rest rest' ends inner words at fibers kept start ou
     let split : entries_from start (drop at ends) I W ≡ F ++ L = ap (λ es. entries_from start es I W) next.first ∙ stepping.whole ∙ rw (tail_inner, tail_words) refl in
     let right : AreFrom end others (drop end inner) (drop end words) = rw (tail_inner, tail_words) at parts.right in
     let entries : entries_from 0 (take (fibers + step) (set ends fibers (end_at outer (kept + count)))) (take (kept + count) (put_mid kept (end - kept) inner part)) (take (kept + count) (put_mid kept (end - kept) words part_words)) ≡ E ++ entries_along outer cs ws =
-        rw (new_ends, new_inner, new_words) close.entries in
+    rw (new_ends, new_inner, new_words) close.entries in
     let one_step : step ≤ 1 = rw stepped (step_le number (ltb 0 count) one none) in
     let apart : All (λ (s : FiberEnd). outer < s.outer) others = all_pairs_head (λ (q s : FiberEnd). q.outer < s.outer) r others flat.apart in
     let same_inner = length_put kept (end - kept) inner part (omega arith) long in

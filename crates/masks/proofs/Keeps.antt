@@ -1,11 +1,11 @@
 -- What a mask keeps of a fiber, entry by entry.
-use Rattle.std.proofs.Common.{◌≡◌, ◌≢◌, ℕ, ◌+◌, ◌-◌, ◌<◌, ◌≤◌, Bool, true, false, ◌&&◌, cond, eqb, List, [], ◌∷◌, ◌++◌, length, get_or, set, take, drop, Option, Some, None, refl, sym, ◌∙◌, ap, subst, inl, inr, arith, append_assoc, length-append, length-take, length-drop}
+use Rattle.std.proofs.Common.{◌≡◌, ◌≢◌, ℕ, ◌+◌, ◌<◌, ◌≤◌, Bool, true, false, ◌&&◌, cond, eqb, List, [], ◌∷◌, ◌++◌, length, get_or, set, take, drop, Some, None, refl, sym, ◌∙◌, ap, inl, inr, arith, append_assoc, length-append, length-take, length-drop}
 use Rattle.std.specs.List.{All, AllPairs, filter}
 use Rattle.std.proofs.lemmas.Bool.{cases_Bool, cases_eq, ne_eqb}
-use Rattle.std.proofs.lemmas.List.{append-nil, drop-set-lt, drop_more, get_or-drop, get_or-take, take-set-le, take_more, take_more_set}
+use Rattle.std.proofs.lemmas.List.{drop-set-lt, drop_more, get_or-drop, get_or-take, take-set-le, take_more, take_more_set}
 use Rattle.std.proofs.lemmas.List.Elements.{All-append, All-cons, All-head, All-nil, All-tail, All-weaker}
 use Rattle.model.specs.declared.entry.Entry.{Entry}
-use Rattle.model.specs.Entries.{Precedes, entry_at, word_at}
+use Rattle.model.specs.Entries.{entry_at, word_at}
 use Rattle.store.specs.Fibers.{entries_along}
 use Rattle.store.proofs.FlatLaws.{row_in_order}
 use Rattle.store.proofs.Places.{length_row, row_at}
@@ -61,7 +61,7 @@ pub keep_more : (p : Entry → Bool) (outer : ℕ) (inner words : List ℕ) (kep
     → kept ≤ at → at < length inner → length words ≡ length inner → p (entry_at outer (get_or inner at 0) (get_or words at 0)) ≡ keep → step ≡ number keep → number true ≡ 1 → number false ≡ 0
     → all ≡ entries_along outer (take kept inner) (take kept words) ++ filter p (entries_along outer (drop at inner) (drop at words))
     → all ≡ entries_along outer (take (kept + step) (set inner kept (get_or inner at 0))) (take (kept + step) (set words kept (get_or words at 0)))
-        ++ filter p (entries_along outer (drop (at + 1) (set inner kept (get_or inner at 0))) (drop (at + 1) (set words kept (get_or words at 0))))
+    ++ filter p (entries_along outer (drop (at + 1) (set inner kept (get_or inner at 0))) (drop (at + 1) (set words kept (get_or words at 0))))
 keep_more p outer inner words kept at step keep number all low within same is stepped one none here =
     let x = get_or inner at 0 in
     let w = get_or words at 0 in
@@ -78,7 +78,7 @@ keep_more p outer inner words kept at step keep number all low within same is st
           let kept_it : p e ≡ true = is ∙ stays in
           let more : filter p (e ∷ rest) ≡ e ∷ filter p rest = rw kept_it refl in
           let grown : entries_along outer (take (kept + step) (set inner kept x)) (take (kept + step) (set words kept w)) ≡ front ++ e ∷ [] =
-              rw (by, take_more_set inner kept x (omega arith), take_more_set words kept w (omega arith)) (along_append outer (take kept inner) (take kept words) (x ∷ []) (w ∷ []) (omega (arith, length-take kept inner, length-take kept words))) in
+          rw (by, take_more_set inner kept x (omega arith), take_more_set words kept w (omega arith)) (along_append outer (take kept inner) (take kept words) (x ∷ []) (w ∷ []) (omega (arith, length-take kept inner, length-take kept words))) in
           here ∙ ap (λ es. front ++ filter p es) next ∙ ap (λ es. front ++ es) more ∙ sym (append_assoc front (e ∷ []) (filter p rest)) ∙ ap (λ es. es ++ filter p rest) (sym grown)
           ∙ ap (λ es. entries_along outer (take (kept + step) (set inner kept x)) (take (kept + step) (set words kept w)) ++ filter p es) (sym behind)
       | inr goes ↦

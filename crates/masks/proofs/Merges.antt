@@ -1,13 +1,11 @@
 -- The merge of two fibers, as a merge of their entries at each outer index.
-use Rattle.std.proofs.Common.{◌≡◌, ◌≢◌, ◌⊎◌, ℕ, zero, suc, ◌+◌, ◌-◌, ◌*◌, ◌<◌, ◌≤◌, Bool, true, false, leb, List, [], ◌∷◌, ◌++◌, length, get_or, set, take, drop, refl, sym, ◌∙◌, ap, subst, inl, inr, arith, length-take, length-drop, length-set}
+use Rattle.std.proofs.Common.{◌≡◌, ◌⊎◌, ℕ, ◌+◌, ◌*◌, ◌<◌, ◌≤◌, Bool, true, false, leb, List, length, get_or, set, take, drop, refl, sym, ◌∙◌, ap, inl, inr, arith, length-drop, length-set}
 use Rattle.std.specs.Prelude.{replicate}
 use Rattle.std.specs.List.{All, AllPairs}
-use Rattle.std.proofs.lemmas.Bool.{cases_eq, cases_lt, cases_order}
+use Rattle.std.proofs.lemmas.Bool.{cases_eq, cases_order}
 use Rattle.std.proofs.lemmas.Bool.Decides.{nat_tests}
-use Rattle.std.proofs.lemmas.List.{length-replicate, get_or-replicate, get_or_default, set-get_or, take-replicate, get_or-drop, take_all}
-use Rattle.std.proofs.lemmas.List.Elements.{All-nil}
-use Rattle.model.specs.declared.entry.Entry.{Entry}
-use Rattle.model.specs.Entries.{InOrder, Precedes, entry_at}
+use Rattle.std.proofs.lemmas.List.{length-replicate, get_or-replicate, set-get_or, take-replicate, get_or-drop, take_all}
+use Rattle.model.specs.Entries.{Precedes, entry_at}
 use Rattle.store.specs.Fibers.{entries_along}
 use Rattle.store.proofs.FlatLaws.{row_in_order}
 use Rattle.masks.specs.Merges.{IsMerge}

@@ -1,12 +1,12 @@
 -- A merge, place by place.
-use Rattle.std.proofs.Common.{◌≡◌, ℕ, zero, suc, ◌+◌, ◌-◌, ◌<◌, ◌≤◌, ◌≢◌, ◌⊎◌, Bool, true, false, not, eqb, List, [], ◌∷◌, ◌++◌, length, get_or, set, take, drop, map, refl, sym, ◌∙◌, ap, subst, inl, inr, arith}
+use Rattle.std.proofs.Common.{◌≡◌, ℕ, zero, suc, ◌+◌, ◌<◌, ◌≤◌, List, [], ◌∷◌, ◌++◌, length, get_or, set, take, drop, map, refl, sym, ◌∙◌, ap, subst, arith}
 use Rattle.std.specs.List.{All, AllPairs, filter_map}
-use Rattle.std.proofs.lemmas.List.{append-nil, take_more, take_more_set, map-append, get_or-drop, get_or_default, length-drop, length-set}
-use Rattle.std.proofs.lemmas.List.Elements.{All-nil, All-cons, All-append, All-weaker, All-head, All-tail, filter_map-append}
+use Rattle.std.proofs.lemmas.List.{append-nil, take_more, take_more_set, map-append, get_or-drop, get_or_default, length-drop}
+use Rattle.std.proofs.lemmas.List.Elements.{All-nil, All-cons, All-append, All-weaker, filter_map-append}
 use Rattle.model.specs.declared.entry.Entry.{Entry}
 use Rattle.model.specs.Entries.{InOrder, Precedes, entry_at}
 use Rattle.store.proofs.Order.{all_pairs_nil, all_pairs_cons, all_pairs_append}
-use Rattle.masks.specs.Merges.{Place, position, left_entry, right_entry, Stand, IsMerge}
+use Rattle.masks.specs.Merges.{Place, position, left_entry, right_entry, IsMerge}
 
 -- the merge so far: of the first i entries of a and the first j of b, in the first k places
 pub record IsMerging (a b : List Entry) (i j k : ℕ) (rows cols lefts rights sides : List ℕ) : Type 0 where

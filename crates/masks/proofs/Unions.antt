@@ -1,6 +1,6 @@
 -- The words of a join, place by place.
-use Rattle.std.proofs.Common.{◌≡◌, ℕ, zero, suc, ◌+◌, ◌<◌, ◌≤◌, Bool, true, false, ◌&&◌, cond, eqb, List, [], ◌∷◌, ◌++◌, length, get_or, set, map, Option, Some, None, refl, sym, ◌∙◌, ap, subst, inl, inr, arith}
-use Rattle.std.specs.List.{All, AllPairs, filter_map, cons_option, zip}
+use Rattle.std.proofs.Common.{◌≡◌, ℕ, ◌+◌, ◌<◌, true, false, ◌&&◌, cond, eqb, List, [], ◌∷◌, length, get_or, set, map, Option, Some, None, refl, sym, ◌∙◌, ap, subst, inl, inr, arith}
+use Rattle.std.specs.List.{All, filter_map, zip}
 use Rattle.std.proofs.lemmas.Bool.{cases_Bool, cases_eq}
 use Rattle.std.proofs.lemmas.Slice.Zip.{get_or-zip, length-zip}
 use Rattle.lanes.specs.Lists.{zip_with}
@@ -11,7 +11,6 @@ use Rattle.model.specs.declared.entry.Entry.{Entry}
 use Rattle.model.specs.Entries.{InOrder, Precedes, entry_at, word_at}
 use Rattle.store.specs.Fibers.{placed}
 use Rattle.store.proofs.Order.{all_pairs_nil, all_pairs_cons, all_pairs_head, all_pairs_tail}
-use Rattle.store.proofs.Positions.{word_at-skip, word_at-here}
 use Rattle.masks.specs.Merges.{Place, position, left_entry, right_entry, Stand, IsMerge}
 use Rattle.masks.specs.Joins.{AreJoined, joined, joined_word}
 

@@ -1,25 +1,25 @@
 -- Fibers merged one behind the other.
-use Rattle.std.proofs.Common.{◌≡◌, ◌≢◌, ◌⊎◌, ℕ, zero, suc, ◌+◌, ◌-◌, ◌<◌, ◌≤◌, List, [], ◌∷◌, ◌++◌, length, get_or, take, drop, map, refl, sym, ◌∙◌, ap, subst, inl, inr, arith, append_assoc, length-append, length-take, length-drop, take-append-drop}
+use Rattle.std.proofs.Common.{◌≡◌, ℕ, ◌+◌, ◌-◌, ◌<◌, ◌≤◌, List, [], ◌∷◌, ◌++◌, length, take, drop, refl, sym, ◌∙◌, ap, inl, inr, arith, append_assoc, length-append, length-take, length-drop, take-append-drop}
 use Rattle.std.specs.Prelude.{replicate}
-use Rattle.std.specs.List.{All, AllPairs, filter_map}
+use Rattle.std.specs.List.{All, filter_map}
 use Rattle.std.proofs.lemmas.List.{length-replicate, append-nil, length-map, map-append}
 use Rattle.std.proofs.lemmas.Slice.{take-put_mid, drop-put_mid}
 use borrow.Rule.Slice.PartMut.{put_mid}
 use Rattle.std.proofs.Common.{take-take}
 use Rattle.std.proofs.Math.Seq.{take-append-add}
 use Rattle.std.proofs.lemmas.Bool.{cases_Bool, cases_eq, cases_lt}
-use Rattle.std.proofs.Common.{true, false, eqb}
+use Rattle.std.proofs.Common.{false, eqb}
 use Rattle.masks.proofs.Unions.{not_both}
 use Rattle.std.proofs.lemmas.List.Elements.{All-nil, All-cons, All-head, All-tail, All-weaker, All-append}
 use Rattle.std.proofs.lemmas.List.Elements.{filter_map-append}
 use Rattle.model.specs.declared.entry.Entry.{Entry}
-use Rattle.model.specs.Entries.{InOrder, Precedes, entry_at}
+use Rattle.model.specs.Entries.{Precedes, entry_at}
 use Rattle.store.specs.declared.lists.FiberEnd.{FiberEnd}
 use Rattle.store.specs.Fibers.{last_end, Rises}
-use Rattle.store.specs.Fibers.{entries_along, end_at}
+use Rattle.store.specs.Fibers.{end_at}
 use Rattle.store.proofs.Order.{all_append_right, all_pairs_append, all_pairs_nil, all_pairs_cons}
 use Rattle.store.proofs.FlatLaws.{last_more, rises_more}
-use Rattle.masks.specs.Merges.{Place, position, left_entry, right_entry, Stand, IsMerge}
+use Rattle.masks.specs.Merges.{Place, position, left_entry, right_entry, IsMerge}
 use Rattle.store.specs.Fibers.{outers}
 use Rattle.masks.specs.Merges.{AreMerged}
 use Rattle.store.proofs.Places.{outers_append}
@@ -134,7 +134,7 @@ merged_more a b fs gs outer count n ends cols lefts rights sides cols' lefts' ri
       rises = rises_more 0 ends r h.rises (omega arith);
       whole = last_more 0 ends r;
       apart = all_pairs_append (λ (r s : FiberEnd). r.outer < s.outer) ends (r ∷ []) h.apart (all_pairs_cons (λ (r s : FiberEnd). r.outer < s.outer) r [] (All-nil (λ (s : FiberEnd). outer < s.outer)) (all_pairs_nil (λ (r s : FiberEnd). r.outer < s.outer)))
-      (All-weaker (λ (q : FiberEnd). q.outer < outer) (λ (q : FiberEnd). All (λ (s : FiberEnd). q.outer < s.outer) (r ∷ [])) (λ q less. All-cons (λ (s : FiberEnd). q.outer < s.outer) r [] less (All-nil (λ (s : FiberEnd). q.outer < s.outer))) ends low_ends);
+          (All-weaker (λ (q : FiberEnd). q.outer < outer) (λ (q : FiberEnd). All (λ (s : FiberEnd). q.outer < s.outer) (r ∷ [])) (λ q less. All-cons (λ (s : FiberEnd). q.outer < s.outer) r [] less (All-nil (λ (s : FiberEnd). q.outer < s.outer))) ends low_ends);
       merge = rw (os, is_c, is_l, is_r, is_s) more;
     }
 

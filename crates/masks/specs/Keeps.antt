@@ -1,5 +1,5 @@
 -- What of some entries a mask keeps: those at the positions that it lets through.
-use Rattle.std.specs.Prelude.{ℕ, ◌≡◌, ◌<◌, ◌≤◌, not, Bool, true, false, if◌then◌else◌, List, length, take, slice_index, Option}
+use Rattle.std.specs.Prelude.{ℕ, ◌<◌, ◌≤◌, not, Bool, if◌then◌else◌, List, length, take, slice_index, Option}
 use Rattle.std.specs.List.{All, filter}
 use Rattle.model.specs.declared.entry.Entry.{Entry}
 use Rattle.model.specs.Entries.{word_at}

@@ -2,3 +2,4 @@ pub mod Joins
 pub mod Keeps
 pub mod Masks
 pub mod Merges
+pub mod Writes

@@ -1,5 +1,5 @@
 -- Two lists of entries in order, merged by their positions.
-use Rattle.std.specs.Prelude.{ℕ, ◌≡◌, ◌<◌, ◌==◌, if◌then◌else◌, List, Option, Some, None, map, take}
+use Rattle.std.specs.Prelude.{ℕ, ◌≡◌, ◌==◌, if◌then◌else◌, List, Option, Some, None, map, take}
 use Rattle.std.specs.List.{AllPairs, filter_map}
 use Rattle.model.specs.declared.entry.Entry.{Entry}
 use Rattle.model.specs.Entries.{Precedes, entry_at}

@@ -39,7 +39,13 @@ pub(crate) fn join_fibers(
         rights,
         sides,
     } = places_of(alloc, left, right)?;
-    let words = words_of(alloc, op, &sides[..count], &lefts[..count], &rights[..count])?;
+    let words = words_of(
+        alloc,
+        op,
+        &sides[..count],
+        &lefts[..count],
+        &rights[..count],
+    )?;
     inner.truncate(count);
     Ok(FiberLists { ends, inner, words })
 }

@@ -10,12 +10,22 @@ use crate::MaskView;
 use store::{FiberEnd, FiberLists, Fibers};
 
 /// What the mask keeps of the entries of lists. The fibers of the mask's store are `stored`.
-pub(crate) fn keep_entries(mut lists: FiberLists, mask: &MaskView<'_>, stored: Fibers<'_>) -> FiberLists
+pub(crate) fn keep_entries(
+    mut lists: FiberLists,
+    mask: &MaskView<'_>,
+    stored: Fibers<'_>,
+) -> FiberLists
     requires { AreFlat lists.ends.items lists.inner.items lists.words.items }
     ensures flat { AreFlat result.ends.items result.inner.items result.words.items }
     ensures entries { entries_in result ≡ kept_by mask.now stored.entry.entries (entries_in lists) }
 {
-    let (fibers, kept) = keep_fibers(&mut lists.ends, &mut lists.inner, &mut lists.words, mask, stored);
+    let (fibers, kept) = keep_fibers(
+        &mut lists.ends,
+        &mut lists.inner,
+        &mut lists.words,
+        mask,
+        stored,
+    );
     lists.ends.truncate(fibers);
     lists.inner.truncate(kept);
     lists.words.truncate(kept);
@@ -101,7 +111,7 @@ fn keep_fiber(
     ensures words_length { length words.new ≡ length words.old }
     ensures kept { (outer : ℕ) → entries_along outer (take result inner.new) (take result words.new)
         ≡ kept_by mask.now (entries_along outer stored_inner.now stored_words.now)
-            (entries_along outer (drop from inner.old) (drop from words.old)) }
+        (entries_along outer (drop from inner.old) (drop from words.old)) }
 {
     let mut kept = 0;
     let mut next = 0;

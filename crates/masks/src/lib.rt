@@ -2,9 +2,12 @@
 //! `GrB_COMP`), and what it leaves there (`GrB_REPLACE`).
 #![tactic(auto)]
 
+mod blocks;
 mod join;
 mod keep;
 mod merge;
 mod view;
+mod write;
 
 pub use view::MaskView;
+pub use write::write_back;

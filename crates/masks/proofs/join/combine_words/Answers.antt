@@ -1,4 +1,4 @@
-use Rattle.std.proofs.Common.{◌≡◌, ◌∙◌, ◌<◌, length, get_or, ap, arith}
+use Rattle.std.proofs.Common.{arith}
 use Rattle.masks.proofs.Unions.{zipped}
 use Rattle.algebra.specs.Operators.{eval_of}
 use Rattle.masks.proofs.join.combine_words.Goals as goal

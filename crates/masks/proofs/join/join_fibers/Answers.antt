@@ -1,5 +1,5 @@
 -- The first places of the merge, with the words of the join.
-use Rattle.std.proofs.Common.{◌≡◌, ◌∙◌, length, take, ap, arith, rules}
+use Rattle.std.proofs.Common.{take, rules}
 use Rattle.std.specs.Option.{option_map}
 use Rattle.algebra.specs.OperatorNames.{op_named}
 use Rattle.masks.specs.Joins.{AreJoined, combined}

@@ -1,5 +1,5 @@
 -- Words of both sides, and over them those of one alone.
-use Rattle.std.proofs.Common.{◌≡◌, ◌∙◌, ap, arith, length, get_or, cond, eqb}
+use Rattle.std.proofs.Common.{◌∙◌, ap, arith, get_or, cond, eqb}
 use Rattle.masks.proofs.join.join_words.Goals as goal
 
 pub returns-clause-joined : goal.returns-clause-joined

@@ -1,4 +1,4 @@
-use Rattle.std.proofs.Common.{◌<◌, ◌≤◌, arith}
+use Rattle.std.proofs.Common.{arith}
 use Rattle.masks.proofs.Keeps.{below_more}
 use Rattle.masks.proofs.keep.first_from.Goals as goal
 

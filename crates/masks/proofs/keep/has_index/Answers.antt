@@ -1,5 +1,5 @@
 -- The word of the index, or none.
-use Rattle.std.proofs.Common.{◌≡◌, ◌≢◌, ◌<◌, ◌≤◌, ◌∙◌, length, get_or, refl, arith}
+use Rattle.std.proofs.Common.{◌≡◌, ◌≢◌, ◌<◌, length, get_or, arith}
 use Rattle.std.proofs.lemmas.Bool.Decides.{nat_tests}
 use Rattle.masks.proofs.Keeps.{word_found, word_absent}
 use Rattle.masks.proofs.keep.has_index.Goals as goal

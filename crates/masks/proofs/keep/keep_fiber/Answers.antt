@@ -1,6 +1,5 @@
 -- One entry more is kept, or passed over.
-use Rattle.std.proofs.Common.{◌≡◌, ◌∙◌, ◌+◌, ◌<◌, ◌≤◌, ℕ, Bool, true, false, length, get_or, set, take, drop, ap, sym, refl, arith, length-drop}
-use Rattle.std.specs.List.{All, AllPairs}
+use Rattle.std.proofs.Common.{◌≡◌, ◌∙◌, ◌+◌, ◌<◌, ◌≤◌, ℕ, Bool, true, false, length, get_or, set, take, drop, sym, refl, arith, length-drop}
 use mir.Val.{bool_byte}
 use Rattle.std.proofs.lemmas.List.{drop-set-lt, drop_more, get_or-drop, get_or-set_other, length-set}
 use Rattle.std.proofs.lemmas.List.Elements.{All-weaker}

@@ -1,8 +1,7 @@
 -- One fiber more.
-use Rattle.std.proofs.Common.{◌≡◌, ◌∙◌, ◌+◌, ◌-◌, ◌<◌, ◌≤◌, length, get_or, take, drop, refl, rules, arith, length-take, length-drop}
+use Rattle.std.proofs.Common.{◌∙◌, ◌+◌, ◌-◌, ◌≤◌, get_or, drop, refl, rules, arith, length-take, length-drop}
 use Rattle.std.proofs.lemmas.List.{length-set}
 use mir.Val.{bool_byte}
-use borrow.Rule.Slice.PartMut.{put_mid}
 use Rattle.store.specs.Fibers.{end_at, entries_from}
 use Rattle.masks.proofs.Keeping.{IsNext, keeping_all, keeping_more, keeping_none, lent_part, next_fiber, next_rises}
 use Rattle.masks.proofs.Unites.{length_put}

@@ -1,4 +1,4 @@
-use Rattle.std.proofs.Common.{◌≡◌, ◌≢◌, ◌⊎◌, ◌<◌, ◌≤◌, length, get_or, refl, inl, inr, arith}
+use Rattle.std.proofs.Common.{◌≡◌, ◌⊎◌, ◌<◌, ◌≤◌, length, get_or, refl, inl, inr, arith}
 use mir.Val.{bool_byte}
 use Rattle.masks.proofs.Merges.{along_none, left_along, right_along, along_all, side_along}
 use Rattle.masks.proofs.merge.merge_fiber.Goals as goal

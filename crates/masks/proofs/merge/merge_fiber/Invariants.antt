@@ -1,4 +1,4 @@
-use Rattle.std.proofs.Common.{ℕ, length, ◌-◌, ◌+◌, ◌<◌, ◌≤◌}
+use Rattle.std.proofs.Common.{length, ◌-◌, ◌+◌, ◌<◌, ◌≤◌}
 use Rattle.masks.proofs.Merges.{IsAlong}
 use Rattle.masks.proofs.merge.merge_fiber.Given as goal
 

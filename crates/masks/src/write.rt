@@ -1,0 +1,160 @@
+//! The write-back: what a call leaves in its output.
+ghost use Rattle.std.specs.Prelude.{◌≡◌, ℕ, ◌<◌, ◌≤◌, if◌then◌else◌, Bool, Option, IfOk, IfSome, None, true, false};
+ghost use Rattle.std.specs.Option.{option_map};
+ghost use Rattle.algebra.specs.OperatorNames.{op_named};
+ghost use Rattle.algebra.specs.declared.operator_names.OpName.{OpName};
+ghost use Rattle.model.specs.WriteBack.{accumulated};
+ghost use Rattle.store.specs.Stored.{block_content, content_of};
+ghost use Rattle.masks.specs.Keeps.{lets_word};
+ghost use Rattle.masks.specs.Writes.{written_at, written_by};
+
+use crate::MaskView;
+use crate::blocks::{join_block, join_blocks, keep_block};
+use algebra::BinaryOp;
+use model::NoMemory;
+use std::alloc::Global;
+use store::{RowBlock, Store};
+
+/// The rows of `t` of what a call leaves in its output: in the mask set what it computed, `t`, accumulated
+/// by an operator into what was there, `old`, or in its place; and outside it what was there, or nothing
+/// where the call replaces (`GrB_REPLACE`).
+///
+/// The work is over the entries of `old`, of `t` and of the mask's store in these rows; a complement never
+/// lists the grid. `t` is taken over, and what is left stands in its memory where nothing has to be merged.
+pub fn write_back(
+    alloc: Global,
+    old: &Store,
+    t: RowBlock,
+    mask: MaskView<'_>,
+    accum: Option<BinaryOp>,
+    replace: bool,
+) -> Result<RowBlock, NoMemory>
+    requires cols { t.cols ≡ old.now.cols }
+    requires mask { IfSome mask.store (λ store. store.now.cols ≡ old.now.cols) }
+    ensures first { IfOk result (λ block. block.first ≡ t.first) }
+    ensures past { IfOk result (λ block. block.past ≡ t.past) }
+    ensures cols { IfOk result (λ block. block.cols ≡ t.cols) }
+    ensures words { IfOk result (λ block. (i j : ℕ) → t.first ≤ i → i < t.past → block_content block i j
+        ≡ written_by mask.entry (option_map op_named accum) replace (content_of old.now) (block_content t) i j) }
+{
+    match mask.store {
+        Some(stored) => write_under(alloc, old, t, &mask, stored, accum, replace),
+        None if mask.complement => write_nowhere(alloc, old, t, replace),
+        None => write_all(alloc, old, t, accum),
+    }
+}
+
+/// Every position is written.
+fn write_all(
+    alloc: Global,
+    old: &Store,
+    t: RowBlock,
+    accum: Option<BinaryOp>,
+) -> Result<RowBlock, NoMemory>
+    requires { t.cols ≡ old.now.cols }
+    ensures first { IfOk result (λ block. block.first ≡ t.first) }
+    ensures past { IfOk result (λ block. block.past ≡ t.past) }
+    ensures cols { IfOk result (λ block. block.cols ≡ t.cols) }
+    ensures words { IfOk result (λ block. (replace : Bool) (i j : ℕ) → t.first ≤ i → i < t.past → block_content block i j
+        ≡ written_at (option_map op_named accum) replace true (content_of old.now i j) (block_content t i j)) }
+{
+    match accum {
+        Some(op) => accumulate(alloc, old, t, op),
+        None => Ok(t),
+    }
+}
+
+/// No position is written: what was there stays, or goes where the call replaces.
+fn write_nowhere(
+    alloc: Global,
+    old: &Store,
+    t: RowBlock,
+    replace: bool,
+) -> Result<RowBlock, NoMemory>
+    requires { t.cols ≡ old.now.cols }
+    ensures first { IfOk result (λ block. block.first ≡ t.first) }
+    ensures past { IfOk result (λ block. block.past ≡ t.past) }
+    ensures cols { IfOk result (λ block. block.cols ≡ t.cols) }
+    ensures words { IfOk result (λ block. (accum : Option OpName) (i j : ℕ) → t.first ≤ i → i < t.past
+        → block_content block i j
+        ≡ written_at accum replace false (content_of old.now i j) (block_content t i j)) }
+{
+    if replace {
+        Ok(RowBlock::new(alloc, t.first(), t.past(), t.cols()))
+    } else {
+        old.copy_rows(alloc, t.first()..t.past())
+    }
+}
+
+/// The positions are written that a mask with the store `stored` lets through.
+fn write_under(
+    alloc: Global,
+    old: &Store,
+    t: RowBlock,
+    mask: &MaskView<'_>,
+    stored: &Store,
+    accum: Option<BinaryOp>,
+    replace: bool,
+) -> Result<RowBlock, NoMemory>
+    requires cols { t.cols ≡ old.now.cols }
+    requires mask { stored.now.cols ≡ old.now.cols }
+    ensures first { IfOk result (λ block. block.first ≡ t.first) }
+    ensures past { IfOk result (λ block. block.past ≡ t.past) }
+    ensures cols { IfOk result (λ block. block.cols ≡ t.cols) }
+    ensures words { IfOk result (λ block. (i j : ℕ) → t.first ≤ i → i < t.past → block_content block i j
+        ≡ written_at (option_map op_named accum) replace (lets_word mask.now (content_of stored.now i j))
+        (content_of old.now i j) (block_content t i j)) }
+{
+    let inside = keep_block(t, mask, stored);
+    match (accum, replace) {
+        (None, true) => Ok(inside),
+        (None, false) => {
+            let others = MaskView {
+                complement: !mask.complement,
+                ..*mask
+            };
+            let rest = old_rows(alloc, old, &inside, &others, stored)?;
+            join_blocks(alloc, rest, inside, None)
+        }
+        (Some(op), true) => {
+            let kept = old_rows(alloc, old, &inside, mask, stored)?;
+            join_blocks(alloc, kept, inside, Some(op))
+        }
+        (Some(op), false) => accumulate(alloc, old, inside, op),
+    }
+}
+
+/// What a mask keeps of what was there in the rows of a block.
+fn old_rows(
+    alloc: Global,
+    old: &Store,
+    block: &RowBlock,
+    mask: &MaskView<'_>,
+    stored: &Store,
+) -> Result<RowBlock, NoMemory>
+    requires { stored.now.cols ≡ old.now.cols }
+    ensures first { IfOk result (λ rows. rows.first ≡ block.now.first) }
+    ensures past { IfOk result (λ rows. rows.past ≡ block.now.past) }
+    ensures cols { IfOk result (λ rows. rows.cols ≡ old.now.cols) }
+    ensures words { IfOk result (λ rows. (i j : ℕ) → block.now.first ≤ i → i < block.now.past → block_content rows i j
+        ≡ (if lets_word mask.now (content_of stored.now i j) then content_of old.now i j else None)) }
+{
+    let rows = old.copy_rows(alloc, block.first()..block.past())?;
+    Ok(keep_block(rows, mask, stored))
+}
+
+/// Accumulates what was computed into what was there, at every position.
+fn accumulate(alloc: Global, old: &Store, t: RowBlock, op: BinaryOp) -> Result<RowBlock, NoMemory>
+    requires { t.cols ≡ old.now.cols }
+    ensures first { IfOk result (λ block. block.first ≡ t.first) }
+    ensures past { IfOk result (λ block. block.past ≡ t.past) }
+    ensures cols { IfOk result (λ block. block.cols ≡ t.cols) }
+    ensures words { IfOk result (λ block. (i j : ℕ) → t.first ≤ i → i < t.past → block_content block i j
+        ≡ accumulated (op_named op) (content_of old.now i j) (block_content t i j)) }
+{
+    let (first, past) = (t.first(), t.past());
+    if t.is_empty() {
+        return old.copy_rows(alloc, first..past);
+    }
+    join_block(alloc, old.fibers_in(first..past), t, Some(op))
+}
