@@ -42,10 +42,16 @@ fn parts_silence_from_syntax(rt: HostRuntime) {
         b"get A 18446744073709551616",
         b"set A 0 0 -9223372036854775809",
         b"matrix A USER:1 1 1",
-        b"mxm C M - PLUS.TIMES.INT64 A B -",
+        b"vector V INT64 1 1",
+        b"free",
+        b"clear A 1",
+        b"remove A",
+        b"mxm C 1M - PLUS.TIMES.INT64 A B -",
+        b"vxm C - PLUS PLUS.TIMES.INT64 A B -",
         b"mxm C - - MINUS.TIMES.INT64 A B -",
         b"mxm C - - PLUS.TIMES.INT64.INT64 A B -",
-        b"mxm C - - PLUS.TIMES.INT64 A B R",
+        b"mxm C - - PLUS.TIMES.INT64 A B R,R",
+        b"mxm C - - PLUS.TIMES.INT64 A B T0",
         b"mxm C - - PLUS.TIMES.INT64 A B",
     ] {
         let syntax = matches!(parse_line(alloc, line), Err(LineFault::Syntax));

@@ -7,7 +7,9 @@ ghost use Rattle.session.specs.Results.{IsStoreOf};
 
 use crate::sessions::{PLUS_TIMES, plain};
 use algebra::Domain;
-use calls::{Call, Checked, Obj, Operation, Out, Place, Recipe, Roles, Shape, by_role, check};
+use calls::{
+    Call, Checked, Form, Obj, Operation, Out, Place, Recipe, Roles, Shape, by_role, check,
+};
 use kernel::{eval_piece, join};
 use model::Status;
 use session::Session;
@@ -61,8 +63,12 @@ fn evaluates_a_part_of_the_rows(rt: HostRuntime) -> Result<(), Status> {
     ] {
         session.set(object, place, value)?;
     }
-    let ring = PLUS_TIMES;
-    let (recipe, stores) = recipe_on(&session, &plain(c), &Operation::Multiply { ring, a, b })?;
+    let (form, ring) = (Form::MatrixMatrix, PLUS_TIMES);
+    let (recipe, stores) = recipe_on(
+        &session,
+        &plain(c),
+        &Operation::Multiply { form, ring, a, b },
+    )?;
     let rows = recipe.signatures.of(recipe.out.c).shape.rows();
     assert_eq!(rt; rows, 3);
     let part = eval_piece(alloc, &recipe, &stores, 1..2)?;

@@ -6,7 +6,7 @@ use std::alloc::Global;
 use std::test::Fail;
 
 /// What a run leaves of an output that had a line.
-fn answers(alloc: Global, script: &[u8]) -> Result<String, Fail> {
+pub(crate) fn answers(alloc: Global, script: &[u8]) -> Result<String, Fail> {
     let mut out = Vec::from_slice(alloc, b"before\n")?;
     run(alloc, script, &mut out)?;
     Ok(str::from_utf8(&out)?.to_string(alloc)?)
@@ -48,7 +48,7 @@ fn tests_in_order(rt: HostRuntime) -> Result<(), Fail> {
 }
 
 /// The answers that the slow plain evaluator gives, after what the output had.
-fn plain_answers(alloc: Global, script: &[u8]) -> Result<String, Fail> {
+pub(crate) fn plain_answers(alloc: Global, script: &[u8]) -> Result<String, Fail> {
     let mut environment = PlainEnvironment::new(alloc);
     let mut text = String::from_str(alloc, "before\n")?;
     for (index, line) in script.split(|b| *b == b'\n').enumerate() {
@@ -92,8 +92,8 @@ fn agrees_with_the_plain_evaluator(rt: HostRuntime) -> Result<(), Fail> {
     Ok(())
 }
 
-/// Scripts with a sum of 0, an empty product, a sum that wraps, and refusals.
-const WORKED: [&str; 4] = [
+/// Scripts with a sum of 0, an empty product, a sum that wraps, refusals, and a vector under a mask.
+const WORKED: [&str; 5] = [
     "matrix A INT64 1 2\nmatrix B INT64 2 1\nmatrix C INT64 1 1\nset A 0 0 1\nset A 0 1 1\nset B 0 0 5\n\
         set B 1 0 -5\nmxm C - - PLUS.TIMES.INT64 A B -\nnvals C\nget C 0 0\nprint C\n",
     "matrix A INT64 3 3\nmatrix C INT64 3 3\nmxm C - - PLUS.TIMES.INT64 A A -\nnvals C\nprint C\n",
@@ -101,6 +101,8 @@ const WORKED: [&str; 4] = [
         set B 0 0 1\nmxm C - - MIN.PLUS.INT64 A B -\nget C 0 0\n",
     "# x\n\nbogus\nmatrix A INT64 4294967296 1\nmatrix B INT64 4294967297 1\nmatrix A INT64 1 1\nnvals Q\n\
         set A 4294967296 0 1\nset A 4294967295 0 1\nget A 4294967295 0\n",
+    "vector U INT64 2\nvector M BOOL 2\nmatrix A INT64 2 2\nset U 1 3\nset A 1 0 2\nset M 0 0\n\
+        vxm U M PLUS.INT64 PLUS.TIMES.INT64 U A R,C\nprint U\nremove U 0\nclear A\nfree U\nnvals U\n",
 ];
 
 #[test]

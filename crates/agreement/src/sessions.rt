@@ -1,5 +1,5 @@
 //! Calls on objects by number.
-use algebra::{BinaryKind, Domain, MonoidKind, RingName};
+use algebra::{BinaryKind, Domain, MonoidKind, OpName, RingName};
 use model::{Call, Desc, GREATEST_DIMENSION, MOST_OBJECTS, Out, Place, Shape, Status};
 use session::{Obj, Reply, Session};
 
@@ -157,15 +157,86 @@ fn tells_the_first_fault_of_a_product(rt: HostRuntime) -> Result<(), Status> {
             "{c:?} {a:?} {b:?}"
         );
     }
-    let masked = Out {
-        mask: Some(c),
-        ..plain(c)
-    };
-    assert_eq!(rt;
-        session.mxm(&masked, PLUS_TIMES, a, b),
-        Err(Status::NotImplemented)
-    );
     assert_eq!(rt; session.mxm(&plain(c), PLUS_TIMES, a, b), Ok(()));
+    Ok(())
+}
+
+const PLUS: OpName = OpName {
+    kind: BinaryKind::Plus,
+    domain: Domain::Int64,
+};
+
+// It is on BOOL, and no accumulator of INT64.
+const LOR: OpName = OpName {
+    kind: BinaryKind::Lor,
+    domain: Domain::Bool,
+};
+
+#[test]
+fn tells_the_first_fault_of_an_output(rt: HostRuntime) -> Result<(), Status> {
+    let mut session = Session::new(rt.alloc());
+    let a = session.create(Domain::Int64, Shape::Two(2, 3))?;
+    let b = session.create(Domain::Int64, Shape::Two(3, 2))?;
+    let c = session.create(Domain::Int64, Shape::Two(2, 2))?;
+    let v = session.create(Domain::Int64, Shape::One(2))?;
+    let user = session.create(Domain::User(3), Shape::Two(2, 2))?;
+    let structure = Desc {
+        structure: true,
+        ..plain(c).desc
+    };
+    let turned = Desc {
+        turn_first: true,
+        ..plain(c).desc
+    };
+    let valued = plain(c).desc;
+    for (mask, accum, desc, want) in [
+        (NONE, PLUS, valued, Err(Status::UninitializedObject)),
+        (v, LOR, valued, Err(Status::WrongKind)),
+        (user, LOR, valued, Err(Status::NotImplemented)),
+        (c, PLUS, turned, Err(Status::NotImplemented)),
+        (user, PLUS, valued, Err(Status::DomainMismatch)),
+        (a, PLUS, valued, Err(Status::DimensionMismatch)),
+        (user, PLUS, structure, Ok(())),
+        (c, PLUS, valued, Ok(())),
+    ] {
+        let out = Out {
+            c,
+            mask: Some(mask),
+            accum: Some(accum),
+            desc,
+        };
+        assert_eq!(rt; session.mxm(&out, PLUS_TIMES, a, b), want, "{mask:?}");
+    }
+    Ok(())
+}
+
+#[test]
+fn clears_removes_and_multiplies_vectors(rt: HostRuntime) -> Result<(), Status> {
+    let mut session = Session::new(rt.alloc());
+    let a = session.create(Domain::Int64, Shape::Two(2, 3))?;
+    let u = session.create(Domain::Int64, Shape::One(2))?;
+    let w = session.create(Domain::Int64, Shape::One(3))?;
+    session.set(a, Place::Two(1, 2), 4)?;
+    session.set(u, Place::One(1), 5)?;
+    session.set(u, Place::One(0), 6)?;
+    session.vxm(&plain(w), PLUS_TIMES, u, a)?;
+    assert_eq!(rt;
+        (session.nvals(w)?, session.get(w, Place::One(2))?),
+        (1, 20)
+    );
+    session.mxv(&plain(u), PLUS_TIMES, a, w)?;
+    assert_eq!(rt;
+        (session.nvals(u)?, session.get(u, Place::One(1))?),
+        (1, 80)
+    );
+    assert_eq!(rt; session.remove(u, Place::One(0)), Ok(()));
+    assert_eq!(rt; session.remove(u, Place::One(1)), Ok(()));
+    assert_eq!(rt; session.nvals(u)?, 0);
+    assert_eq!(rt; session.remove(u, Place::One(2)), Err(Status::InvalidIndex));
+    assert_eq!(rt; session.remove(a, Place::One(0)), Err(Status::WrongKind));
+    session.clear(a)?;
+    assert_eq!(rt; session.nvals(a)?, 0);
+    assert_eq!(rt; session.clear(NONE), Err(Status::UninitializedObject));
     Ok(())
 }
 

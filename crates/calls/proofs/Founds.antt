@@ -39,9 +39,9 @@ fault-no_input count out operation h = missing count out operation (nor {L = Sig
 fault-some : (count : ℕ) (out : Out Signature) (operation : Operation Signature)
     → early_fault count (Operate (renamed_out Some out) (renamed_operation Some operation)) ≡ operation_fault out operation
 unfolding early_fault operation_fault
-fault-some count out (Multiply ring a b) =
+fault-some count out (Multiply form ring a b) =
     elim out.mask as (λ (mask : Option Signature). let o : Out Signature = record out { mask = mask } in
-    early_fault count (Operate (renamed_out Some o) (renamed_operation Some (Multiply ring a b))) ≡ operation_fault o (Multiply ring a b))
+    early_fault count (Operate (renamed_out Some o) (renamed_operation Some (Multiply form ring a b))) ≡ operation_fault o (Multiply form ring a b))
     [ None ↦ refl | Some m ↦ refl ]
 
 pub fault-known : (count : ℕ) (known_out : Out Signature) (known : Operation Signature) (out : Out (Option Signature)) (operation : Operation (Option Signature))

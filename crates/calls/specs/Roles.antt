@@ -16,11 +16,11 @@ role_of roles Second = roles.second
 
 -- the objects of an operation by their roles
 abbrev pub roles_of : {K : Type 0} → Out K → Operation K → Roles K
-roles_of out (Multiply ring a b) = record { old = out.c; mask = unwrap_or out.mask out.c; first = a; second = b }
+roles_of out (Multiply form ring a b) = record { old = out.c; mask = unwrap_or out.mask out.c; first = a; second = b }
 
 -- an output and an operation whose objects are roles
 abbrev pub out_by_role : {K : Type 0} → Out K → Out Role
 out_by_role out = record { c = Old; mask = option_map (λ mask. Mask) out.mask; accum = out.accum; desc = out.desc }
 
 abbrev pub operation_by_role : {K : Type 0} → Operation K → Operation Role
-operation_by_role (Multiply ring a b) = Multiply ring First Second
+operation_by_role (Multiply form ring a b) = Multiply form ring First Second

@@ -6,4 +6,4 @@ use Rattle.model.specs.declared.call.Operation.TheVariants as operation
 
 -- the operation whose operators were found
 abbrev pub called : {K : Type 0} → Step K → Operation K
-called step = operation.Multiply (ring_named step.ring) step.a step.b
+called step = operation.Multiply step.form (ring_named step.ring) step.a step.b

@@ -35,8 +35,13 @@ pub fn check<N, S: Shapes>(call: &Call<Obj, N>, shapes: &S) -> Result<Checked, S
             place,
             value,
         } => check_set(shapes, *object, *place, *value)?,
-        Call::Get { object, place } => check_get(shapes, *object, *place)?,
-        Call::Nvals { object } | Call::Print { object } => check_there(shapes, *object)?,
+        Call::Remove { object, place } | Call::Get { object, place } => {
+            check_place(shapes, *object, *place)?;
+        }
+        Call::Free { object }
+        | Call::Clear { object }
+        | Call::Nvals { object }
+        | Call::Print { object } => check_there(shapes, *object)?,
         Call::Operate { out, operation } => {
             return Ok(Checked::Operation(check_operate(shapes, out, operation)?));
         }
@@ -87,8 +92,9 @@ fn check_set<S: Shapes>(shapes: &S, object: Obj, place: Place, value: i128) -> R
 }
 
 #[tactic(auto, unfolding(model::specs::Fault::early_fault))]
-fn check_get<S: Shapes>(shapes: &S, object: Obj, place: Place) -> Result<(), Status>
-    ensures { Decides (early_fault (S.count shapes.now) (Call.Get (S.known shapes.now object) place)) result }
+fn check_place<S: Shapes>(shapes: &S, object: Obj, place: Place) -> Result<(), Status>
+    ensures remove { Decides (early_fault (S.count shapes.now) (Call.Remove (S.known shapes.now object) place)) result }
+    ensures get { Decides (early_fault (S.count shapes.now) (Call.Get (S.known shapes.now object) place)) result }
 {
     let Some(Signature { shape, .. }) = signature(shapes, object) else {
         return Err(Status::UninitializedObject);
@@ -104,6 +110,8 @@ fn check_get<S: Shapes>(shapes: &S, object: Obj, place: Place) -> Result<(), Sta
 
 #[tactic(auto, unfolding(model::specs::Fault::early_fault))]
 fn check_there<S: Shapes>(shapes: &S, object: Obj) -> Result<(), Status>
+    ensures free { Decides (early_fault (S.count shapes.now) (Call.Free (S.known shapes.now object))) result }
+    ensures clear { Decides (early_fault (S.count shapes.now) (Call.Clear (S.known shapes.now object))) result }
     ensures nvals { Decides (early_fault (S.count shapes.now) (Call.Nvals (S.known shapes.now object))) result }
     ensures print { Decides (early_fault (S.count shapes.now) (Call.Print (S.known shapes.now object))) result }
 {
@@ -161,10 +169,10 @@ fn known_operation<S: Shapes>(
         MatchOption result (IsMissing (inputs_of found)) (λ known. renamed_operation Some known ≡ found) }
 {
     match *operation {
-        Operation::Multiply { ring, a, b } => {
+        Operation::Multiply { form, ring, a, b } => {
             let a = signature(shapes, a)?;
             let b = signature(shapes, b)?;
-            Some(Operation::Multiply { ring, a, b })
+            Some(Operation::Multiply { form, ring, a, b })
         }
     }
 }

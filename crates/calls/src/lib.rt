@@ -10,7 +10,7 @@ mod role;
 mod step;
 
 pub use checking::{Checked, check};
-pub use model::{Call, Desc, Operation, Out, Place, Shape, Signature};
+pub use model::{Call, Desc, Form, Operation, Out, Place, Shape, Signature};
 pub use obj::{Obj, Shapes};
 pub use recipe::Recipe;
 pub use role::{Role, Roles, by_role};

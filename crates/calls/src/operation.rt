@@ -85,13 +85,13 @@ pub(crate) fn check_operation(
     Ok(step)
 }
 
-/// An operation by roles, where its operators and its accumulator are offered, and its output has come.
+/// An operation by roles, where its operators and its accumulator are offered, and its flags have come.
 fn implemented(out: &Out<Signature>, operation: &Operation<Signature>) -> Option<Step<Role>>
     ensures { MatchOption result (is_implemented out.now operation.now ≡ false)
         (λ step. (is_implemented out.now operation.now ≡ true) × (called step ≡ operation_by_role operation.now)) }
 {
     let step = resolved(operation)?;
-    if !out.has_come() || !accumulator_serves(out) {
+    if !out.desc.has_come() || !accumulator_serves(out) {
         return None;
     }
     Some(step)

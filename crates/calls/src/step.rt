@@ -6,12 +6,13 @@ ghost use Rattle.model.specs.Table.{is_offered};
 
 use crate::role::Role;
 use algebra::Semiring;
-use model::Operation;
+use model::{Form, Operation};
 
 /// An operation whose operators are offered, with these in the place of their names: so far the product
-/// of two matrices over a semiring, and an enum of operations once there is another.
+/// of two factors over a semiring, and an enum of operations once there is another.
 #[derive(Clone, Copy)]
 pub struct Step<K> {
+    pub form: Form,
     pub ring: Semiring,
     pub a: K,
     pub b: K,
@@ -23,9 +24,10 @@ pub(crate) fn resolved<K>(operation: &Operation<K>) -> Option<Step<Role>>
         (λ step. (is_offered operation.now ≡ true) × (called step ≡ operation_by_role operation.now)) }
 {
     match operation {
-        Operation::Multiply { ring, .. } => {
+        Operation::Multiply { form, ring, .. } => {
             let ring = ring.resolve()?;
             Some(Step {
+                form: *form,
                 ring,
                 a: Role::First,
                 b: Role::Second,

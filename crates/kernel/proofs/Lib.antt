@@ -1,3 +1,4 @@
 pub mod Accepted
-pub mod ProductLaws
+pub mod FactorLaws
+pub mod MaskLaws
 pub mod Wholes

@@ -1,2 +1,4 @@
+pub mod Blocks
 pub mod Casts
 pub mod Evaluated
+pub mod Factors

@@ -2,6 +2,7 @@
 #![tactic(auto)]
 
 mod casts;
+mod output;
 mod piece;
 mod product;
 

@@ -2,12 +2,15 @@
 ghost use Rattle.std.specs.Prelude.{◌≡◌, ℕ, ◌<◌, ◌≤◌, IfOk};
 ghost use Rattle.calls.specs.Recipes.{meaning};
 ghost use Rattle.calls.specs.Roles.{role_of};
-ghost use Rattle.kernel.specs.Evaluated.{AreInputs, object_in, output_of};
+ghost use Rattle.kernel.specs.Blocks.{HasRows, HasShape, masked};
+ghost use Rattle.kernel.specs.Evaluated.{AreInputs, computed, object_in, output_of};
 ghost use Rattle.model.specs.Object.{IsWithin, cols_of, rows_of};
 ghost use Rattle.store.specs.Stored.{block_content, content_of};
 
-use crate::product::{Input, product_rows};
+use crate::output::{accumulator_of, mask_of};
+use crate::product::{Factors, Input, product_rows};
 use calls::{Recipe, Role, Roles};
+use masks::{MaskView, write_back};
 use model::NoMemory;
 use std::alloc::Global;
 use std::ops::Range;
@@ -22,6 +25,32 @@ fn input<'a>(recipe: &Recipe, stores: &Roles<&'a Store>, role: Role) -> Input<'a
         store: stores.of(role),
         domain: recipe.signatures.of(role).domain,
     }
+}
+
+/// The rows in a range of what a recipe's operation computes, in the output's domain, at the positions
+/// that a mask lets through.
+fn computed_rows(
+    alloc: Global,
+    recipe: &Recipe,
+    stores: &Roles<&Store>,
+    mask: MaskView<'_>,
+    range: Range<u64>,
+) -> Result<RowBlock, NoMemory>
+    requires inputs { AreInputs recipe.now (λ role. (role_of stores.now role).now) }
+    requires range { range.start ≤ range.end }
+    requires rows { range.end ≤ rows_of (output_of recipe.now).shape }
+    requires mask { HasShape (rows_of (output_of recipe.now).shape) (cols_of (output_of recipe.now).shape) mask }
+    ensures { IfOk result (HasRows range.start range.end (cols_of (output_of recipe.now).shape)
+        (masked mask.entry (computed recipe.now (object_in recipe.now (λ role. (role_of stores.now role).now))))) }
+{
+    let to = recipe.signatures.of(recipe.out.c).domain;
+    let factors = Factors {
+        form: recipe.step.form,
+        ring: recipe.step.ring,
+        a: input(recipe, stores, recipe.step.a),
+        b: input(recipe, stores, recipe.step.b),
+    };
+    product_rows(alloc, factors, mask, to, range)
 }
 
 /// The rows in a range of what a recipe gives of the stores that take its roles: its operation's
@@ -43,10 +72,17 @@ pub fn eval_piece(
         → block_content block i j ≡ meaning recipe.now
         (object_in recipe.now (λ role. (role_of stores.now role).now)) i j) }
 {
-    let to = recipe.signatures.of(recipe.out.c).domain;
-    let a = input(recipe, stores, recipe.step.a);
-    let b = input(recipe, stores, recipe.step.b);
-    product_rows(alloc, recipe.step.ring, a, b, to, range)
+    let mask = mask_of(recipe, stores);
+    let t = computed_rows(alloc, recipe, stores, mask, range)?;
+    let old = stores.of(recipe.out.c);
+    write_back(
+        alloc,
+        old,
+        t,
+        mask,
+        accumulator_of(recipe),
+        recipe.out.desc.replace,
+    )
 }
 
 /// The store of what a recipe gives, of the block that holds all its rows, whose lists it takes over.

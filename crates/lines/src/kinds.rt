@@ -1,7 +1,7 @@
 //! Words with parts: the names of operators and semirings, and flags.
 ghost use Rattle.std.specs.Prelude.{◌≡◌, ◌==◌, ◌∷◌, [], ◌<◌, length, IfSome, MatchOption};
 ghost use Rattle.std.specs.List.{position, slice_split};
-ghost use Rattle.model.specs.Grammar.{desc_of, flag_added, flags_added, op_name_of, ring_name_of};
+ghost use Rattle.model.specs.Grammar.{desc_of, flag_added, flags_added, flags_of, op_name_of, ring_name_of};
 
 use crate::words;
 use algebra::{BinaryKind, MonoidKind, OpName, RingName};
@@ -101,9 +101,8 @@ fn flags_added(desc: Desc, word: &[u8]) -> Option<Desc>
 }
 
 /// A word of flags.
-#[tactic(auto, unfolding(model::specs::Grammar::desc_of))]
-pub fn desc(word: &[u8]) -> Option<Desc>
-    ensures { result ≡ desc_of word.now }
+fn flags(word: &[u8]) -> Option<Desc>
+    ensures { result ≡ flags_of word.now }
 {
     let none = Desc {
         replace: false,
@@ -116,4 +115,16 @@ pub fn desc(word: &[u8]) -> Option<Desc>
         return Some(none);
     }
     flags_added(none, word)
+}
+
+/// A word of flags that have come.
+#[tactic(auto, unfolding(model::specs::Grammar::desc_of))]
+pub fn desc(word: &[u8]) -> Option<Desc>
+    ensures { result ≡ desc_of word.now }
+{
+    let desc = flags(word)?;
+    if !desc.has_come() {
+        return None;
+    }
+    Some(desc)
 }

@@ -1,14 +1,13 @@
 //! The calls of operations: C, MASK, ACCUM and DESC are read here for all of them.
 ghost use Rattle.std.specs.Prelude.{◌≡◌, map};
 ghost use Rattle.std.specs.Option.{option_map};
-ghost use Rattle.model.specs.Come.{out_has_come};
 ghost use Rattle.model.specs.Grammar.{is_none_word, multiply_of, name_of, op_name_of, operate_of, operation_of};
-ghost use Rattle.model.specs.Grammar.{out_of_words, perhaps, where_it};
+ghost use Rattle.model.specs.Grammar.{out_of_words, perhaps};
 ghost use Rattle.model.specs.Renamed.{renamed, renamed_operation, renamed_out};
 
 use crate::{kinds, words};
 use algebra::OpName;
-use model::{Call, Operation, Out};
+use model::{Call, Form, Operation, Out};
 
 /// Whether a word stands for no mask, no accumulator or no flags.
 fn is_none(word: &[u8]) -> bool
@@ -59,9 +58,9 @@ fn out<'a>(words: &[&'a [u8]]) -> Option<Out<&'a str>>
 
 /// `RING A B`
 #[tactic(auto, unfolding(model::specs::Grammar::multiply_of))]
-fn multiply<'a>(words: &[&'a [u8]]) -> Option<Operation<&'a str>>
+fn multiply<'a>(form: Form, words: &[&'a [u8]]) -> Option<Operation<&'a str>>
     ensures { option_map (renamed_operation (λ name. name.now)) result
-        ≡ multiply_of (map (λ word. word.now) words.now) }
+        ≡ multiply_of form (map (λ word. word.now) words.now) }
 {
     if words.len() != 8 {
         return None;
@@ -69,7 +68,7 @@ fn multiply<'a>(words: &[&'a [u8]]) -> Option<Operation<&'a str>>
     let ring = kinds::ring_name(words[4])?;
     let a = words::name(words[5])?;
     let b = words::name(words[6])?;
-    Some(Operation::Multiply { ring, a, b })
+    Some(Operation::Multiply { form, ring, a, b })
 }
 
 /// The words between ACCUM and DESC, by the first word.
@@ -80,22 +79,14 @@ fn operation<'a>(words: &[&'a [u8]]) -> Option<Operation<&'a str>>
 {
     let called = *words.first()?;
     if called == b"mxm".as_slice() {
-        multiply(words)
+        multiply(Form::MatrixMatrix, words)
+    } else if called == b"mxv".as_slice() {
+        multiply(Form::MatrixVector, words)
+    } else if called == b"vxm".as_slice() {
+        multiply(Form::VectorMatrix, words)
     } else {
         None
     }
-}
-
-/// The output, its mask, accumulator and flags, where they are such as have come.
-fn known_out<'a>(words: &[&'a [u8]]) -> Option<Out<&'a str>>
-    ensures { option_map (renamed_out (λ name. name.now)) result
-        ≡ where_it out_has_come (out_of_words (map (λ word. word.now) words.now)) }
-{
-    let out = out(words)?;
-    if !out.has_come() {
-        return None;
-    }
-    Some(out)
 }
 
 /// An operation's call.
@@ -105,6 +96,6 @@ pub fn operate<'a>(words: &[&'a [u8]]) -> Option<Call<&'a str, &'a str>>
         ≡ operate_of (map (λ word. word.now) words.now) }
 {
     let operation = operation(words)?;
-    let out = known_out(words)?;
+    let out = out(words)?;
     Some(Call::Operate { out, operation })
 }

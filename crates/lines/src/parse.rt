@@ -3,8 +3,9 @@ ghost use Rattle.std.specs.Prelude.{◌≡◌, ◌==◌, ◌||◌, ◌+◌, ◌<
 ghost use Rattle.std.specs.List.{list_all};
 ghost use Rattle.std.specs.Option.{option_map, option_map_or};
 ghost use Rattle.lines.specs.Meaning.{Reads};
-ghost use Rattle.model.specs.Grammar.{call_of, get_of, is_blank, is_plain, is_silent, is_well_formed, matrix_of};
-ghost use Rattle.model.specs.Grammar.{nvals_of, place_of, print_of, reading_of, set_of, words_of};
+ghost use Rattle.model.specs.Grammar.{call_of, clear_of, free_of, get_of, is_blank, is_plain, is_silent};
+ghost use Rattle.model.specs.Grammar.{is_well_formed, matrix_of, nvals_of, only_name_of, place_of, print_of};
+ghost use Rattle.model.specs.Grammar.{reading_of, remove_of, set_of, vector_of, words_of};
 ghost use Rattle.model.specs.Renamed.{renamed};
 
 use crate::operations::operate;
@@ -77,8 +78,16 @@ fn call<'a>(words: &[&'a [u8]]) -> Option<Call<&'a str, &'a str>>
     let called = words[0];
     if called == b"matrix".as_slice() {
         matrix(words)
+    } else if called == b"vector".as_slice() {
+        vector(words)
+    } else if called == b"free".as_slice() {
+        free(words)
+    } else if called == b"clear".as_slice() {
+        clear(words)
     } else if called == b"set".as_slice() {
         set(words)
+    } else if called == b"remove".as_slice() {
+        remove(words)
     } else if called == b"get".as_slice() {
         get(words)
     } else if called == b"nvals".as_slice() {
@@ -108,6 +117,54 @@ fn matrix<'a>(words: &[&'a [u8]]) -> Option<Call<&'a str, &'a str>>
         domain,
         shape: Shape::Two(rows, cols),
     })
+}
+
+/// `vector NAME DOMAIN NUM`
+#[tactic(auto, unfolding(model::specs::Grammar::vector_of))]
+fn vector<'a>(words: &[&'a [u8]]) -> Option<Call<&'a str, &'a str>>
+    ensures { option_map (renamed (λ name. name.now) (λ name. name.now)) result
+        ≡ vector_of (map (λ word. word.now) words.now) }
+{
+    if words.len() != 4 {
+        return None;
+    }
+    let name = words::name(words[1])?;
+    let domain = words::domain(words[2])?;
+    let size = words::number(words[3])?;
+    Some(Call::Create {
+        name,
+        domain,
+        shape: Shape::One(size),
+    })
+}
+
+/// The name behind the first word, where nothing else follows.
+#[tactic(auto, unfolding(model::specs::Grammar::only_name_of))]
+fn only_name<'a>(words: &[&'a [u8]]) -> Option<&'a str>
+    ensures { option_map (λ name. name.now) result ≡ only_name_of (map (λ word. word.now) words.now) }
+{
+    if words.len() != 2 {
+        return None;
+    }
+    words::name(words[1])
+}
+
+/// `free NAME`
+fn free<'a>(words: &[&'a [u8]]) -> Option<Call<&'a str, &'a str>>
+    ensures { option_map (renamed (λ name. name.now) (λ name. name.now)) result
+        ≡ free_of (map (λ word. word.now) words.now) }
+{
+    let object = only_name(words)?;
+    Some(Call::Free { object })
+}
+
+/// `clear NAME`
+fn clear<'a>(words: &[&'a [u8]]) -> Option<Call<&'a str, &'a str>>
+    ensures { option_map (renamed (λ name. name.now) (λ name. name.now)) result
+        ≡ clear_of (map (λ word. word.now) words.now) }
+{
+    let object = only_name(words)?;
+    Some(Call::Clear { object })
 }
 
 /// The place behind a name, before so many last words.
@@ -144,6 +201,17 @@ fn set<'a>(words: &[&'a [u8]]) -> Option<Call<&'a str, &'a str>>
     })
 }
 
+/// `remove NAME NUM` or `remove NAME NUM NUM`
+#[tactic(auto, unfolding(model::specs::Grammar::remove_of))]
+fn remove<'a>(words: &[&'a [u8]]) -> Option<Call<&'a str, &'a str>>
+    ensures { option_map (renamed (λ name. name.now) (λ name. name.now)) result
+        ≡ remove_of (map (λ word. word.now) words.now) }
+{
+    let place = place(words, 0)?;
+    let object = words::name(words[1])?;
+    Some(Call::Remove { object, place })
+}
+
 /// `get NAME NUM` or `get NAME NUM NUM`
 #[tactic(auto, unfolding(model::specs::Grammar::get_of))]
 fn get<'a>(words: &[&'a [u8]]) -> Option<Call<&'a str, &'a str>>
@@ -156,27 +224,19 @@ fn get<'a>(words: &[&'a [u8]]) -> Option<Call<&'a str, &'a str>>
 }
 
 /// `nvals NAME`
-#[tactic(auto, unfolding(model::specs::Grammar::nvals_of))]
 fn nvals<'a>(words: &[&'a [u8]]) -> Option<Call<&'a str, &'a str>>
     ensures { option_map (renamed (λ name. name.now) (λ name. name.now)) result
         ≡ nvals_of (map (λ word. word.now) words.now) }
 {
-    if words.len() != 2 {
-        return None;
-    }
-    let object = words::name(words[1])?;
+    let object = only_name(words)?;
     Some(Call::Nvals { object })
 }
 
 /// `print NAME`
-#[tactic(auto, unfolding(model::specs::Grammar::print_of))]
 fn print<'a>(words: &[&'a [u8]]) -> Option<Call<&'a str, &'a str>>
     ensures { option_map (renamed (λ name. name.now) (λ name. name.now)) result
         ≡ print_of (map (λ word. word.now) words.now) }
 {
-    if words.len() != 2 {
-        return None;
-    }
-    let object = words::name(words[1])?;
+    let object = only_name(words)?;
     Some(Call::Print { object })
 }

@@ -1,5 +1,5 @@
 -- Objects keep inside their shapes, and their words are values of their domains.
-use Rattle.std.proofs.Common.{◌≡◌, ℕ, ◌<◌, ◌&&◌, ◌==◌, Bool, true, false, cond, Option, Some, None, refl, sym, ap, arith}
+use Rattle.std.proofs.Common.{◌≡◌, ℕ, ◌<◌, ◌&&◌, ◌==◌, Bool, true, false, cond, not, Option, Some, None, refl, sym, ap, arith}
 use Rattle.std.specs.Prelude.{ℤ, nat_lt}
 use Rattle.std.specs.Option.{option_map}
 use Rattle.std.proofs.lemmas.Bool.{and_parts, eqb-true}
@@ -12,7 +12,8 @@ use Rattle.model.specs.declared.shape.Place.{Place}
 use Rattle.model.specs.declared.shape.Place.TheVariants as place
 use Rattle.model.specs.declared.shape.Shape.{Shape}
 use Rattle.model.specs.declared.shape.Shape.TheVariants.{One, Two}
-use Rattle.model.specs.Object.{AreWordsOf, Content, IsObject, IsWithin, Object, cast_content, col_of, cols_of, empty_object, is_inside, row_of, rows_of, same_shape, turned_object, with_entry}
+use Rattle.model.specs.Object.{AreWordsOf, Content, IsObject, IsWithin, Object, cast_content, col_of, cols_of, empty_object, is_inside, is_matrix, row_of, rows_of, same_shape, turned_object, with_entry}
+use Rattle.model.specs.Object.{without_entry}
 
 pub objects_equal : (a b : Object) → a.domain ≡ b.domain → a.shape ≡ b.shape → ((i j : ℕ) → a.content i j ≡ b.content i j) → a ≡ b
 objects_equal a b domain shape same = λ k. record { domain = domain k; shape = shape k; content = λ i j. same i j k }
@@ -86,6 +87,21 @@ set-is_object o p value is inside =
           (IsWordOf-word_of o.domain value) (is.words i j) set;
     }
 
+removed_within : (at : Bool) (o : Option ℕ) → o ≡ None → cond at None o ≡ None
+removed_within true o none = refl
+removed_within false o none = none
+
+removed_word : (at : Bool) (o : Option ℕ) (word : ℕ) → cond at None o ≡ Some word → o ≡ Some word
+removed_word true o word is = absurd (cc)
+removed_word false o word is = is
+
+-- an object without the entry at a place
+pub removed-is_object : (o : Object) (p : Place) → IsObject o → IsObject (record o { content = without_entry o.content (row_of p) (col_of p) })
+removed-is_object o p is = record {
+  within = λ i j outside. removed_within ((i == row_of p) && (j == col_of p)) (o.content i j) (is.within i j outside);
+  words = λ i j word left. is.words i j word (removed_word ((i == row_of p) && (j == col_of p)) (o.content i j) word left);
+}
+
 -- ---- the transpose
 
 and_turned : (a b : Bool) → (a && b) ≡ false → (b && a) ≡ false
@@ -102,6 +118,11 @@ pub turned-is_object : (o : Object) → IsObject o → IsObject (turned_object o
 turned-is_object o is = turned_as o.domain o.shape o.content is
 
 -- ---- shapes
+
+-- a vector is one column
+pub vector-column : (shape : Shape) → not (is_matrix shape) ≡ true → cols_of shape ≡ 1
+vector-column (One n) h = refl
+vector-column (Two m n) h = absurd (cc)
 
 pub same_shape-rows : (a b : Shape) → same_shape a b ≡ true → (rows_of a ≡ rows_of b) × (cols_of a ≡ cols_of b)
 same_shape-rows (One m) (One n) h = (eqb-true m n h, refl)

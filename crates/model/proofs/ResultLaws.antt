@@ -1,5 +1,5 @@
 -- What an accepted operation leaves in its output is an object again.
-use Rattle.std.proofs.Common.{◌≡◌, ℕ, ◌&&◌, Bool, true, false, cond, List, [], ◌∷◌, Option, Some, None, refl, subst, inl, inr}
+use Rattle.std.proofs.Common.{◌≡◌, ℕ, ◌&&◌, not, Bool, true, false, cond, List, [], ◌∷◌, Option, Some, None, refl, subst, inl, inr}
 use Rattle.std.specs.Prelude.{nat_lt}
 use Rattle.std.specs.List.{All}
 use Rattle.std.specs.Option.{option_map_or}
@@ -8,24 +8,27 @@ use Rattle.std.proofs.lemmas.List.Elements.{All-cons, All-head, All-nil, All-tai
 use Rattle.algebra.proofs.Words.{IsWordOf-eval}
 use Rattle.algebra.specs.declared.domain.Domain.{Domain}
 use Rattle.algebra.specs.declared.operator_names.OpName.{OpName}
+use Rattle.algebra.specs.declared.operator_names.RingName.{RingName}
 use Rattle.algebra.specs.Operators.{answer_domain, eval_of, offers}
 use Rattle.algebra.specs.Value.{IsWordOf, same_domain}
 use Rattle.model.specs.declared.call.Desc.{Desc}
+use Rattle.model.specs.declared.call.Form.TheVariants.{MatrixMatrix, MatrixVector, VectorMatrix}
 use Rattle.model.specs.declared.call.Operation.{Operation}
 use Rattle.model.specs.declared.call.Operation.TheVariants.{Multiply}
 use Rattle.model.specs.declared.call.Out.{Out}
 use Rattle.model.specs.declared.shape.Shape.{Shape}
 use Rattle.model.specs.declared.shape.Shape.TheVariants.{One, Two}
-use Rattle.model.specs.Come.{out_has_come}
 use Rattle.model.specs.Fault.{accumulates, operation_fault, plan_in}
-use Rattle.model.specs.Object.{AreWordsOf, Content, IsObject, IsWithin, Object, cast_content, cols_of, in_domain, rows_of, signature_of, turned_object, turned_signature}
+use Rattle.model.specs.Object.{AreWordsOf, Content, IsObject, IsWithin, Object, cast_content, cols_of, in_domain, is_matrix, rows_of}
+use Rattle.model.specs.Object.{signature_of, turned_content, turned_object, turned_signature}
 use Rattle.model.specs.Operations.{operation}
+use Rattle.model.specs.Product.{product}
 use Rattle.model.specs.Renamed.{inputs_of, renamed_operation, renamed_out}
-use Rattle.model.specs.Table.{is_offered, plan_of, turned, turned_if}
+use Rattle.model.specs.Table.{plan_of, turned, turned_if}
 use Rattle.model.specs.WriteBack.{accumulated, accumulated_by, mask_set, result_of, written}
-use Rattle.model.proofs.ObjectLaws.{cast_content-within, cast_content-words, same_domain-true, same_shape-rows}
+use Rattle.model.proofs.ObjectLaws.{cast_content-within, cast_content-words, same_domain-true, same_shape-rows, vector-column}
 use Rattle.model.proofs.ProductLaws.{product-no_col, product-no_row}
-use Rattle.model.proofs.WriteBackLaws.{accepted-implemented, accepted-shapes}
+use Rattle.model.proofs.WriteBackLaws.{accepted-accumulator, accepted-kinds, accepted-shapes}
 
 -- ---- inside the shape of what is computed
 
@@ -37,29 +40,52 @@ beyond_col false = refl
 abbrev pub KeepsInside : Object → Type 0
 KeepsInside o = IsWithin (rows_of o.shape) (cols_of o.shape) o.content
 
-pub operation-within : (op : Operation Object) → All KeepsInside (inputs_of op)
-    → let shape = (plan_of (renamed_operation signature_of op)).shape in IsWithin (rows_of shape) (cols_of shape) (operation op)
-unfolding operation
-operation-within (Multiply ring a b) inside i j outside =
-    let first = All-head KeepsInside a (b ∷ []) inside in
-    let second = All-head KeepsInside b [] (All-tail KeepsInside a (b ∷ []) inside) in
-    elim (cases_Bool (nat_lt i (rows_of a.shape))) [
-      | inl inside ↦
-          let past : nat_lt j (cols_of b.shape) ≡ false = rw inside at outside in
-          product-no_col ring (cols_of a.shape) (in_domain ring.domain a) (in_domain ring.domain b) i j
-          (λ k. cast_content-within b.domain ring.domain (rows_of b.shape) (cols_of b.shape) b.content second k j (rw past (beyond_col (nat_lt k (rows_of b.shape)))))
-      | inr past ↦
-          product-no_row ring (cols_of a.shape) (in_domain ring.domain a) (in_domain ring.domain b) i j
-          (λ k. cast_content-within a.domain ring.domain (rows_of a.shape) (cols_of a.shape) a.content first i k (rw past refl))
+-- a product of maps that lie inside m rows, and inside n columns
+product-within : (ring : RingName) (inner m n : ℕ) (a b : Content) → ((i k : ℕ) → nat_lt i m ≡ false → a i k ≡ None)
+    → ((k j : ℕ) → nat_lt j n ≡ false → b k j ≡ None) → IsWithin m n (product ring inner a b)
+product-within ring inner m n a b first second i j outside =
+    elim (cases_Bool (nat_lt i m)) [
+      | inl inside ↦ product-no_col ring inner a b i j (λ k. second k j (rw inside at outside))
+      | inr past ↦ product-no_row ring inner a b i j (λ k. first i k past)
     ]
 
--- ---- transposed inputs
+-- an input in another domain has nothing below its rows, and nothing behind its columns
+no_row : (domain : Domain) (o : Object) → KeepsInside o → (i k : ℕ) → nat_lt i (rows_of o.shape) ≡ false → in_domain domain o i k ≡ None
+no_row domain o inside i k past = cast_content-within o.domain domain (rows_of o.shape) (cols_of o.shape) o.content inside i k (rw past refl)
+
+no_col : (domain : Domain) (o : Object) → KeepsInside o → (k j : ℕ) → nat_lt j (cols_of o.shape) ≡ false → in_domain domain o k j ≡ None
+no_col domain o inside k j past =
+    cast_content-within o.domain domain (rows_of o.shape) (cols_of o.shape) o.content inside k j (rw past (beyond_col (nat_lt k (rows_of o.shape))))
 
 and_turned : (a b : Bool) → (a && b) ≡ false → (b && a) ≡ false
 and_turned true true h = h
 and_turned true false h = refl
 and_turned false true h = refl
 and_turned false false h = refl
+
+pub operation-within : (op : Operation Object) → (plan_of (renamed_operation signature_of op)).kinds ≡ true → All KeepsInside (inputs_of op)
+    → let shape = (plan_of (renamed_operation signature_of op)).shape in IsWithin (rows_of shape) (cols_of shape) (operation op)
+unfolding operation
+operation-within (Multiply MatrixMatrix ring a b) kinds inside =
+    let first = All-head KeepsInside a (b ∷ []) inside in
+    let second = All-head KeepsInside b [] (All-tail KeepsInside a (b ∷ []) inside) in
+    product-within ring (cols_of a.shape) (rows_of a.shape) (cols_of b.shape) (in_domain ring.domain a) (in_domain ring.domain b)
+    (no_row ring.domain a first) (no_col ring.domain b second)
+operation-within (Multiply MatrixVector ring a b) kinds inside =
+    let first = All-head KeepsInside a (b ∷ []) inside in
+    let second = All-head KeepsInside b [] (All-tail KeepsInside a (b ∷ []) inside) in
+    let one = vector-column b.shape (and_parts (is_matrix a.shape) (not (is_matrix b.shape)) kinds).1 in
+    product-within ring (cols_of a.shape) (rows_of a.shape) 1 (in_domain ring.domain a) (in_domain ring.domain b)
+    (no_row ring.domain a first) (rw one at (no_col ring.domain b second))
+operation-within (Multiply VectorMatrix ring a b) kinds inside =
+    let first = All-head KeepsInside a (b ∷ []) inside in
+    let second = All-head KeepsInside b [] (All-tail KeepsInside a (b ∷ []) inside) in
+    let one = vector-column a.shape (and_parts (not (is_matrix a.shape)) (is_matrix b.shape) kinds).0 in
+    λ i j outside. product-within ring (rows_of a.shape) 1 (cols_of b.shape) (turned_content (in_domain ring.domain a)) (in_domain ring.domain b)
+    (λ i k past. no_col ring.domain a first k i (rw one past)) (no_col ring.domain b second) j i
+    (and_turned (nat_lt i (cols_of b.shape)) (nat_lt j 1) outside)
+
+-- ---- transposed inputs
 
 turned_as-within : (domain : Domain) (shape : Shape) (c : Content) → IsWithin (rows_of shape) (cols_of shape) c
     → KeepsInside (turned_object (record { domain = domain; shape = shape; content = c }))
@@ -71,7 +97,7 @@ turned_if-within true o inside = turned_as-within o.domain o.shape o.content ins
 turned_if-within false o inside = inside
 
 turned-within : (desc : Desc) (op : Operation Object) → All KeepsInside (inputs_of op) → All KeepsInside (inputs_of (turned turned_object desc op))
-turned-within desc (Multiply ring a b) inside =
+turned-within desc (Multiply form ring a b) inside =
     let first = All-head KeepsInside a (b ∷ []) inside in
     let second = All-head KeepsInside b [] (All-tail KeepsInside a (b ∷ []) inside) in
     let a' = turned_if turned_object desc.turn_first a in
@@ -84,7 +110,7 @@ turned_if-signature true o = refl
 turned_if-signature false o = refl
 
 turned-signature : (desc : Desc) (op : Operation Object) → renamed_operation signature_of (turned turned_object desc op) ≡ turned turned_signature desc (renamed_operation signature_of op)
-turned-signature desc (Multiply ring a b) = rw (turned_if-signature desc.turn_first a, turned_if-signature desc.turn_second b) refl
+turned-signature desc (Multiply form ring a b) = rw (turned_if-signature desc.turn_first a, turned_if-signature desc.turn_second b) refl
 
 -- ---- write-back
 
@@ -149,7 +175,9 @@ result-within out op accepted old inputs =
     let plan = plan_in out.desc sig in
     let moved = turned turned_object out.desc op in
     let shapes = same_shape-rows plan.shape out.c.shape (accepted-shapes (renamed_out signature_of out) sig accepted).0 in
-    let inside = operation-within moved (turned-within out.desc op inputs) in
+    let kinds : (plan_of (renamed_operation signature_of moved)).kinds ≡ true =
+    rw (turned-signature out.desc op) (accepted-kinds (renamed_out signature_of out) sig accepted) in
+    let inside = operation-within moved kinds (turned-within out.desc op inputs) in
     let inside' : IsWithin (rows_of out.c.shape) (cols_of out.c.shape) (operation moved) =
     rw (← shapes.0, ← shapes.1) (rw (turned-signature out.desc op) at inside) in
     written-within out (cast_content plan.domain out.c.domain (operation moved)) (rows_of out.c.shape) (cols_of out.c.shape) old
@@ -165,9 +193,7 @@ result-words out op accepted old =
     let sig = renamed_operation signature_of op in
     let plan = plan_in out.desc sig in
     let moved = turned turned_object out.desc op in
-    let implemented = accepted-implemented sig_out sig accepted in
-    let accumulates_in = accumulator_gives out.c.domain out.accum
-    (and_parts (is_offered sig && out_has_come sig_out) (option_map_or (accumulates out.c.domain) out.accum true) implemented).1 in
+    let accumulates_in = accumulator_gives out.c.domain out.accum (accepted-accumulator sig_out sig accepted) in
     written-words out (cast_content plan.domain out.c.domain (operation moved)) out.c.domain accumulates_in old
     (cast_content-words plan.domain out.c.domain (operation moved))
 

@@ -4,7 +4,7 @@ use Rattle.std.specs.Fmt.{digits}
 use Rattle.algebra.specs.Names.{binary_from_name, domain_from_name, monoid_from_name}
 use Rattle.model.specs.Entries.{count_from, entries_of}
 use Rattle.model.specs.Fault.{early_fault}
-use Rattle.model.specs.Grammar.{lines_of, name_of, number_of, value_of_word, domain_of, op_name_of, ring_name_of, matrix_of, place_of, set_of, get_of, nvals_of, print_of, flag_added, desc_of, out_of_words, multiply_of, operation_of, operate_of, call_of, reading_of, readings_of}
+use Rattle.model.specs.Grammar.{lines_of, name_of, number_of, value_of_word, domain_of, op_name_of, ring_name_of, matrix_of, vector_of, only_name_of, place_of, set_of, remove_of, get_of, flag_added, desc_of, out_of_words, multiply_of, operation_of, operate_of, call_of, reading_of, readings_of}
 use Rattle.model.specs.Operations.{operation}
 use Rattle.model.specs.Product.{product}
 use Rattle.model.specs.Run.{effect, data_lines_of, step, turn, answers_from, out_of_readings, out_of}
@@ -40,12 +40,31 @@ refusals_and_greatest_indices = record {
   written = codes "3 SYNTAX\n4 OK\n5 INVALID_VALUE\n6 NAME_TAKEN\n7 UNINITIALIZED_OBJECT\n8 INVALID_INDEX\n9 OK\n10 OK\n1\n";
 }
 
+valued_and_structural_mask : Row
+valued_and_structural_mask = record {
+  script = codes "matrix A INT64 1 1\nmatrix B INT64 1 2\nmatrix M BOOL 1 2\nmatrix C INT64 1 2\nset A 0 0 3\nset B 0 0 5\nset B 0 1 7\nset M 0 0 1\nset M 0 1 0\nmxm C M - PLUS.TIMES.INT64 A B -\nprint C\nmxm C M - PLUS.TIMES.INT64 A B S\nprint C\n";
+  written = codes "1 OK\n2 OK\n3 OK\n4 OK\n5 OK\n6 OK\n7 OK\n8 OK\n9 OK\n10 OK\n11 OK\n%%MatrixMarket matrix coordinate integer general\n1 2 1\n1 1 15\n12 OK\n13 OK\n%%MatrixMarket matrix coordinate integer general\n1 2 2\n1 1 15\n1 2 21\n";
+}
+
+one_object_in_all_places : Row
+one_object_in_all_places = record {
+  script = codes "matrix C INT64 2 2\nset C 0 0 1\nset C 0 1 2\nset C 1 1 3\nmxm C C PLUS.INT64 PLUS.TIMES.INT64 C C -\nprint C\n";
+  written = codes "1 OK\n2 OK\n3 OK\n4 OK\n5 OK\n6 OK\n%%MatrixMarket matrix coordinate integer general\n2 2 3\n1 1 2\n1 2 10\n2 2 12\n";
+}
+
+products_with_vectors : Row
+products_with_vectors = record {
+  script = codes "matrix A INT64 2 3\nset A 0 1 2\nset A 1 1 3\nset A 1 2 5\nvector U INT64 3\nset U 1 10\nset U 2 1\nvector V INT64 2\nmxv V - - PLUS.TIMES.INT64 A U -\nprint V\nvxm U - - PLUS.MINUS.INT64 V A -\nprint U\nremove U 1\nnvals U\nvxm U U PLUS.INT64 MAX.FIRST.INT64 V A R,S,C\nprint U\nclear U\nnvals U\nfree U\nget U 0\n";
+  written = codes "1 OK\n2 OK\n3 OK\n4 OK\n5 OK\n6 OK\n7 OK\n8 OK\n9 OK\n10 OK\n%%MatrixMarket matrix coordinate integer general\n2 1 2\n1 1 20\n2 1 35\n11 OK\n12 OK\n%%MatrixMarket matrix coordinate integer general\n3 1 2\n2 1 50\n3 1 30\n13 OK\n14 OK\n1\n15 OK\n16 OK\n%%MatrixMarket matrix coordinate integer general\n3 1 1\n2 1 35\n17 OK\n18 OK\n0\n19 OK\n20 UNINITIALIZED_OBJECT\n";
+}
+
 empty_script : Row
 empty_script = record { script = codes ""; written = codes "" }
 
 abbrev worked : List Row
-worked = zero_sum_is_an_entry ∷ empty_product ∷ wrap_before_minimum ∷ refusals_and_greatest_indices ∷ empty_script ∷ []
+worked = zero_sum_is_an_entry ∷ empty_product ∷ wrap_before_minimum ∷ refusals_and_greatest_indices ∷ valued_and_structural_mask
+    ∷ one_object_in_all_places ∷ products_with_vectors ∷ empty_script ∷ []
 
 each_writes_its_row : map (λ (row : Row). out_of row.script) worked ≡ map (λ (row : Row). row.written) worked
-unfolding zero_sum_is_an_entry empty_product wrap_before_minimum refusals_and_greatest_indices empty_script digits binary_from_name domain_from_name monoid_from_name count_from entries_of early_fault lines_of name_of number_of value_of_word domain_of op_name_of ring_name_of matrix_of place_of set_of get_of nvals_of print_of flag_added desc_of out_of_words multiply_of operation_of operate_of call_of reading_of readings_of operation product effect data_lines_of step turn answers_from out_of_readings out_of answer_text canonical_lines result_of
+unfolding zero_sum_is_an_entry empty_product wrap_before_minimum refusals_and_greatest_indices valued_and_structural_mask one_object_in_all_places products_with_vectors empty_script digits binary_from_name domain_from_name monoid_from_name count_from entries_of early_fault lines_of name_of number_of value_of_word domain_of op_name_of ring_name_of matrix_of vector_of only_name_of place_of set_of remove_of get_of flag_added desc_of out_of_words multiply_of operation_of operate_of call_of reading_of readings_of operation product effect data_lines_of step turn answers_from out_of_readings out_of answer_text canonical_lines result_of
 each_writes_its_row = refl

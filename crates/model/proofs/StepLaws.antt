@@ -7,7 +7,7 @@ use Rattle.std.specs.Str.{bytes_eq}
 use Rattle.std.proofs.lemmas.List.Elements.{All-cons, All-nil}
 use Rattle.algebra.specs.Value.{is_value_of}
 use Rattle.model.specs.declared.call.Call.{Call}
-use Rattle.model.specs.declared.call.Call.TheVariants.{Create, Set, Get, Nvals, Print, Operate}
+use Rattle.model.specs.declared.call.Call.TheVariants.{Create, Free, Clear, Set, Remove, Get, Nvals, Print, Operate}
 use Rattle.model.specs.declared.call.Operation.{Operation}
 use Rattle.model.specs.declared.call.Operation.TheVariants.{Multiply}
 use Rattle.model.specs.declared.call.Out.{Out}
@@ -19,10 +19,10 @@ use Rattle.model.specs.Fault.{early_fault, fault_of, found_object, found_signatu
 use Rattle.model.specs.Grammar.{Name}
 use Rattle.model.specs.Object.{IsObject, Object, empty_object, is_inside, is_of_kind, signature_of}
 use Rattle.model.specs.Renamed.{inputs_of, outputs_of, renamed_operation, renamed_out}
-use Rattle.model.specs.Run.{Environment, data_lines_of, effect, no_objects, object_at, on_objects, seen, step, with_object}
+use Rattle.model.specs.Run.{Environment, data_lines_of, effect, no_objects, object_at, on_objects, seen, step, with_object, without_object}
 use Rattle.model.specs.Text.{Answer}
 use Rattle.model.specs.WriteBack.{left_by, result_of}
-use Rattle.model.proofs.ObjectLaws.{empty-is_object, set-is_object}
+use Rattle.model.proofs.ObjectLaws.{empty-is_object, removed-is_object, set-is_object}
 use Rattle.model.proofs.ResultLaws.{result-is_object}
 
 -- every object has words of its domain, at positions inside its shape
@@ -49,7 +49,7 @@ object_at-is_object env are name = found-is_object (env.find_object name) (are n
 -- the inputs of an operation on what names stand for are objects
 inputs-are_objects : {K : Type 0} (env : Environment K) (op : Operation K) → AreObjects env
     → All IsObject (inputs_of (renamed_operation (object_at env) op))
-inputs-are_objects env (Multiply ring a b) are =
+inputs-are_objects env (Multiply form ring a b) are =
     let first = object_at env a in
     let second = object_at env b in
     All-cons IsObject first (second ∷ []) (object_at-is_object env are a)
@@ -68,6 +68,16 @@ pub with_object-are_objects : {K : Type 0} (same : K → K → Bool) (env : Envi
     (count : ℕ) → AreObjects env → IsObject new → AreObjects (with_object same env name new count)
 with_object-are_objects same env name new count are is other o found =
     chosen-is_object (same name other) new (env.find_object other) o is (are other o) found
+
+-- what is found without one name was found before
+left-is_object : (same : Bool) (old : Option Object) (o : Object) → (old ≡ Some o → IsObject o) → cond same None old ≡ Some o → IsObject o
+left-is_object true old o olds found = absurd (cc)
+left-is_object false old o olds found = olds found
+
+pub without_object-are_objects : {K : Type 0} (same : K → K → Bool) (env : Environment K) (name : K) → AreObjects env
+    → AreObjects (without_object same env name)
+without_object-are_objects same env name are other o found =
+    left-is_object (same name other) (env.find_object other) o (are other o) found
 
 -- ---- accepted calls
 
@@ -137,8 +147,8 @@ operation_found : {K : Type 0} (find_object : K → Option Object) (op : Operati
     → renamed_operation found_signature
     (renamed_operation (option_map signature_of) (renamed_operation find_object op))
     ≡ renamed_operation signature_of (renamed_operation (λ name. found_object (find_object name)) op)
-operation_found find_object (Multiply ring a b) =
-    λ i. Multiply ring (signature_found (find_object a) i) (signature_found (find_object b) i)
+operation_found find_object (Multiply form ring a b) =
+    λ i. Multiply form ring (signature_found (find_object a) i) (signature_found (find_object b) i)
 
 -- an accepted call of an operation passes its tests on the objects that its names stand for
 accepted-operation : {K : Type 0} (env : Environment K) (out : Out K) (op : Operation K)
@@ -171,6 +181,16 @@ effect-are_objects {K = K} same env (Set name place value) are accepted =
     with_object-are_objects same env name new env.count are
     (set-is_object o place value (object_at-is_object env are name)
     (accepted-inside env.count found place value early))
+effect-are_objects same env (Free name) are accepted = without_object-are_objects same env name are
+effect-are_objects same env (Clear name) are accepted =
+    let o = object_at env name in
+    with_object-are_objects same env name (empty_object o.domain o.shape) env.count are
+    (empty-is_object o.domain o.shape)
+effect-are_objects {K = K} same env (Remove name place) are accepted =
+    let o = object_at env name in
+    let new : Object = record o { content = left_by {N = K} (Remove o place) } in
+    with_object-are_objects same env name new env.count are
+    (removed-is_object o place (object_at-is_object env are name))
 effect-are_objects same env (Get name place) are accepted = are
 effect-are_objects same env (Nvals name) are accepted = are
 effect-are_objects same env (Print name) are accepted = are

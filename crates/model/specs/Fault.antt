@@ -10,7 +10,7 @@ use Rattle.algebra.specs.declared.operator_names.OpName.{OpName}
 use Rattle.algebra.specs.Operators.{answer_domain, offers}
 use Rattle.algebra.specs.Value.{are_compatible, is_built_in, is_value_of, same_domain}
 use Rattle.model.specs.declared.call.Call.{Call}
-use Rattle.model.specs.declared.call.Call.TheVariants.{Create, Set, Get, Operate}
+use Rattle.model.specs.declared.call.Call.TheVariants.{Create, Set, Remove, Get, Operate}
 use Rattle.model.specs.declared.call.Desc.{Desc}
 use Rattle.model.specs.declared.call.Operation.{Operation}
 use Rattle.model.specs.declared.call.Out.{Out}
@@ -21,7 +21,7 @@ use Rattle.model.specs.declared.shape.Shape.TheVariants.{One}
 use Rattle.model.specs.declared.shape.Signature.{Signature}
 use Rattle.model.specs.declared.status.Status.{Status}
 use Rattle.model.specs.declared.status.Status.TheVariants as status
-use Rattle.model.specs.Come.{out_has_come}
+use Rattle.model.specs.Come.{desc_has_come}
 use Rattle.model.specs.Object.{Object, col_of, cols_of, empty_object, is_inside, is_of_kind, row_of, rows_of, same_kind}
 use Rattle.model.specs.Object.{same_shape, signature_of, turned_signature}
 use Rattle.model.specs.Renamed.{objects_of, renamed}
@@ -71,10 +71,10 @@ plan_fails out plan status.DimensionMismatch =
 plan_fails out plan status.InvalidValue = not plan.values
 plan_fails out plan _ = false
 
--- whether all operators are there, and the output has come
+-- whether all operators are there, and the flags have come
 abbrev pub is_implemented : Out Signature → Operation Signature → Bool
 is_implemented out operation =
-    is_offered operation && out_has_come out
+    is_offered operation && desc_has_come out.desc
     && option_map_or (accumulates out.c.domain) out.accum true
 
 -- what an operation says of its inputs, which are turned first
@@ -101,6 +101,8 @@ test_fails count (Create taken domain shape) status.InvalidValue = not (are_dime
 test_fails count (Set o place value) status.WrongKind = not (is_of_kind place o.shape)
 test_fails count (Set o place value) status.InvalidIndex = not (is_inside place o.shape)
 test_fails count (Set o place value) status.InvalidValue = not (is_value_of o.domain value)
+test_fails count (Remove o place) status.WrongKind = not (is_of_kind place o.shape)
+test_fails count (Remove o place) status.InvalidIndex = not (is_inside place o.shape)
 test_fails count (Get o place) status.WrongKind = not (is_of_kind place o.shape)
 test_fails count (Get o place) status.InvalidIndex = not (is_inside place o.shape)
 test_fails count (Operate out operation) s = operation_fails out operation s

@@ -11,8 +11,11 @@ use Rattle.algebra.specs.declared.operator_names.OpName.{OpName}
 use Rattle.algebra.specs.declared.operator_names.RingName.{RingName}
 use Rattle.algebra.specs.Names.{binary_from_name, domain_from_name, monoid_from_name}
 use Rattle.model.specs.declared.call.Call.{Call}
-use Rattle.model.specs.declared.call.Call.TheVariants.{Create, Set, Get, Nvals, Print, Operate}
+use Rattle.model.specs.declared.call.Call.TheVariants.{Create, Free, Clear, Set, Remove, Get, Nvals, Print}
+use Rattle.model.specs.declared.call.Call.TheVariants.{Operate}
 use Rattle.model.specs.declared.call.Desc.{Desc}
+use Rattle.model.specs.declared.call.Form.{Form}
+use Rattle.model.specs.declared.call.Form.TheVariants.{MatrixMatrix, MatrixVector, VectorMatrix}
 use Rattle.model.specs.declared.call.Operation.{Operation}
 use Rattle.model.specs.declared.call.Operation.TheVariants.{Multiply}
 use Rattle.model.specs.declared.call.Out.{Out}
@@ -20,7 +23,7 @@ use Rattle.model.specs.declared.limits.TheConstants.{LONGEST_LINE, LONGEST_NAME}
 use Rattle.model.specs.declared.shape.Place.{Place}
 use Rattle.model.specs.declared.shape.Place.TheVariants.{One, Two}
 use Rattle.model.specs.declared.shape.Shape.TheVariants as shape
-use Rattle.model.specs.Come.{domain_has_come, out_has_come}
+use Rattle.model.specs.Come.{desc_has_come, domain_has_come}
 
 -- an object's name, as bytes
 abbrev pub Name : Type 0
@@ -147,6 +150,26 @@ matrix_of words =
     Some (Create name domain (shape.Two rows cols)))
     else None
 
+-- vector NAME DOMAIN NUM
+unfoldable pub vector_of : List (List ℕ) → Option (Call Name Name)
+vector_of words =
+    if length words == 4
+    then (name_of (nth_word words 1) >>= λ name. domain_of (nth_word words 2) >>= λ domain.
+    number_of (nth_word words 3) >>= λ size. Some (Create name domain (shape.One size)))
+    else None
+
+-- the name that follows the first word, where nothing else does
+unfoldable pub only_name_of : List (List ℕ) → Option Name
+only_name_of words = if length words == 2 then name_of (nth_word words 1) else None
+
+-- free NAME
+abbrev pub free_of : List (List ℕ) → Option (Call Name Name)
+free_of words = only_name_of words >>= λ name. Some (Free name)
+
+-- clear NAME
+abbrev pub clear_of : List (List ℕ) → Option (Call Name Name)
+clear_of words = only_name_of words >>= λ name. Some (Clear name)
+
 -- the place between a name and the last words
 unfoldable pub place_of : List (List ℕ) → ℕ → Option Place
 place_of words rest =
@@ -159,17 +182,21 @@ unfoldable pub set_of : List (List ℕ) → Option (Call Name Name)
 set_of words = place_of words 1 >>= λ place. name_of (nth_word words 1) >>= λ name.
     value_of_word (nth_word words (length words - 1)) >>= λ value. Some (Set name place value)
 
+-- remove NAME NUM, or NAME NUM NUM
+unfoldable pub remove_of : List (List ℕ) → Option (Call Name Name)
+remove_of words = place_of words 0 >>= λ place. name_of (nth_word words 1) >>= λ name. Some (Remove name place)
+
 -- get NAME NUM, or NAME NUM NUM
 unfoldable pub get_of : List (List ℕ) → Option (Call Name Name)
 get_of words = place_of words 0 >>= λ place. name_of (nth_word words 1) >>= λ name. Some (Get name place)
 
 -- nvals NAME
-unfoldable pub nvals_of : List (List ℕ) → Option (Call Name Name)
-nvals_of words = if length words == 2 then (name_of (nth_word words 1) >>= λ name. Some (Nvals name)) else None
+abbrev pub nvals_of : List (List ℕ) → Option (Call Name Name)
+nvals_of words = only_name_of words >>= λ name. Some (Nvals name)
 
 -- print NAME
-unfoldable pub print_of : List (List ℕ) → Option (Call Name Name)
-print_of words = if length words == 2 then (name_of (nth_word words 1) >>= λ name. Some (Print name)) else None
+abbrev pub print_of : List (List ℕ) → Option (Call Name Name)
+print_of words = only_name_of words >>= λ name. Some (Print name)
 
 -- ---- operations: C MASK ACCUM .. DESC
 
@@ -200,8 +227,11 @@ flags_added desc [] = Some desc
 flags_added desc (word ∷ words) = flag_added desc word >>= λ more. flags_added more words
 
 -- `-`, or flags with commas between them, each at most once
+abbrev pub flags_of : List ℕ → Option Desc
+flags_of word = if is_none_word word then Some no_flags else flags_added no_flags (slice_split (λ b. b == 44) word)
+
 unfoldable pub desc_of : List ℕ → Option Desc
-desc_of word = if is_none_word word then Some no_flags else flags_added no_flags (slice_split (λ b. b == 44) word)
+desc_of word = where_it desc_has_come (flags_of word)
 
 -- C, MASK, ACCUM and the last word, DESC
 unfoldable pub out_of_words : List (List ℕ) → Option (Out Name)
@@ -212,11 +242,11 @@ out_of_words words = if not (nat_le 5 (length words)) then None else
     Some (record { c = c; mask = mask; accum = accum; desc = desc }))
 
 -- RING A B
-unfoldable pub multiply_of : List (List ℕ) → Option (Operation Name)
-multiply_of words =
+unfoldable pub multiply_of : Form → List (List ℕ) → Option (Operation Name)
+multiply_of form words =
     if length words == 8
     then (ring_name_of (nth_word words 4) >>= λ ring. name_of (nth_word words 5) >>= λ a.
-    name_of (nth_word words 6) >>= λ b. Some (Multiply ring a b))
+    name_of (nth_word words 6) >>= λ b. Some (Multiply form ring a b))
     else None
 
 -- whether the first word is a name
@@ -226,18 +256,24 @@ is_called words name = bytes_eq (nth_word words 0) name
 -- the words between ACCUM and DESC, by the first word
 unfoldable pub operation_of : List (List ℕ) → Option (Operation Name)
 operation_of words =
-    if is_called words (codes "mxm") then multiply_of words
+    if is_called words (codes "mxm") then multiply_of MatrixMatrix words
+    else if is_called words (codes "mxv") then multiply_of MatrixVector words
+    else if is_called words (codes "vxm") then multiply_of VectorMatrix words
     else None
 
 unfoldable pub operate_of : List (List ℕ) → Option (Call Name Name)
-operate_of words = operation_of words >>= λ operation. where_it out_has_come (out_of_words words) >>= λ out.
+operate_of words = operation_of words >>= λ operation. out_of_words words >>= λ out.
     Some (Operate out operation)
 
 -- what the words of a line call
 unfoldable pub call_of : List (List ℕ) → Option (Call Name Name)
 call_of words =
     if is_called words (codes "matrix") then matrix_of words
+    else if is_called words (codes "vector") then vector_of words
+    else if is_called words (codes "free") then free_of words
+    else if is_called words (codes "clear") then clear_of words
     else if is_called words (codes "set") then set_of words
+    else if is_called words (codes "remove") then remove_of words
     else if is_called words (codes "get") then get_of words
     else if is_called words (codes "nvals") then nvals_of words
     else if is_called words (codes "print") then print_of words

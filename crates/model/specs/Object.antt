@@ -76,6 +76,10 @@ no_content = λ i j. None
 abbrev pub with_entry : Content → ℕ → ℕ → ℕ → Content
 with_entry c row col word = λ i j. if (i == row) && (j == col) then Some word else c i j
 
+-- the edit that removes an entry: what was stored, with nothing at one position
+abbrev pub without_entry : Content → ℕ → ℕ → Content
+without_entry c row col = λ i j. if (i == row) && (j == col) then None else c i j
+
 -- each value cast from one domain to another
 abbrev pub cast_content : Domain → Domain → Content → Content
 cast_content from to c = λ i j. option_map (cast_of from to) (c i j)

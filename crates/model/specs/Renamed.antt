@@ -2,7 +2,7 @@
 use Rattle.std.specs.Prelude.{List, [], ◌∷◌, ◌++◌, Option, Some, None}
 use Rattle.std.specs.Option.{option_map, option_to_list}
 use Rattle.model.specs.declared.call.Call.{Call}
-use Rattle.model.specs.declared.call.Call.TheVariants.{Create, Set, Get, Nvals, Print, Operate}
+use Rattle.model.specs.declared.call.Call.TheVariants.{Create, Free, Clear, Set, Remove, Get, Nvals, Print, Operate}
 use Rattle.model.specs.declared.call.Operation.{Operation}
 use Rattle.model.specs.declared.call.Operation.TheVariants.{Multiply}
 use Rattle.model.specs.declared.call.Out.{Out}
@@ -11,12 +11,15 @@ abbrev pub renamed_out : {K L : Type 0} → (K → L) → Out K → Out L
 renamed_out f out = record { c = f out.c; mask = option_map f out.mask; accum = out.accum; desc = out.desc }
 
 abbrev pub renamed_operation : {K L : Type 0} → (K → L) → Operation K → Operation L
-renamed_operation f (Multiply ring a b) = Multiply ring (f a) (f b)
+renamed_operation f (Multiply form ring a b) = Multiply form ring (f a) (f b)
 
 -- f leads from each object's name to another, and g from each new name
 abbrev pub renamed : {K L M N : Type 0} → (K → L) → (M → N) → Call K M → Call L N
 renamed f g (Create name domain shape) = Create (g name) domain shape
+renamed f g (Free object) = Free (f object)
+renamed f g (Clear object) = Clear (f object)
 renamed f g (Set object place value) = Set (f object) place value
+renamed f g (Remove object place) = Remove (f object) place
 renamed f g (Get object place) = Get (f object) place
 renamed f g (Nvals object) = Nvals (f object)
 renamed f g (Print object) = Print (f object)
@@ -25,21 +28,26 @@ renamed f g (Operate out operation) = Operate (renamed_out f out) (renamed_opera
 -- ---- the objects that must be there
 
 abbrev pub inputs_of : {K : Type 0} → Operation K → List K
-inputs_of (Multiply ring a b) = a ∷ b ∷ []
+inputs_of (Multiply form ring a b) = a ∷ b ∷ []
 
 abbrev pub outputs_of : {K : Type 0} → Out K → List K
 outputs_of out = out.c ∷ option_to_list out.mask
 
 abbrev pub objects_of : {K N : Type 0} → Call K N → List K
 objects_of (Create name domain shape) = []
+objects_of (Free object) = object ∷ []
+objects_of (Clear object) = object ∷ []
 objects_of (Set object place value) = object ∷ []
+objects_of (Remove object place) = object ∷ []
 objects_of (Get object place) = object ∷ []
 objects_of (Nvals object) = object ∷ []
 objects_of (Print object) = object ∷ []
 objects_of (Operate out operation) = outputs_of out ++ inputs_of operation
 
--- the object into which a call writes
+-- the object whose entries a call changes
 abbrev pub output_of : {K N : Type 0} → Call K N → Option K
+output_of (Clear object) = Some object
 output_of (Set object place value) = Some object
+output_of (Remove object place) = Some object
 output_of (Operate out operation) = Some out.c
 output_of _ = None

@@ -1,11 +1,11 @@
 -- What calls do when each is done at once, one at a time (blocking mode: GrB_BLOCKING).
-use Rattle.std.specs.Prelude.{ℕ, ◌+◌, Bool, if◌then◌else◌, is_some, List, [], ◌∷◌, ◌++◌, length, Option, Some, None}
-use Rattle.std.specs.Prelude.{decimal}
+use Rattle.std.specs.Prelude.{ℕ, ◌+◌, ◌-◌, Bool, if◌then◌else◌, is_some, List, [], ◌∷◌, ◌++◌, length, Option, Some}
+use Rattle.std.specs.Prelude.{None, decimal}
 use Rattle.std.specs.List.{flat_map}
 use Rattle.std.specs.Option.{option_map_or}
 use Rattle.std.specs.Str.{bytes_eq}
 use Rattle.model.specs.declared.call.Call.{Call}
-use Rattle.model.specs.declared.call.Call.TheVariants.{Create, Get, Nvals, Print}
+use Rattle.model.specs.declared.call.Call.TheVariants.{Create, Free, Get, Nvals, Print}
 use Rattle.model.specs.declared.status.Status.TheVariants as status
 use Rattle.model.specs.Entries.{entries_of}
 use Rattle.model.specs.Fault.{fault_of, found_object}
@@ -43,14 +43,22 @@ with_object same env name o count = record {
   count = count;
 }
 
+-- a name stands for nothing, and there is one object less
+abbrev pub without_object : {K : Type 0} → (K → K → Bool) → Environment K → K → Environment K
+without_object same env name = record {
+  find_object = λ other. if same name other then None else env.find_object other;
+  count = env.count - 1;
+}
+
 -- the object of a name has another map
 abbrev pub with_content : {K : Type 0} → (K → K → Bool) → Environment K → K → Content → Environment K
 with_content same env name c = with_object same env name (record (object_at env name) { content = c }) env.count
 
--- what an accepted call leaves: one more object, or another map in its output; `same` tells whether two
--- names are the same
+-- what an accepted call leaves: one more object, one less, or another map in its output; `same` tells whether
+-- two names are the same
 unfoldable pub effect : {K : Type 0} → (K → K → Bool) → Environment K → Call K K → Environment K
 effect same env (Create name domain shape) = with_object same env name (empty_object domain shape) (env.count + 1)
+effect same env (Free name) = without_object same env name
 effect same env call = option_map_or (λ name. with_content same env name (left_by (on_objects env call)))
     (output_of call) env
 

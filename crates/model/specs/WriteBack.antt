@@ -7,13 +7,13 @@ use Rattle.algebra.specs.declared.operator_names.OpName.{OpName}
 use Rattle.algebra.specs.Operators.{eval_of}
 use Rattle.algebra.specs.Value.{cast_of, word_of}
 use Rattle.model.specs.declared.call.Call.{Call}
-use Rattle.model.specs.declared.call.Call.TheVariants.{Set, Operate}
+use Rattle.model.specs.declared.call.Call.TheVariants.{Set, Remove, Operate}
 use Rattle.model.specs.declared.call.Desc.{Desc}
 use Rattle.model.specs.declared.call.Operation.{Operation}
 use Rattle.model.specs.declared.call.Out.{Out}
 use Rattle.model.specs.Fault.{plan_in}
 use Rattle.model.specs.Object.{Content, Object, cast_content, col_of, no_content, row_of, signature_of, turned_object}
-use Rattle.model.specs.Object.{with_entry}
+use Rattle.model.specs.Object.{with_entry, without_entry}
 use Rattle.model.specs.Operations.{operation}
 use Rattle.model.specs.Renamed.{renamed_operation}
 use Rattle.model.specs.Table.{turned}
@@ -60,5 +60,6 @@ result_of out inputs =
 -- what a call leaves in the object into which it writes
 abbrev pub left_by : {N : Type 0} → Call Object N → Content
 left_by (Set o place value) = with_entry o.content (row_of place) (col_of place) (word_of o.domain value)
+left_by (Remove o place) = without_entry o.content (row_of place) (col_of place)
 left_by (Operate out inputs) = result_of out inputs
 left_by _ = no_content

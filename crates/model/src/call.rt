@@ -28,11 +28,27 @@ pub struct Out<K> {
     pub desc: Desc,
 }
 
+/// What the factors of a product are.
+#[derive(Clone, Copy)]
+pub enum Form {
+    /// Two matrices (`GrB_mxm`).
+    MatrixMatrix,
+    /// A matrix and a vector as a column (`GrB_mxv`).
+    MatrixVector,
+    /// A vector as a row and a matrix (`GrB_vxm`).
+    VectorMatrix,
+}
+
 /// An operation on its inputs.
 #[derive(Clone, Copy)]
 pub enum Operation<K> {
-    /// The product of two matrices over a semiring (`GrB_mxm`).
-    Multiply { ring: RingName, a: K, b: K },
+    /// The product of two factors over a semiring.
+    Multiply {
+        form: Form,
+        ring: RingName,
+        a: K,
+        b: K,
+    },
 }
 
 /// A call. `K` is how it names objects, and `N` how it names one that it makes: in a script both are
@@ -45,18 +61,32 @@ pub enum Call<K, N> {
         domain: Domain,
         shape: Shape,
     },
-    /// Sets an entry (`GrB_Matrix_setElement`).
+    /// Frees an object (`GrB_free`).
+    Free {
+        object: K,
+    },
+    /// Removes all entries (`GrB_Matrix_clear`, `GrB_Vector_clear`).
+    Clear {
+        object: K,
+    },
+    /// Sets an entry (`GrB_Matrix_setElement`, `GrB_Vector_setElement`).
     Set {
         object: K,
         place: Place,
         value: i128,
     },
-    /// Asks for the value of an entry (`GrB_Matrix_extractElement`).
+    /// Removes an entry, where there is one (`GrB_Matrix_removeElement`,
+    /// `GrB_Vector_removeElement`).
+    Remove {
+        object: K,
+        place: Place,
+    },
+    /// Asks for the value of an entry (`GrB_Matrix_extractElement`, `GrB_Vector_extractElement`).
     Get {
         object: K,
         place: Place,
     },
-    /// Asks for the number of entries (`GrB_Matrix_nvals`).
+    /// Asks for the number of entries (`GrB_Matrix_nvals`, `GrB_Vector_nvals`).
     Nvals {
         object: K,
     },

@@ -1,8 +1,8 @@
 //! What scripts and calls can use so far.
 ghost use Rattle.std.specs.Prelude.{◌≡◌};
-ghost use Rattle.model.specs.Come.{domain_has_come, out_has_come};
+ghost use Rattle.model.specs.Come.{desc_has_come, domain_has_come};
 
-use crate::Out;
+use crate::Desc;
 use algebra::Domain;
 
 /// Whether scripts can name a domain so far.
@@ -12,18 +12,11 @@ pub const fn domain_has_come(domain: Domain) -> bool
     domain.is_built_in()
 }
 
-impl<K> Out<K> {
-    /// Whether calls can use its mask, its accumulator and its flags so far.
-    pub fn has_come(&self) -> bool
-        ensures { result ≡ out_has_come self.now }
+impl Desc {
+    /// Whether calls can use its flags so far.
+    pub const fn has_come(self) -> bool
+        ensures { result ≡ desc_has_come self }
     {
-        let desc = self.desc;
-        self.mask.is_none()
-            && self.accum.is_none()
-            && !desc.replace
-            && !desc.structure
-            && !desc.complement
-            && !desc.turn_first
-            && !desc.turn_second
+        !self.turn_first && !self.turn_second
     }
 }

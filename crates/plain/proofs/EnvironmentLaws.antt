@@ -1,5 +1,5 @@
 -- Environments as the plain evaluator keeps them: a list of objects with their names.
-use Rattle.std.proofs.Common.{◌≡◌, ℕ, zero, suc, ◌<◌, Bool, true, false, cond, ◌&&◌, List, [], ◌∷◌, length, get_or, set, ℤ, Option, Some, None, Result, Ok, Err, IsErr, MatchResult, refl, sym, subst, ◌∙◌, ap, inl, inr, arith}
+use Rattle.std.proofs.Common.{◌≡◌, ℕ, zero, suc, ◌<◌, ◌+◌, ◌-◌, Bool, true, false, cond, not, ◌&&◌, List, [], ◌∷◌, length, filter, get_or, set, ℤ, Option, Some, None, Result, Ok, Err, IsErr, MatchResult, refl, sym, subst, ◌∙◌, ap, inl, inr, arith}
 use Rattle.std.specs.Prelude.{nat_lt}
 use Rattle.std.specs.List.{All, find, position, position_or_len}
 use Rattle.std.specs.Option.{option_map}
@@ -7,14 +7,13 @@ use Rattle.std.specs.Str.{bytes_eq}
 use Rattle.std.specs.String.{string_bytes}
 use Rattle.std.proofs.lemmas.Bool.{cases_Bool, true≢false}
 use Rattle.std.proofs.lemmas.Bool.Decides.{nat_tests}
-use Rattle.std.proofs.lemmas.List.{length-set}
 use Rattle.std.proofs.lemmas.List.Elements.{All-cons, All-nil}
 use Rattle.std.proofs.lemmas.List.Folds.{find_at}
 use Rattle.std.proofs.lemmas.List.Quantifiers.{position-Some}
 use Rattle.std.proofs.lemmas.Option.{slice_get_past}
 use Rattle.std.proofs.lemmas.Slice.Eq.{bytes_eq-Decides}
 use Rattle.algebra.specs.Value.{word_of}
-use Rattle.model.specs.declared.call.Call.TheVariants.{Create, Operate, Set}
+use Rattle.model.specs.declared.call.Call.TheVariants.{Clear, Create, Free, Operate, Remove, Set}
 use Rattle.model.specs.declared.call.Operation.{Operation}
 use Rattle.model.specs.declared.call.Operation.TheVariants.{Multiply}
 use Rattle.model.specs.declared.call.Out.{Out}
@@ -22,7 +21,8 @@ use Rattle.model.specs.declared.shape.Place.{Place}
 use Rattle.model.specs.Entries.{entries_of, word_at}
 use Rattle.model.specs.Fault.{found_object}
 use Rattle.model.specs.Grammar.{Name}
-use Rattle.model.specs.Object.{Content, IsWithin, Object, col_of, cols_of, empty_object, row_of, rows_of, with_entry}
+use Rattle.model.specs.Object.{Content, IsWithin, Object, col_of, cols_of, empty_object, no_content, row_of, rows_of, with_entry}
+use Rattle.model.specs.Object.{without_entry}
 use Rattle.model.specs.Renamed.{inputs_of, renamed_operation, renamed_out}
 use Rattle.model.specs.Run.{Environment, effect, object_at, with_object}
 use Rattle.model.specs.WriteBack.{result_of}
@@ -46,11 +46,11 @@ option_map-cond f false x o = refl
 
 -- ---- a list of objects
 
-pub environment-kept : (old new : PlainEnvironment) → new.objects.items ≡ old.objects.items → environment_of new ≡ environment_of old
-environment-kept old new same =
+pub environment-kept : (old new : PlainEnvironment) → new.objects.items ≡ old.objects.items → new.live ≡ old.live → environment_of new ≡ environment_of old
+environment-kept old new same count =
     environments_equal (environment_of new) (environment_of old)
     (λ name. ap (λ (os : List PlainObject). option_map object_of (find_in os name)) same)
-    (ap (λ (os : List PlainObject). length os) same)
+    count
 
 nothing_within : (test : Bool) → cond test (let o : Option ℕ = None in o) None ≡ None
 nothing_within true = refl
@@ -61,17 +61,17 @@ unfolding word_at
 empty_content o empty i j = rw empty (nothing_within (nat_lt i (rows_of o.shape) && nat_lt j (cols_of o.shape)))
 
 -- one object more
-pub environment-created : (old new : PlainEnvironment) (o : PlainObject) → new.objects.items ≡ o ∷ old.objects.items → o.entries.items ≡ []
+pub environment-created : (old new : PlainEnvironment) (o : PlainObject) → new.objects.items ≡ o ∷ old.objects.items → new.live ≡ old.live + 1 → o.entries.items ≡ []
     → environment_of new ≡ effect bytes_eq (environment_of old) (Create (string_bytes o.name) o.domain o.shape)
 unfolding effect
-environment-created old new o more empty =
+environment-created old new o more count empty =
     let is = objects_equal (object_of o) (empty_object o.domain o.shape) refl refl (empty_content o empty) in
     environments_equal (environment_of new) (effect bytes_eq (environment_of old) (Create (string_bytes o.name) o.domain o.shape))
     (λ other.
     ap (λ (os : List PlainObject). option_map object_of (find_in os other)) more
     ∙ option_map-cond object_of (bytes_eq (string_bytes o.name) other) o (find_in old.objects.items other)
     ∙ ap (λ x. cond (bytes_eq (string_bytes o.name) other) (Some x) (option_map object_of (find_in old.objects.items other))) is)
-    (ap (λ (os : List PlainObject). length os) more ∙ omega arith)
+    count
 
 -- ---- another object in the place of the first of its name
 
@@ -140,6 +140,7 @@ record IsReplaced (old new : PlainEnvironment) (name : Name) (at : ℕ) (x y : P
   old_object : x ≡ get_or old.objects.items at x
   after : new.objects.items ≡ set old.objects.items at y
   same_name : string_bytes y.name ≡ string_bytes x.name
+  count : new.live ≡ old.live
 
 environment-replaced : (old new : PlainEnvironment) (name : Name) (at : ℕ) (x y : PlainObject) → IsReplaced old new name at x y
     → environment_of new ≡ with_object bytes_eq (environment_of old) name (object_of y) (environment_of old).count
@@ -151,7 +152,16 @@ environment-replaced old new name at x y is =
     ap (λ (os : List PlainObject). option_map object_of (find_in os other)) is.after
     ∙ ap (option_map object_of) (replaced name other old.objects.items at y x first (is.same_name ∙ x_name))
     ∙ option_map-cond object_of (bytes_eq name other) y (find_in old.objects.items other))
-    (ap (λ (os : List PlainObject). length os) is.after ∙ length-set old.objects.items at y)
+    is.count
+
+-- an object of one name doesn't have another
+other_name : (name other : Name) (x : PlainObject) → has_name name x ≡ false → has_name other x ≡ true → bytes_eq name other ≡ false
+other_name name other x elsewhere here = elim (cases_Bool (bytes_eq name other)) [
+  | inl same ↦
+      let is : name ≡ other = (bytes_eq-Decides name other).0 same in
+      absurd (true≢false (sym (rw (← is) at here) ∙ elsewhere))
+  | inr apart ↦ apart
+]
 
 -- what a name stands for, put there again
 put_again : (env : Environment Name) (name : Name) (o : Object) → env.find_object name ≡ Some o → (other : Name) → cond (bytes_eq name other) (Some o) (env.find_object other) ≡ env.find_object other
@@ -165,12 +175,12 @@ module _ (old new : PlainEnvironment) (name : Name) (at : ℕ) (x y : PlainObjec
     (place : position (λ o. bytes_eq (string_bytes o.name) name) old.objects.items ≡ Some at)
     (old_object : x ≡ get_or old.objects.items at x)
     (after : new.objects.items ≡ set old.objects.items at y)
-    (same_name : string_bytes y.name ≡ string_bytes x.name) where
+    (same_name : string_bytes y.name ≡ string_bytes x.name) (count : new.live ≡ old.live) where
   object_here : object_at (environment_of old) name ≡ object_of x
   object_here = ap found_object (object-found old name at x place old_object)
 
   is_replaced : IsReplaced old new name at x y
-  is_replaced = record { place = place; old_object = old_object; after = after; same_name = same_name }
+  is_replaced = record { place = place; old_object = old_object; after = after; same_name = same_name; count = count }
 
   -- where it is the same object, nothing changed
   pub object-kept : object_of y ≡ object_of x → environment_of new ≡ environment_of old
@@ -195,6 +205,60 @@ module _ (old new : PlainEnvironment) (name : Name) (at : ℕ) (x y : PlainObjec
       object-changed (λ o. record o { content = with_entry o.content (row_of p) (col_of p) (word_of o.domain value) })
       (changed ∙ ap (λ w. record (object_of x) { content = with_entry (object_of x).content (row_of p) (col_of p) w }) is_word)
 
+  -- all its entries go
+  pub object-cleared : y.domain ≡ x.domain → y.shape ≡ x.shape → y.entries.items ≡ [] → environment_of new ≡ effect bytes_eq (environment_of old) (Clear name)
+  unfolding effect
+  object-cleared same_domain same_shape none =
+      object-changed (λ o. record o { content = no_content })
+      (objects_equal (object_of y) (record (object_of x) { content = no_content }) same_domain same_shape (empty_content y none))
+
+  -- an entry goes
+  pub object-removed : (p : Place) → y.domain ≡ x.domain → y.shape ≡ x.shape
+      → ((i j : ℕ) → (object_of y).content i j ≡ without_entry (object_of x).content (row_of p) (col_of p) i j)
+      → environment_of new ≡ effect bytes_eq (environment_of old) (Remove name p)
+  unfolding effect
+  object-removed p same_domain same_shape removed =
+      object-changed (λ o. record o { content = without_entry o.content (row_of p) (col_of p) })
+      (objects_equal (object_of y) (record (object_of x) { content = without_entry (object_of x).content (row_of p) (col_of p) }) same_domain same_shape removed)
+
+-- ---- objects that are freed
+
+-- the first object of another name among those that have not one name
+found_among : (name other : Name) (xs : List PlainObject)
+    → find (has_name other) (filter (λ o. not (has_name name o)) xs) ≡ cond (bytes_eq name other) None (find (has_name other) xs)
+found_among name other [] = elim (cases_Bool (bytes_eq name other)) [ inl same ↦ rw same refl | inr apart ↦ rw apart refl ]
+found_among name other (x ∷ xs) = elim (cases_Bool (has_name name x)) [
+  | inl here ↦
+      let is : string_bytes x.name ≡ name = (bytes_eq-Decides (string_bytes x.name) name).0 here in
+      let chosen : (test : Bool) (r s : Option PlainObject) → r ≡ cond test None s → r ≡ cond test None (cond test (Some x) s) =
+      λ test. elim test as (λ test. (r s : Option PlainObject) → r ≡ cond test None s → r ≡ cond test None (cond test (Some x) s)) [ true ↦ λ r s e. e | false ↦ λ r s e. e ] in
+      rw here (chosen (bytes_eq name other) _ (find (has_name other) xs) (found_among name other xs)
+      ∙ ap (λ n. cond (bytes_eq name other) None (cond (bytes_eq n other) (Some x) (find (has_name other) xs))) (sym is))
+  | inr elsewhere ↦
+      let chosen : (first test : Bool) (r s : Option PlainObject) → (first ≡ true → test ≡ false) → r ≡ cond test None s → cond first (Some x) r ≡ cond test None (cond first (Some x) s) =
+      λ first test. elim first as (λ first. (r s : Option PlainObject) → (first ≡ true → test ≡ false) → r ≡ cond test None s → cond first (Some x) r ≡ cond test None (cond first (Some x) s)) [
+        | true ↦ λ r s apart e. rw (apart refl) refl
+        | false ↦ λ r s apart e. e
+      ] in
+      rw elsewhere (chosen (has_name other x) (bytes_eq name other) _ (find (has_name other) xs) (other_name name other x elsewhere) (found_among name other xs))
+]
+
+option_map-none : {A B : Type 0} (f : A → B) (test : Bool) (o : Option A) → option_map f (cond test None o) ≡ cond test None (option_map f o)
+option_map-none f true o = refl
+option_map-none f false o = refl
+
+-- those of other names are left
+pub environment-freed : (old new : PlainEnvironment) (name : Name) → new.objects.items ≡ filter (λ o. not (has_name name o)) old.objects.items → new.live ≡ old.live - 1
+    → environment_of new ≡ effect bytes_eq (environment_of old) (Free name)
+unfolding effect
+environment-freed old new name left count =
+    environments_equal (environment_of new) (effect bytes_eq (environment_of old) (Free name))
+    (λ other.
+    ap (λ (os : List PlainObject). option_map object_of (find_in os other)) left
+    ∙ ap (option_map object_of) (found_among name other old.objects.items)
+    ∙ option_map-none object_of (bytes_eq name other) (find_in old.objects.items other))
+    count
+
 -- ---- operations
 
 kept_within : (rows cols i j : ℕ) (v : Option ℕ) → (nat_lt i rows && nat_lt j cols) ≡ false → cond (nat_lt i rows && nat_lt j cols) v None ≡ None
@@ -208,7 +272,7 @@ keeps_inside : (env : PlainEnvironment) (name : Name) → KeepsInside (object_at
 keeps_inside env name = inside_found (find_in env.objects.items name)
 
 inputs_inside : (env : PlainEnvironment) (operation : Operation Name) → All KeepsInside (inputs_of (renamed_operation (object_at (environment_of env)) operation))
-inputs_inside env (Multiply ring a b) =
+inputs_inside env (Multiply form ring a b) =
     let object = object_at (environment_of env) in
     All-cons KeepsInside (object a) (object b ∷ []) (keeps_inside env a) (All-cons KeepsInside (object b) [] (keeps_inside env b) (All-nil KeepsInside))
 
@@ -235,14 +299,14 @@ object-listed x y c same_domain same_shape lists inside =
 -- the output lists what the operation leaves
 pub object-operated : (old new : PlainEnvironment) (out : Out Name) (operation : Operation Name) (at : ℕ) (x y : PlainObject)
     → position (λ o. bytes_eq (string_bytes o.name) out.c) old.objects.items ≡ Some at → x ≡ get_or old.objects.items at x → new.objects.items ≡ set old.objects.items at y
-    → string_bytes y.name ≡ string_bytes x.name → y.domain ≡ x.domain → y.shape ≡ x.shape → fault_in old (Operate out operation) ≡ None
+    → string_bytes y.name ≡ string_bytes x.name → new.live ≡ old.live → y.domain ≡ x.domain → y.shape ≡ x.shape → fault_in old (Operate out operation) ≡ None
     → (let shape = (object_at (environment_of old) out.c).shape in y.entries.items ≡ entries_of (rows_of shape) (cols_of shape) (left_in old out operation))
     → environment_of new ≡ effect bytes_eq (environment_of old) (Operate out operation)
 unfolding effect
-object-operated old new out operation at x y place old_object after same_name same_domain same_shape accepted lists =
+object-operated old new out operation at x y place old_object after same_name count same_domain same_shape accepted lists =
     let c = left_in old out operation in
-    let here : object_at (environment_of old) out.c ≡ object_of x = object_here old new out.c at x y place old_object after same_name in
-    object-changed old new out.c at x y place old_object after same_name (λ o. record o { content = c })
+    let here : object_at (environment_of old) out.c ≡ object_of x = object_here old new out.c at x y place old_object after same_name count in
+    object-changed old new out.c at x y place old_object after same_name count (λ o. record o { content = c })
     (object-listed x y c same_domain same_shape
     (lists ∙ ap (λ (o : Object). entries_of (rows_of o.shape) (cols_of o.shape) c) here)
     (subst (λ (o : Object). IsWithin (rows_of o.shape) (cols_of o.shape) c) here (left-within old out operation accepted)))

@@ -1,5 +1,6 @@
 -- The faults of operations whose objects are found, or are not, and what accepted calls find.
 use Rattle.std.proofs.Common.{◌≡◌, ◌∙◌, ℕ, ℤ, refl, sym, ap, inl, inr, Bool, true, false, cond, not, ◌&&◌, List, [], ◌∷◌, ◌++◌, is_some, Option, Some, None}
+use Rattle.std.specs.Prelude.{nat_le}
 use Rattle.std.specs.List.{list_all}
 use Rattle.std.specs.Option.{option_map, option_map_or}
 use Rattle.std.proofs.lemmas.Bool.{and_parts, cases_Bool, true≢false}
@@ -7,15 +8,17 @@ use Rattle.algebra.specs.declared.domain.Domain.{Domain}
 use Rattle.algebra.specs.declared.operator_names.OpName.{OpName}
 use Rattle.algebra.specs.Operators.{answer_domain, offers}
 use Rattle.algebra.specs.Value.{is_value_of, same_domain}
-use Rattle.model.specs.declared.call.Call.TheVariants.{Nvals, Operate, Print, Set}
+use Rattle.model.specs.declared.call.Call.TheVariants.{Clear, Create, Nvals, Operate, Print, Remove, Set}
 use Rattle.model.specs.declared.call.Operation.{Operation}
 use Rattle.model.specs.declared.call.Operation.TheVariants.{Multiply}
 use Rattle.model.specs.declared.call.Out.{Out}
+use Rattle.model.specs.declared.limits.TheConstants.{MOST_OBJECTS}
 use Rattle.model.specs.declared.shape.Place.{Place}
+use Rattle.model.specs.declared.shape.Shape.{Shape}
 use Rattle.model.specs.declared.shape.Signature.{Signature}
 use Rattle.model.specs.declared.status.Status.{Status}
 use Rattle.model.specs.declared.status.Status.TheVariants as status
-use Rattle.model.specs.Come.{out_has_come}
+use Rattle.model.specs.Come.{desc_has_come}
 use Rattle.model.specs.Fault.{accumulates, early_fault, fault_of, found_object, found_signature, operation_fault}
 use Rattle.model.specs.Object.{Object, is_inside, is_of_kind, signature_of}
 use Rattle.model.specs.Renamed.{inputs_of, outputs_of, renamed_operation, renamed_out}
@@ -33,7 +36,7 @@ pub out-composed : {K L M : Type 0} (f : K → L) (g : L → M) (out : Out K) �
 out-composed {M = M} f g out = ap (λ (mask : Option M). let o : Out M = record { c = g (f out.c); mask = mask; accum = out.accum; desc = out.desc } in o) (mask_composed f g out.mask)
 
 pub operation-composed : {K L M : Type 0} (f : K → L) (g : L → M) (operation : Operation K) → renamed_operation g (renamed_operation f operation) ≡ renamed_operation (λ k. g (f k)) operation
-operation-composed f g (Multiply ring a b) = refl
+operation-composed f g (Multiply form ring a b) = refl
 
 mask_same : {K L : Type 0} (f g : K → L) (mask : Option K) → ((k : K) → f k ≡ g k) → option_map f mask ≡ option_map g mask
 mask_same f g None same = refl
@@ -43,7 +46,7 @@ out-same : {K L : Type 0} (f g : K → L) (out : Out K) → ((k : K) → f k ≡
 out-same f g out same = λ i. record { c = same out.c i; mask = mask_same f g out.mask same i; accum = out.accum; desc = out.desc }
 
 operation-same : {K L : Type 0} (f g : K → L) (operation : Operation K) → ((k : K) → f k ≡ g k) → renamed_operation f operation ≡ renamed_operation g operation
-operation-same f g (Multiply ring a b) same = λ i. Multiply ring (same a i) (same b i)
+operation-same f g (Multiply form ring a b) same = λ i. Multiply form ring (same a i) (same b i)
 
 mask_itself : {K : Type 0} (mask : Option K) → option_map (λ k. k) mask ≡ mask
 mask_itself None = refl
@@ -53,7 +56,7 @@ out-itself : {K : Type 0} (out : Out K) → renamed_out (λ k. k) out ≡ out
 out-itself {K = K} out = ap (λ (mask : Option K). let o : Out K = record out { mask = mask } in o) (mask_itself out.mask)
 
 operation-itself : {K : Type 0} (operation : Operation K) → renamed_operation (λ k. k) operation ≡ operation
-operation-itself (Multiply ring a b) = refl
+operation-itself (Multiply form ring a b) = refl
 
 -- the objects that names stand for
 pub out-found : {K : Type 0} (find_object : K → Option Object) (names : Out K) (out : Out Object) → renamed_out Some out ≡ renamed_out find_object names → out ≡ renamed_out (λ name. found_object (find_object name)) names
@@ -88,8 +91,8 @@ abbrev pub all_there : {X : Type 0} → Out (Option X) → Operation (Option X) 
 all_there out operation = list_all is_some (outputs_of out ++ inputs_of operation)
 
 there-known : {X Y : Type 0} (f : X → Y) (out : Out (Option X)) (operation : Operation (Option X)) → all_there (renamed_out (option_map f) out) (renamed_operation (option_map f) operation) ≡ all_there out operation
-there-known {X = X} f out (Multiply ring a b) =
-    elim out.mask as (λ (mask : Option (Option X)). let o : Out (Option X) = record out { mask = mask } in all_there (renamed_out (option_map f) o) (renamed_operation (option_map f) (Multiply ring a b)) ≡ all_there o (Multiply ring a b))
+there-known {X = X} f out (Multiply form ring a b) =
+    elim out.mask as (λ (mask : Option (Option X)). let o : Out (Option X) = record out { mask = mask } in all_there (renamed_out (option_map f) o) (renamed_operation (option_map f) (Multiply form ring a b)) ≡ all_there o (Multiply form ring a b))
     [ None ↦ rw (known_there f out.c, known_there f a, known_there f b) refl | Some m ↦ rw (known_there f out.c, known_there f m, known_there f a, known_there f b) refl ]
 
 early-missing : (count : ℕ) (out : Out (Option Signature)) (operation : Operation (Option Signature)) → all_there out operation ≡ false → early_fault count (Operate out operation) ≡ Some status.UninitializedObject
@@ -134,8 +137,8 @@ pub fault-no_input : (count : ℕ) (out : Out (Option Object)) (operation : Oper
 fault-no_input count out operation h = missing count out operation (nor {L = Object} (outputs_of out) (inputs_of operation) h)
 
 all_some : {X : Type 0} (out : Out X) (operation : Operation X) → all_there (renamed_out Some out) (renamed_operation Some operation) ≡ true
-all_some {X = X} out (Multiply ring a b) =
-    elim out.mask as (λ (mask : Option X). let o : Out X = record out { mask = mask } in all_there (renamed_out Some o) (renamed_operation Some (Multiply ring a b)) ≡ true) [ None ↦ refl | Some m ↦ refl ]
+all_some {X = X} out (Multiply form ring a b) =
+    elim out.mask as (λ (mask : Option X). let o : Out X = record out { mask = mask } in all_there (renamed_out Some o) (renamed_operation Some (Multiply form ring a b)) ≡ true) [ None ↦ refl | Some m ↦ refl ]
 
 pub fault-known : (count : ℕ) (known_out : Out Object) (known : Operation Object) (out : Out (Option Object)) (operation : Operation (Option Object))
     → renamed_out Some known_out ≡ out → renamed_operation Some known ≡ operation
@@ -174,7 +177,7 @@ accepted-fault count find_object out operation accepted =
     ∙ sym (there count found_out found_operation (accepted-there count found_out found_operation accepted)) ∙ accepted
 
 offered_as : {K L : Type 0} (f : K → L) (operation : Operation K) → is_offered (renamed_operation f operation) ≡ is_offered operation
-offered_as f (Multiply ring a b) = refl
+offered_as f (Multiply form ring a b) = refl
 
 accumulator-offered : (domain : Domain) (accum : Option OpName) → option_map_or (accumulates domain) accum true ≡ true → accumulator_offered accum ≡ true
 accumulator-offered domain None h = refl
@@ -187,8 +190,8 @@ pub accepted-operators : {K : Type 0} (f : K → Object) (out : Out K) (operatio
 accepted-operators f out operation accepted =
     let known_out = renamed_out signature_of (renamed_out f out) in
     let known = renamed_operation signature_of (renamed_operation f operation) in
-    let all = and_parts (is_offered known && out_has_come known_out) (option_map_or (accumulates known_out.c.domain) known_out.accum true) (accepted-implemented known_out known accepted) in
-    let offered = (and_parts (is_offered known) (out_has_come known_out) all.0).0 in
+    let all = and_parts (is_offered known && desc_has_come out.desc) (option_map_or (accumulates known_out.c.domain) known_out.accum true) (accepted-implemented known_out known accepted) in
+    let offered = (and_parts (is_offered known) (desc_has_come out.desc) all.0).0 in
     rw (sym (offered_as f operation) ∙ sym (offered_as signature_of (renamed_operation f operation)) ∙ offered, accumulator-offered known_out.c.domain out.accum all.1) refl
 
 -- ---- other accepted calls
@@ -202,6 +205,26 @@ pub accepted-print : (count : ℕ) (o : Option Object) → fault_of count (Print
 unfolding early_fault
 accepted-print count None h = absurd (cc)
 accepted-print count (Some o) h = refl
+
+pub accepted-clear : (count : ℕ) (o : Option Object) → fault_of count (Clear o) ≡ None → o ≡ None → ⊥
+unfolding early_fault
+accepted-clear count None h none = absurd (cc)
+accepted-clear count (Some o) h none = absurd (cc)
+
+pub accepted-remove : (count : ℕ) (o : Option Object) (place : Place) → fault_of count (Remove o place) ≡ None → o ≡ None → ⊥
+unfolding early_fault
+accepted-remove count None place h none = absurd (cc)
+accepted-remove count (Some o) place h none = absurd (cc)
+
+not_most : (taken most : Bool) (rest : Option Status) → option_map_or Some (cond taken (Some status.NameTaken) (cond most (Some status.NotImplemented) rest)) None ≡ None → most ≡ false
+not_most true most rest h = absurd (cc)
+not_most false true rest h = absurd (cc)
+not_most false false rest h = refl
+
+-- an accepted creation finds room for one object more
+pub accepted-create : (count : ℕ) (taken : Bool) (domain : Domain) (shape : Shape) → fault_of count (Create taken domain shape) ≡ None → nat_le MOST_OBJECTS count ≡ false
+unfolding early_fault
+accepted-create count taken domain shape h = not_most taken (nat_le MOST_OBJECTS count) _ h
 
 set_passed : (kind inside valid : Bool)
     → option_map_or Some (cond (not kind) (Some status.WrongKind) (cond (not inside) (Some status.InvalidIndex) (cond (not valid) (Some status.InvalidValue) None))) None ≡ None

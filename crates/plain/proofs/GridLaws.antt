@@ -1,9 +1,9 @@
 -- Walks over the positions of a shape, row by row, and lists of entries.
-use Rattle.std.proofs.Common.{◌≡◌, ℕ, zero, suc, ◌+◌, ◌<◌, ◌≤◌, ◌==◌, ◌&&◌, ◌||◌, Bool, true, false, cond, List, [], ◌∷◌, ◌++◌, length, get_or, drop, Option, Some, None, refl, sym, ◌∙◌, ap, arith, append_assoc, add-one, add-zero}
+use Rattle.std.proofs.Common.{◌≡◌, ℕ, zero, suc, ◌+◌, ◌<◌, ◌≤◌, ◌==◌, ◌&&◌, ◌||◌, Bool, true, false, cond, not, List, [], ◌∷◌, ◌++◌, length, filter, get_or, drop, inl, inr, Option, Some, None, refl, sym, ◌∙◌, ap, arith, append_assoc, add-one, add-zero}
 use Rattle.std.specs.Prelude.{nat_le, nat_lt}
 use Rattle.std.specs.List.{cons_option, filter_map, flat_map}
 use Rattle.std.specs.Option.{option_map, option_or}
-use Rattle.std.proofs.lemmas.Bool.{and_parts, eqb-true}
+use Rattle.std.proofs.lemmas.Bool.{and_parts, cases_Bool, eqb-true}
 use Rattle.std.proofs.lemmas.Bool.Decides.{nat_tests}
 use Rattle.std.proofs.lemmas.List.Elements.{filter_map-append}
 use Rattle.std.proofs.lemmas.Grind.{flat_map-append}
@@ -12,8 +12,8 @@ use Rattle.std.proofs.Math.Seq.{drop-cons}
 use Rattle.std.proofs.Math.ListN.{drop_of_length-le}
 use Rattle.model.specs.declared.entry.Entry.{Entry}
 use Rattle.model.specs.Entries.{below, count_from, entries_of, entry_at, row_entries, word_at}
-use Rattle.model.specs.Object.{Content, with_entry}
-use Rattle.plain.specs.Evaluated.{within}
+use Rattle.model.specs.Object.{Content, with_entry, without_entry}
+use Rattle.plain.specs.Evaluated.{is_apart, within}
 
 -- one number more
 count_from-more : (first n : ℕ) → count_from first (suc n) ≡ count_from first n ++ (first + n) ∷ []
@@ -49,6 +49,39 @@ within-put rows cols row col word es in_rows in_cols i j =
     let same_row : i ≡ row = eqb-true i row parts.0 in
     let same_col : j ≡ col = eqb-true j col parts.1 in
     grind (arith, nat_tests))
+
+-- an entry that is taken off was listed for the position and for no other
+off_list : (at test : Bool) (x y : Option ℕ) (w : ℕ) → (test ≡ true → at ≡ true) → y ≡ cond at None x → y ≡ cond at None (cond test (Some w) x)
+off_list true test x y w here e = e
+off_list false true x y w here e = absurd (let h = here refl in cc)
+off_list false false x y w here e = e
+
+kept_list : (at test : Bool) (x y : Option ℕ) (w : ℕ) → (test ≡ true → at ≡ false) → y ≡ cond at None x → cond test (Some w) y ≡ cond at None (cond test (Some w) x)
+kept_list at true x y w apart e = rw (apart refl) refl
+kept_list at false x y w apart e = e
+
+-- what is listed for other positions
+pub without-listed : (row col : ℕ) (es : List Entry) (i j : ℕ) → word_at (filter (is_apart row col) es) i j ≡ without_entry (word_at es) row col i j
+unfolding word_at
+without-listed row col [] i j = elim (cases_Bool ((i == row) && (j == col))) [ inl at ↦ rw at refl | inr apart ↦ rw apart refl ]
+without-listed row col (e ∷ es) i j =
+    let at = (i == row) && (j == col) in
+    let test = (i == e.row) && (j == e.col) in
+    elim (cases_Bool (is_apart row col e)) [
+      | inl apart ↦ rw apart (kept_list at test (word_at es i j) (word_at (filter (is_apart row col) es) i j) e.word (λ here. grind (arith, nat_tests)) (without-listed row col es i j))
+      | inr same ↦ rw same (off_list at test (word_at es i j) (word_at (filter (is_apart row col) es) i j) e.word (λ here. grind (arith, nat_tests)) (without-listed row col es i j))
+    ]
+
+inside_without : (inside at : Bool) (x y : Option ℕ) → y ≡ cond at None x → cond inside y None ≡ cond at None (cond inside x None)
+inside_without true at x y e = e
+inside_without false true x y e = refl
+inside_without false false x y e = refl
+
+pub within-without : (rows cols row col : ℕ) (old new : List Entry) → new ≡ filter (is_apart row col) old → (i j : ℕ)
+    → within rows cols (word_at new) i j ≡ without_entry (within rows cols (word_at old)) row col i j
+within-without rows cols row col old new left i j =
+    inside_without (nat_lt i rows && nat_lt j cols) ((i == row) && (j == col)) (word_at old i j) (word_at new i j)
+    (ap (λ es. word_at es i j) left ∙ without-listed row col old i j)
 
 -- the search for the first word that is listed for a position
 pub search-found : (es : List Entry) (k i j : ℕ) (d : Entry) → k < length es → word_at (drop k es) i j ≡ word_at es i j

@@ -1,5 +1,5 @@
 -- What the plain evaluator's environments, calls and answers stand for.
-use Rattle.std.specs.Prelude.{◌≡◌, false, is_some, List, length, Option}
+use Rattle.std.specs.Prelude.{◌≡◌, false, is_some, List, Option}
 use Rattle.std.specs.Borrow.{Bor}
 use Rattle.std.specs.List.{find, list_all}
 use Rattle.std.specs.Option.{option_map}
@@ -27,7 +27,7 @@ find_in objects name = find (λ o. bytes_eq (string_bytes o.name) name) objects
 abbrev pub environment_of : PlainEnvironment → Environment Name
 environment_of env = record {
   find_object = λ name. option_map object_of (find_in env.objects.items name);
-  count = length env.objects.items;
+  count = env.live;
 }
 
 abbrev pub answer_of : PlainAnswer → Answer

@@ -1,14 +1,17 @@
 -- What the plain evaluator's objects, operations and lines stand for.
-use Rattle.std.specs.Prelude.{ℕ, ◌&&◌, nat_lt, Bool, true, if◌then◌else◌, List, map, Option, Some, None, Vec}
+use Rattle.std.specs.Prelude.{ℕ, ◌&&◌, ◌==◌, not, nat_lt, Bool, true, if◌then◌else◌, List, map, Option, Some, None, Vec}
 use Rattle.std.specs.Borrow.{Bor}
 use Rattle.std.specs.Option.{option_map_or}
 use Rattle.algebra.specs.Operators.{offers}
 use Rattle.algebra.specs.declared.operator_names.OpName.{OpName}
+use Rattle.model.specs.declared.call.Form.{Form}
+use Rattle.model.specs.declared.call.Form.TheVariants.{MatrixMatrix, MatrixVector, VectorMatrix}
 use Rattle.model.specs.declared.call.Operation.{Operation}
 use Rattle.model.specs.declared.call.Out.{Out}
 use Rattle.model.specs.declared.shape.Signature.{Signature}
+use Rattle.model.specs.declared.entry.Entry.{Entry}
 use Rattle.model.specs.Entries.{word_at}
-use Rattle.model.specs.Object.{Content, Object, cols_of, rows_of, signature_of, turned_object}
+use Rattle.model.specs.Object.{Content, Object, cols_of, rows_of, signature_of, turned_content, turned_object}
 use Rattle.model.specs.Renamed.{renamed_operation, renamed_out}
 use Rattle.model.specs.Table.{is_offered, turned_if}
 use Rattle.model.specs.WriteBack.{result_of}
@@ -18,6 +21,10 @@ use Rattle.plain.specs.declared.operations.Input.{Input}
 -- what a map has inside a shape of so many rows and columns
 abbrev pub within : ℕ → ℕ → Content → Content
 within rows cols c = λ i j. if nat_lt i rows && nat_lt j cols then c i j else None
+
+-- whether an entry stands at another position
+abbrev pub is_apart : ℕ → ℕ → Entry → Bool
+is_apart row col e = not ((e.row == row) && (e.col == col))
 
 -- the object: at each position inside the shape the first word that is listed for it
 abbrev pub object_of : PlainObject → Object
@@ -67,3 +74,15 @@ abbrev pub added : (ℕ → ℕ → ℕ) → Option ℕ → Option ℕ → Optio
 added add sum None = sum
 added add None (Some term) = Some term
 added add (Some sum) (Some term) = Some (add sum term)
+
+-- the first factor of a product: a vector is a row
+abbrev pub first_factor : Form → Content → Content
+first_factor MatrixMatrix c = c
+first_factor MatrixVector c = c
+first_factor VectorMatrix c = turned_content c
+
+-- a position of a product: where that is a row, it is held as a column
+abbrev pub place_in : Form → ℕ → ℕ → ℕ × ℕ
+place_in MatrixMatrix row col = (row, col)
+place_in MatrixVector row col = (row, col)
+place_in VectorMatrix row col = (col, row)

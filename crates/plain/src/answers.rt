@@ -45,7 +45,7 @@ impl PlainEnvironment {
             Call::Get { object, place } => value_lines(alloc, self.object(object), place),
             Call::Nvals { object } => count_lines(alloc, self.object(object)),
             Call::Print { object } => canonical_lines(alloc, self.object(object)),
-            Call::Create { .. } | Call::Set { .. } | Call::Operate { .. } => Ok(Vec::new(alloc)),
+            _ => Ok(Vec::new(alloc)),
         }
     }
 }

@@ -1,5 +1,5 @@
 //! The objects of a run, by their names, and what accepted calls leave.
-ghost use Rattle.std.specs.Prelude.{◌≡◌, MatchOption, MatchResult, None, OnErr, OnOk, IfOk, Some};
+ghost use Rattle.std.specs.Prelude.{◌≡◌, MatchOption, MatchResult, None, OnErr, OnOk, IfOk, Some, filter, not};
 ghost use Rattle.std.specs.List.{position};
 ghost use Rattle.std.specs.Option.{option_copied};
 ghost use Rattle.std.specs.Str.{bytes_eq};
@@ -21,11 +21,12 @@ use algebra::Domain;
 use model::{Call, Entry, Operation, Out, Place, Shape, Status};
 use std::alloc::{AllocError, Global};
 
-/// The objects of a run, the newest first. Each call is done as the definition of `step` says, with
-/// no regard to speed.
+/// The objects of a run, the newest first, and how many there are. Each call is done as the definition
+/// of `step` says, with no regard to speed.
 #[derive(Drop)]
 pub struct PlainEnvironment {
     pub(crate) objects: Vec<PlainObject>,
+    pub(crate) live: u64,
 }
 
 impl PlainEnvironment {
@@ -35,6 +36,7 @@ impl PlainEnvironment {
     {
         PlainEnvironment {
             objects: Vec::new(alloc),
+            live: 0,
         }
     }
 
@@ -83,10 +85,10 @@ impl PlainEnvironment {
             (λ objects. renamed_operation Some (operation_of objects) ≡ found) }
     {
         match *operation {
-            Operation::Multiply { ring, a, b } => {
+            Operation::Multiply { form, ring, a, b } => {
                 let a = self.find(a)?;
                 let b = self.find(b)?;
-                Some(Operation::Multiply { ring, a, b })
+                Some(Operation::Multiply { form, ring, a, b })
             }
         }
     }
@@ -100,6 +102,7 @@ impl PlainEnvironment {
         domain: Domain,
         shape: Shape,
     ) -> Result<(), AllocError>
+        requires { fault_in self.old (Call.Create name.now domain shape) ≡ None }
         ensures { MatchResult result
             (λ _. environment_of self.new ≡ effect_in self.old (Call.Create name.now domain shape))
             (λ _. environment_of self.new ≡ environment_of self.old) }
@@ -113,7 +116,41 @@ impl PlainEnvironment {
             entries,
         };
         self.objects.insert(0, object)?;
+        self.live += 1;
         Ok(())
+    }
+
+    /// Frees the object of a name.
+    #[tactic(auto, unfolding(model::specs::Run::effect))]
+    fn free(&mut self, name: &str)
+        ensures { environment_of self.new ≡ effect_in self.old (Call.Free name.now) }
+    {
+        take_named_off(&mut self.objects, name);
+        self.live = self.live.saturating_sub(1);
+    }
+
+    /// Removes all entries of an object.
+    fn clear(&mut self, name: &str)
+        requires { fault_in self.old (Call.Clear name.now) ≡ None }
+        ensures { environment_of self.new ≡ effect_in self.old (Call.Clear name.now) }
+    {
+        let Some(index) = self.position(name) else {
+            unreachable!()
+        };
+        let object = &mut self.objects[index];
+        object.entries.clear();
+    }
+
+    /// Removes the entry at a place, where there is one.
+    fn remove(&mut self, name: &str, place: Place)
+        requires { fault_in self.old (Call.Remove name.now place) ≡ None }
+        ensures { environment_of self.new ≡ effect_in self.old (Call.Remove name.now place) }
+    {
+        let Some(index) = self.position(name) else {
+            unreachable!()
+        };
+        let object = &mut self.objects[index];
+        object.remove(place);
     }
 
     /// Sets a value. An error leaves the objects as they were.
@@ -193,6 +230,18 @@ impl PlainEnvironment {
                 domain,
                 shape,
             } => self.create(alloc, name, *domain, *shape),
+            Call::Free { object } => {
+                self.free(object);
+                Ok(())
+            }
+            Call::Clear { object } => {
+                self.clear(object);
+                Ok(())
+            }
+            Call::Remove { object, place } => {
+                self.remove(object, *place);
+                Ok(())
+            }
             Call::Set {
                 object,
                 place,
@@ -233,4 +282,11 @@ impl PlainEnvironment {
             data_lines,
         })
     }
+}
+
+/// Takes the objects of a name off a list.
+fn take_named_off(objects: &mut Vec<PlainObject>, name: &str)
+    ensures { objects.new.items ≡ filter (λ o. not (bytes_eq (string_bytes o.name) name.now)) objects.old.items }
+{
+    objects.retain(|object| !(object.name.as_str() == name));
 }

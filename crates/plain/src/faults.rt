@@ -24,8 +24,12 @@ impl PlainEnvironment {
                 place,
                 value,
             } => self.set_fault(object, *place, *value),
+            Call::Remove { object, place } => self.place_fault(object, *place),
             Call::Get { object, place } => self.get_fault(object, *place),
-            Call::Nvals { object } | Call::Print { object } => self.name_fault(object),
+            Call::Free { object }
+            | Call::Clear { object }
+            | Call::Nvals { object }
+            | Call::Print { object } => self.name_fault(object),
             Call::Operate { out, operation } => self.operate_fault(out, operation),
         }
     }
@@ -37,7 +41,7 @@ impl PlainEnvironment {
     {
         if self.find(name).is_some() {
             Some(Status::NameTaken)
-        } else if self.objects.len() as u64 >= MOST_OBJECTS {
+        } else if self.live >= MOST_OBJECTS {
             Some(Status::NotImplemented)
         } else if !shape.is_allowed() {
             Some(Status::InvalidValue)
@@ -65,6 +69,23 @@ impl PlainEnvironment {
         }
     }
 
+    /// The fault of removing an entry.
+    #[tactic(auto, unfolding(model::specs::Fault::early_fault))]
+    fn place_fault(&self, name: &str, place: Place) -> Option<Status>
+        ensures { result ≡ fault_in self.now (Call.Remove name.now place) }
+    {
+        let Some(object) = self.find(name) else {
+            return Some(Status::UninitializedObject);
+        };
+        if !place.is_of_kind(object.shape) {
+            Some(Status::WrongKind)
+        } else if !place.is_inside(object.shape) {
+            Some(Status::InvalidIndex)
+        } else {
+            None
+        }
+    }
+
     /// The fault of asking for a value.
     #[tactic(auto, unfolding(model::specs::Fault::early_fault))]
     fn get_fault(&self, name: &str, place: Place) -> Option<Status>
@@ -87,6 +108,8 @@ impl PlainEnvironment {
     /// The fault of a call that only needs an object of the name.
     #[tactic(auto, unfolding(model::specs::Fault::early_fault))]
     fn name_fault(&self, name: &str) -> Option<Status>
+        ensures free { result ≡ fault_in self.now (Call.Free name.now) }
+        ensures clear { result ≡ fault_in self.now (Call.Clear name.now) }
         ensures nvals { result ≡ fault_in self.now (Call.Nvals name.now) }
         ensures print { result ≡ fault_in self.now (Call.Print name.now) }
     {
@@ -135,11 +158,11 @@ pub fn operation_fault(
     }
 }
 
-/// Whether all operators are there, and the output has come.
+/// Whether all operators are there, and the flags have come.
 fn is_implemented(out: &Out<&PlainObject>, operation: &Operation<&PlainObject>) -> bool
     ensures { result ≡ is_implemented (known_out out.now) (known_operation operation.now) }
 {
-    is_offered(operation) && out.has_come() && accumulator_serves(out.c.domain, out.accum)
+    is_offered(operation) && out.desc.has_come() && accumulator_serves(out.c.domain, out.accum)
 }
 
 /// Whether values of a domain can be accumulated by an operator, or there is none.

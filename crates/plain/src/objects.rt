@@ -1,9 +1,9 @@
 //! Objects as lists of entries.
-ghost use Rattle.std.specs.Prelude.{◌≡◌, MatchResult, true};
+ghost use Rattle.std.specs.Prelude.{◌≡◌, ℕ, MatchResult, filter, true};
 ghost use Rattle.std.specs.String.{string_bytes};
 ghost use Rattle.model.specs.Entries.{word_at};
-ghost use Rattle.model.specs.Object.{col_of, is_inside, row_of, with_entry};
-ghost use Rattle.plain.specs.Evaluated.{object_of};
+ghost use Rattle.model.specs.Object.{col_of, is_inside, row_of, with_entry, without_entry};
+ghost use Rattle.plain.specs.Evaluated.{is_apart, object_of};
 
 use crate::grid::Mapping;
 use algebra::Domain;
@@ -45,6 +45,19 @@ impl PlainObject {
         self.entries.insert(0, Entry { row, col, word })?;
         Ok(())
     }
+
+    /// Takes what is listed for a place off the list.
+    pub(crate) fn remove(&mut self, place: Place)
+        ensures name { string_bytes self.new.name ≡ string_bytes self.old.name }
+        ensures domain { self.new.domain ≡ self.old.domain }
+        ensures shape { self.new.shape ≡ self.old.shape }
+        ensures content { (i j : ℕ) → (object_of self.new).content i j
+            ≡ without_entry (object_of self.old).content (row_of place) (col_of place) i j }
+    {
+        let row = place.row();
+        let col = place.col();
+        take_off(&mut self.entries, row, col);
+    }
 }
 
 impl Mapping for PlainObject {
@@ -65,4 +78,11 @@ fn first_word(entries: &[Entry], row: u64, col: u64) -> Option<u64>
         }
     }
     None
+}
+
+/// Takes the entries at a position off a list.
+fn take_off(entries: &mut Vec<Entry>, row: u64, col: u64)
+    ensures { entries.new.items ≡ filter (is_apart row col) entries.old.items }
+{
+    entries.retain(|entry| !(entry.row == row && entry.col == col));
 }

@@ -20,13 +20,13 @@ use Rattle.model.specs.declared.status.Status.TheVariants as status
 use Rattle.model.specs.Fault.{early_fault, fault_of}
 use Rattle.model.specs.Grammar.{Name}
 use Rattle.model.specs.Object.{Object, empty_object}
-use Rattle.model.specs.Run.{Environment, effect, seen, with_object}
+use Rattle.model.specs.Run.{Environment, effect, seen, with_object, without_object}
 use Rattle.model.proofs.EnvironmentLaws.{environments_equal}
 use Rattle.script.proofs.NameLaws.{AreDistinct, count-left, own_number, same_number}
 use Rattle.script.specs.Named.{through}
 use Rattle.session.specs.declared.sessions.Session.{Session}
 use Rattle.session.specs.Performed.{environment_of, fault_in, made_in, next_object}
-use Rattle.session.specs.Tables.{same_object, without_object}
+use Rattle.session.specs.Tables.{same_object}
 
 -- ---- faults
 
@@ -147,11 +147,11 @@ created-there number new senv made name o domain shape adds there is n q stands 
 -- ---- an object that goes again
 
 pub gone_again : (senv made freed : Environment Obj) (o : Obj) (domain : Domain) (shape : Shape) → senv.find_object o ≡ None
-    → made ≡ effect same_object senv (Create o domain shape) → freed ≡ without_object made o → freed ≡ senv
+    → made ≡ effect same_object senv (Create o domain shape) → freed ≡ without_object same_object made o → freed ≡ senv
 unfolding effect
 gone_again senv made freed o domain shape unused is left =
-    left ∙ ap (λ (env : Environment Obj). without_object env o) is
-    ∙ environments_equal (without_object (with_object same_object senv o (empty_object domain shape) (senv.count + 1)) o) senv
+    left ∙ ap (λ (env : Environment Obj). without_object same_object env o) is
+    ∙ environments_equal (without_object same_object (with_object same_object senv o (empty_object domain shape) (senv.count + 1)) o) senv
     (λ q. elim (cases_Bool (o.0 == q.0)) [
       | inl same ↦ let one : o ≡ q = same_number o q (eqb-true o.0 q.0 same) in rw same (sym (rw one at unused))
       | inr apart ↦ rw apart refl
@@ -166,7 +166,7 @@ get_by_text-unchanged {X = X} {Y = Y} old new name same = ap (λ (es : List (Str
 pub freed_again : {T : Type 0} (result : Result T Status) (senv made freed : Environment Obj) (o : Obj) (domain : Domain) (shape : Shape) → senv.find_object o ≡ None
     → made ≡ effect same_object senv (Create o domain shape)
     → MatchResult result (λ x. is_some (made.find_object o) ≡ true) (λ s. (s ≡ status.UninitializedObject) × (made.find_object o ≡ None))
-    → OnOk result (freed ≡ without_object made o) → OnErr result (freed ≡ made) → freed ≡ senv
+    → OnOk result (freed ≡ without_object same_object made o) → OnErr result (freed ≡ made) → freed ≡ senv
 unfolding effect
 freed_again (Ok x) senv made freed o domain shape unused is there left kept = gone_again senv made freed o domain shape unused is left
 freed_again (Err s) senv made freed o domain shape unused is there left kept =

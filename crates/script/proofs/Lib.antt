@@ -1,4 +1,5 @@
 pub mod CreateLaws
+pub mod FreeLaws
 pub mod LineLaws
 pub mod NameLaws
 pub mod ReplyLaws

@@ -9,7 +9,7 @@ use Rattle.std.proofs.lemmas.Slice.Eq.{bytes_eq-Decides}
 use Rattle.calls.specs.Checks.{known_call}
 use Rattle.calls.specs.declared.obj.Obj.{Obj}
 use Rattle.model.specs.declared.call.Call.{Call}
-use Rattle.model.specs.declared.call.Call.TheVariants.{Create, Set, Get, Nvals, Print, Operate}
+use Rattle.model.specs.declared.call.Call.TheVariants.{Create, Free, Clear, Set, Remove, Get, Nvals, Print, Operate}
 use Rattle.model.specs.declared.call.Operation.{Operation}
 use Rattle.model.specs.declared.call.Operation.TheVariants.{Multiply}
 use Rattle.model.specs.declared.call.Out.{Out}
@@ -23,7 +23,7 @@ use Rattle.model.specs.Run.{Environment, data_lines_of, effect, object_at, on_ob
 use Rattle.model.specs.WriteBack.{left_by, result_of}
 use Rattle.model.proofs.EnvironmentLaws.{environments_equal}
 use Rattle.model.proofs.RenamedLaws.{renamed_twice}
-use Rattle.script.specs.Named.{is_create, through}
+use Rattle.script.specs.Named.{changes_names, through}
 use Rattle.session.specs.Performed.{count_in, environment_of, fault_in, made_in, numbered}
 use Rattle.session.specs.declared.sessions.Session.{Session}
 use Rattle.session.specs.Tables.{same_object}
@@ -36,9 +36,12 @@ along {L = L} {A = A} number h k call r e =
 
 -- ---- faults
 
-seen-unmade : {K : Type 0} (env : Environment K) (call : Call K K) → is_create call ≡ false → seen env call ≡ renamed env.find_object (λ name. false) call
+seen-unmade : {K : Type 0} (env : Environment K) (call : Call K K) → changes_names call ≡ false → seen env call ≡ renamed env.find_object (λ name. false) call
 seen-unmade env (Create name domain shape) h = absurd (true≢false h)
+seen-unmade env (Free o) h = refl
+seen-unmade env (Clear o) h = refl
 seen-unmade env (Set o p value) h = refl
+seen-unmade env (Remove o p) h = refl
 seen-unmade env (Get o p) h = refl
 seen-unmade env (Nvals o) h = refl
 seen-unmade env (Print o) h = refl
@@ -50,7 +53,7 @@ count-left session small =
     rw left refl
 
 -- the fault of a call on names is that of the call on numbers
-pub fault-along : (number : Name → Option Obj) (session : Session) (call : Call Name Name) (r : Call Obj Name) → made_in session < 2 ^ 64 - 1 → is_create call ≡ false
+pub fault-along : (number : Name → Option Obj) (session : Session) (call : Call Name Name) (r : Call Obj Name) → made_in session < 2 ^ 64 - 1 → changes_names call ≡ false
     → renamed Some (λ n. n) r ≡ renamed number (λ n. n) call
     → fault_of (through number (environment_of session)).count (seen (through number (environment_of session)) call) ≡ fault_in session (numbered session r)
 fault-along number session call r small known e =
@@ -65,14 +68,17 @@ fault-along number session call r small known e =
 -- ---- a name that stands for nothing
 
 there_renamed-out : {K X : Type 0} (f : K → Option X) (out : Out K) (operation : Operation K) → list_all is_some (outputs_of (renamed_out f out) ++ inputs_of (renamed_operation f operation)) ≡ list_all (λ k. is_some (f k)) (outputs_of out ++ inputs_of operation)
-there_renamed-out {K = K} f out (Multiply ring a b) =
+there_renamed-out {K = K} f out (Multiply form ring a b) =
     elim out.mask as (λ (mask : Option K). let o : Out K = record out { mask = mask } in
-    list_all is_some (outputs_of (renamed_out f o) ++ inputs_of (renamed_operation f (Multiply ring a b))) ≡ list_all (λ k. is_some (f k)) (outputs_of o ++ inputs_of (Multiply ring a b)))
+    list_all is_some (outputs_of (renamed_out f o) ++ inputs_of (renamed_operation f (Multiply form ring a b))) ≡ list_all (λ k. is_some (f k)) (outputs_of o ++ inputs_of (Multiply form ring a b)))
     [ None ↦ refl | Some m ↦ refl ]
 
 pub there_renamed : {K X A B : Type 0} (f : K → Option X) (k : A → B) (call : Call K A) → are_there (renamed f k call) ≡ list_all (λ name. is_some (f name)) (objects_of call)
 there_renamed f k (Create name domain shape) = refl
+there_renamed f k (Free o) = refl
+there_renamed f k (Clear o) = refl
 there_renamed f k (Set o p value) = refl
+there_renamed f k (Remove o p) = refl
 there_renamed f k (Get o p) = refl
 there_renamed f k (Nvals o) = refl
 there_renamed f k (Print o) = refl
@@ -92,29 +98,35 @@ fewer {X = X} {Y = Y} f g (name ∷ names) none h =
     ] in
     each (f name) h
 
-early-missing : (count : ℕ) (call : Call (Option Signature) Bool) → is_create call ≡ false → are_there call ≡ false → early_fault count call ≡ Some status.UninitializedObject
+early-missing : (count : ℕ) (call : Call (Option Signature) Bool) → changes_names call ≡ false → are_there call ≡ false → early_fault count call ≡ Some status.UninitializedObject
 unfolding early_fault
 early-missing count (Create name domain shape) known h = absurd (true≢false known)
+early-missing count (Free o) known h = rw h refl
+early-missing count (Clear o) known h = rw h refl
 early-missing count (Set o p value) known h = rw h refl
+early-missing count (Remove o p) known h = rw h refl
 early-missing count (Get o p) known h = rw h refl
 early-missing count (Nvals o) known h = rw h refl
 early-missing count (Print o) known h = rw h refl
 early-missing count (Operate out operation) known h = rw h refl
 
-pub create_renamed : {K L A B : Type 0} (f : K → L) (k : A → B) (call : Call K A) → is_create (renamed f k call) ≡ is_create call
-create_renamed f k (Create name domain shape) = refl
-create_renamed f k (Set o p value) = refl
-create_renamed f k (Get o p) = refl
-create_renamed f k (Nvals o) = refl
-create_renamed f k (Print o) = refl
-create_renamed f k (Operate out operation) = refl
+pub names_renamed : {K L A B : Type 0} (f : K → L) (k : A → B) (call : Call K A) → changes_names (renamed f k call) ≡ changes_names call
+names_renamed f k (Create name domain shape) = refl
+names_renamed f k (Free o) = refl
+names_renamed f k (Clear o) = refl
+names_renamed f k (Set o p value) = refl
+names_renamed f k (Remove o p) = refl
+names_renamed f k (Get o p) = refl
+names_renamed f k (Nvals o) = refl
+names_renamed f k (Print o) = refl
+names_renamed f k (Operate out operation) = refl
 
 first_fault : {X : Type 0} (fault : Option X) (x : X) (rest : Option X) → fault ≡ Some x → option_map_or Some fault rest ≡ Some x
 first_fault None x rest h = absurd (cc)
 first_fault (Some y) x rest h = h
 
 -- a call on a name that stands for no object
-pub fault-missing : (number : Name → Option Obj) (senv : Environment Obj) (call : Call Name Name) → is_create call ≡ false → are_there (renamed number (λ n. n) call) ≡ false
+pub fault-missing : (number : Name → Option Obj) (senv : Environment Obj) (call : Call Name Name) → changes_names call ≡ false → are_there (renamed number (λ n. n) call) ≡ false
     → fault_of (through number senv).count (seen (through number senv) call) ≡ Some status.UninitializedObject
 fault-missing number senv call known missing =
     let env = through number senv in
@@ -126,7 +138,7 @@ fault-missing number senv call known missing =
     renamed_twice env.find_object (option_map signature_of) (λ name. is_some (env.find_object name)) (λ taken. taken) call in
     first_fault (early_fault env.count early) status.UninitializedObject _
     (early-missing env.count early
-    (ap is_create same ∙ create_renamed (λ name. option_map signature_of (env.find_object name)) (λ name. is_some (env.find_object name)) call ∙ known)
+    (ap changes_names same ∙ names_renamed (λ name. option_map signature_of (env.find_object name)) (λ name. is_some (env.find_object name)) call ∙ known)
     (ap are_there same ∙ there_renamed (λ name. option_map signature_of (env.find_object name)) (λ name. is_some (env.find_object name)) call ∙ gone))
 
 -- ---- what calls leave
@@ -136,16 +148,19 @@ own_mask None = refl
 own_mask (Some k) = refl
 
 own_operation : {K : Type 0} (operation : Operation K) → renamed_operation (λ k. k) operation ≡ operation
-own_operation (Multiply ring a b) = refl
+own_operation (Multiply form ring a b) = refl
 
 pub own_number : (n : ℕ) → (n == n) ≡ true
 own_number n = grind (arith, nat_tests)
 
-pub effect-unmade : {K : Type 0} (same : K → K → Bool) (env : Environment K) (call : Call K K) → is_create call ≡ false
+pub effect-unmade : {K : Type 0} (same : K → K → Bool) (env : Environment K) (call : Call K K) → changes_names call ≡ false
     → effect same env call ≡ option_map_or (λ name. with_content same env name (left_by (on_objects env call))) (output_of call) env
 unfolding effect
 effect-unmade same env (Create name domain shape) h = absurd (true≢false h)
+effect-unmade same env (Free o) h = absurd (true≢false h)
+effect-unmade same env (Clear o) h = refl
 effect-unmade same env (Set o p value) h = refl
+effect-unmade same env (Remove o p) h = refl
 effect-unmade same env (Get o p) h = refl
 effect-unmade same env (Nvals o) h = refl
 effect-unmade same env (Print o) h = refl
@@ -153,7 +168,10 @@ effect-unmade same env (Operate out operation) h = refl
 
 pub output_renamed : {K L A B : Type 0} (f : K → L) (k : A → B) (call : Call K A) → output_of (renamed f k call) ≡ option_map f (output_of call)
 output_renamed f k (Create name domain shape) = refl
+output_renamed f k (Free o) = refl
+output_renamed f k (Clear o) = refl
 output_renamed f k (Set o p value) = refl
+output_renamed f k (Remove o p) = refl
 output_renamed f k (Get o p) = refl
 output_renamed f k (Nvals o) = refl
 output_renamed f k (Print o) = refl
@@ -161,7 +179,10 @@ output_renamed f k (Operate out operation) = refl
 
 pub left_renamed : {A B : Type 0} (k : A → B) (call : Call Object A) → left_by (renamed (λ o. o) k call) ≡ left_by call
 left_renamed k (Create name domain shape) = refl
+left_renamed k (Free o) = refl
+left_renamed k (Clear o) = refl
 left_renamed k (Set o p value) = refl
+left_renamed k (Remove o p) = refl
 left_renamed k (Get o p) = refl
 left_renamed k (Nvals o) = refl
 left_renamed k (Print o) = refl
@@ -172,7 +193,10 @@ left_renamed k (Operate out operation) =
 pub data_renamed : {A B : Type 0} (k : A → B) (call : Call Object A) → data_lines_of (renamed (λ o. o) k call) ≡ data_lines_of call
 unfolding data_lines_of
 data_renamed k (Create name domain shape) = refl
+data_renamed k (Free o) = refl
+data_renamed k (Clear o) = refl
 data_renamed k (Set o p value) = refl
+data_renamed k (Remove o p) = refl
 data_renamed k (Get o p) = refl
 data_renamed k (Nvals o) = refl
 data_renamed k (Print o) = refl

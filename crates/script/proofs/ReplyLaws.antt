@@ -7,7 +7,7 @@ use Rattle.std.specs.Str.{bytes_eq}
 use Rattle.std.proofs.lemmas.Bool.{true≢false}
 use Rattle.calls.specs.declared.obj.Obj.{Obj}
 use Rattle.model.specs.declared.call.Call.{Call}
-use Rattle.model.specs.declared.call.Call.TheVariants.{Create, Set, Get, Nvals, Print, Operate}
+use Rattle.model.specs.declared.call.Call.TheVariants.{Create, Free, Clear, Set, Remove, Get, Nvals, Print, Operate}
 use Rattle.model.specs.declared.status.Status.{Status}
 use Rattle.model.specs.declared.status.Status.TheVariants as status
 use Rattle.model.specs.Fault.{are_there, fault_of}
@@ -18,9 +18,9 @@ use Rattle.model.specs.Run.{Environment, data_lines_of, effect, object_at, on_ob
 use Rattle.model.specs.Text.{canonical_lines}
 use Rattle.model.specs.WriteBack.{left_by}
 use Rattle.model.proofs.RenamedLaws.{renamed_twice}
-use Rattle.script.proofs.NameLaws.{AreDistinct, create_renamed, data_renamed, effect-unmade, fault-along, fault-missing, left_renamed, on_objects-along, output_renamed, place-along, there_renamed}
+use Rattle.script.proofs.NameLaws.{AreDistinct, names_renamed, data_renamed, effect-unmade, fault-along, fault-missing, left_renamed, on_objects-along, output_renamed, place-along, there_renamed}
 use Rattle.script.specs.declared.names.Names.{Names}
-use Rattle.script.specs.Named.{Asks, HasLines, environment_in, is_create, number_in, reply_lines, through}
+use Rattle.script.specs.Named.{Asks, HasLines, environment_in, changes_names, number_in, reply_lines, through}
 use Rattle.script.specs.Replied.{IsReplied}
 use Rattle.session.specs.declared.reply.Reply.{Reply}
 use Rattle.session.specs.declared.reply.Reply.TheVariants.{Done, Made, Value, Count, Text}
@@ -30,11 +30,11 @@ use Rattle.session.specs.Tables.{same_object}
 
 -- ---- the session's call
 
-pub known_along : (number : Name → Option Obj) (session : Session) (call : Call Name Name) (r : Call Obj Name) → is_create call ≡ false
-    → renamed Some (λ n. n) r ≡ renamed number (λ n. n) call → is_create (numbered session r) ≡ false
+pub known_along : (number : Name → Option Obj) (session : Session) (call : Call Name Name) (r : Call Obj Name) → changes_names call ≡ false
+    → renamed Some (λ n. n) r ≡ renamed number (λ n. n) call → changes_names (numbered session r) ≡ false
 known_along number session call r known e =
-    create_renamed (λ (o : Obj). o) (λ (n : Name). record { 0 = session.next }) r
-    ∙ sym (create_renamed Some (λ n. n) r) ∙ ap is_create e ∙ create_renamed number (λ n. n) call ∙ known
+    names_renamed (λ (o : Obj). o) (λ (n : Name). record { 0 = session.next }) r
+    ∙ sym (names_renamed Some (λ n. n) r) ∙ ap changes_names e ∙ names_renamed number (λ n. n) call ∙ known
 
 -- the objects of the call by name and by number
 objects_along : {X : Type 0} (what : Call Object Name → X) (same : Call Object Obj → X) → ((k : Name → Obj) (call : Call Object Name) → same (renamed (λ o. o) k call) ≡ what call)
@@ -65,7 +65,7 @@ placed number senv content (Some name) (Some o) distinct e =
     let is : number name ≡ Some o = cc in
     place-along number senv name o (record (object_at senv o) { content = content }) senv.count distinct is ∙ rw is refl
 
-pub effect-along : (number : Name → Option Obj) (session : Session) (new : Environment Obj) (call : Call Name Name) (r : Call Obj Name) → is_create call ≡ false → AreDistinct number
+pub effect-along : (number : Name → Option Obj) (session : Session) (new : Environment Obj) (call : Call Name Name) (r : Call Obj Name) → changes_names call ≡ false → AreDistinct number
     → renamed Some (λ n. n) r ≡ renamed number (λ n. n) call → new ≡ effect same_object (environment_of session) (numbered session r)
     → through number new ≡ effect bytes_eq (through number (environment_of session)) call
 effect-along number session new call r known distinct e is =
@@ -92,17 +92,22 @@ stays_in : (senv : Environment Obj) (content : Content) (made : Option Obj) (q :
 stays_in senv content None q h = h
 stays_in senv content (Some o) q h = stays_put (same_object o q) (record (object_at senv o) { content = content }) (senv.find_object q) h
 
-pub stays : (senv new : Environment Obj) (call : Call Obj Obj) (q : Obj) → is_create call ≡ false → new ≡ effect same_object senv call → is_some (senv.find_object q) ≡ true → is_some (new.find_object q) ≡ true
+pub stays : (senv new : Environment Obj) (call : Call Obj Obj) (q : Obj) → changes_names call ≡ false → new ≡ effect same_object senv call → is_some (senv.find_object q) ≡ true → is_some (new.find_object q) ≡ true
 stays senv new call q known is h =
     ap (λ (env : Environment Obj). is_some (env.find_object q)) (is ∙ effect-unmade same_object senv call known)
     ∙ stays_in senv (left_by (on_objects senv call)) (output_of call) q h
 
 -- ---- what it answers
 
-lines_answered : (senv new : Environment Obj) (call : Call Obj Obj) (reply : Reply) → is_create call ≡ false → new ≡ effect same_object senv call → Answers senv call reply
+lines_answered : (senv new : Environment Obj) (call : Call Obj Obj) (reply : Reply) → changes_names call ≡ false → new ≡ effect same_object senv call → Answers senv call reply
     → reply_lines new reply ≡ data_lines_of (on_objects senv call)
 unfolding data_lines_of effect
 lines_answered senv new (Create name domain shape) reply known is answers = absurd (true≢false known)
+lines_answered senv new (Free o) reply known is answers = absurd (true≢false known)
+lines_answered senv new (Clear o) Done known is answers = refl
+lines_answered senv new (Clear o) _ known is answers = absurd answers
+lines_answered senv new (Remove o p) Done known is answers = refl
+lines_answered senv new (Remove o p) _ known is answers = absurd answers
 lines_answered senv new (Set o p value) Done known is answers = refl
 lines_answered senv new (Set o p value) _ known is answers = absurd answers
 lines_answered senv new (Get o p) (Value value) known is (word, stored, same) = rw (same, stored) refl
@@ -114,7 +119,7 @@ lines_answered senv new (Print o) _ known is answers = absurd answers
 lines_answered senv new (Operate out operation) Done known is answers = refl
 lines_answered senv new (Operate out operation) _ known is answers = absurd answers
 
-asks_answered : (senv new : Environment Obj) (call : Call Obj Obj) (reply : Reply) → is_create call ≡ false → new ≡ effect same_object senv call → Answers senv call reply → Asks new reply
+asks_answered : (senv new : Environment Obj) (call : Call Obj Obj) (reply : Reply) → changes_names call ≡ false → new ≡ effect same_object senv call → Answers senv call reply → Asks new reply
 asks_answered senv new call Done known is answers = tt
 asks_answered senv new call (Made o) known is answers = tt
 asks_answered senv new call (Value value) known is answers = tt
@@ -135,7 +140,10 @@ reads_answered senv new _ _ is answers has = absurd answers
 made_after-most : {T : Type 0} (old : Session) (result : Result T Status) (call : Call Obj Obj) → made_after old result call ≤ made_in old + 1
 made_after-most old (Err s) call = omega arith
 made_after-most old (Ok x) (Create name domain shape) = omega arith
+made_after-most old (Ok x) (Free o) = omega arith
+made_after-most old (Ok x) (Clear o) = omega arith
 made_after-most old (Ok x) (Set o p value) = omega arith
+made_after-most old (Ok x) (Remove o p) = omega arith
 made_after-most old (Ok x) (Get o p) = omega arith
 made_after-most old (Ok x) (Nvals o) = omega arith
 made_after-most old (Ok x) (Print o) = omega arith
@@ -143,7 +151,7 @@ made_after-most old (Ok x) (Operate out operation) = omega arith
 
 -- ---- together
 
-pub replied : (old new : Names) (call : Call Name Name) (r : Call Obj Name) (result : Result Reply Status) → made_in old.session < 2 ^ 64 - 1 → is_create call ≡ false
+pub replied : (old new : Names) (call : Call Name Name) (r : Call Obj Name) (result : Result Reply Status) → made_in old.session < 2 ^ 64 - 1 → changes_names call ≡ false
     → AreDistinct (number_in old) → new.numbers ≡ old.numbers → renamed Some (λ n. n) r ≡ renamed (number_in old) (λ n. n) call
     → IsPerformed old.session new.session (numbered old.session r) result
     → IfOk result (Answers (environment_of old.session) (numbered old.session r)) → IsReplied old new call result
@@ -178,7 +186,7 @@ replied old new call r (Err s) small known distinct same e done answers =
 -- ---- the table of names after a call
 
 -- each name stands for an object still, whether or not the call was accepted
-pub stays_there : (number : Name → Option Obj) (session new : Session) (call : Call Obj Obj) (result : Result Reply Status) → is_create call ≡ false
+pub stays_there : (number : Name → Option Obj) (session new : Session) (call : Call Obj Obj) (result : Result Reply Status) → changes_names call ≡ false
     → ((name : Name) (object : Obj) → number name ≡ Some object → is_some ((environment_of session).find_object object) ≡ true)
     → IsPerformed session new call result
     → (name : Name) (object : Obj) → number name ≡ Some object → is_some ((environment_of new).find_object object) ≡ true
@@ -213,24 +221,24 @@ named_again {X = X} now number call r e =
 numbered_again : {X : Type 0} (now : X → Name) (session : Session) (r : Call Obj X) → numbered session (renamed (λ o. o) now r) ≡ numbered session r
 numbered_again now session r = renamed_twice (λ (o : Obj). o) (λ (o : Obj). o) now (λ (n : Name). record { 0 = session.next }) r
 
-pub replied_named : {X : Type 0} (now : X → Name) (old new : Names) (call : Call X X) (r : Call Obj X) (result : Result Reply Status) → made_in old.session < 2 ^ 64 - 1 → is_create call ≡ false
+pub replied_named : {X : Type 0} (now : X → Name) (old new : Names) (call : Call X X) (r : Call Obj X) (result : Result Reply Status) → made_in old.session < 2 ^ 64 - 1 → changes_names call ≡ false
     → AreDistinct (number_in old) → new.numbers ≡ old.numbers → renamed Some (λ x. x) r ≡ renamed (λ x. number_in old (now x)) (λ x. x) call
     → IsPerformed old.session new.session (numbered old.session r) result
     → IfOk result (Answers (environment_of old.session) (numbered old.session r)) → IsReplied old new (renamed now now call) result
 replied_named now old new call r result small known distinct same e done answers =
     let own = numbered_again now old.session r in
-    replied old new (renamed now now call) (renamed (λ o. o) now r) result small (create_renamed now now call ∙ known) distinct same (named_again now (number_in old) call r e)
+    replied old new (renamed now now call) (renamed (λ o. o) now r) result small (names_renamed now now call ∙ known) distinct same (named_again now (number_in old) call r e)
     (rw own done) (rw own answers)
 
-pub known_named : {X : Type 0} (now : X → Name) (number : Name → Option Obj) (session : Session) (call : Call X X) (r : Call Obj X) → is_create call ≡ false
-    → renamed Some (λ x. x) r ≡ renamed (λ x. number (now x)) (λ x. x) call → is_create (numbered session r) ≡ false
+pub known_named : {X : Type 0} (now : X → Name) (number : Name → Option Obj) (session : Session) (call : Call X X) (r : Call Obj X) → changes_names call ≡ false
+    → renamed Some (λ x. x) r ≡ renamed (λ x. number (now x)) (λ x. x) call → changes_names (numbered session r) ≡ false
 known_named now number session call r known e =
-    sym (ap is_create (numbered_again now session r)) ∙ known_along number session (renamed now now call) (renamed (λ o. o) now r) (create_renamed now now call ∙ known) (named_again now number call r e)
+    sym (ap changes_names (numbered_again now session r)) ∙ known_along number session (renamed now now call) (renamed (λ o. o) now r) (names_renamed now now call ∙ known) (named_again now number call r e)
 
-pub missing_named : {X : Type 0} (now : X → Name) (names : Names) (call : Call X X) → is_create call ≡ false → are_there (renamed (λ x. number_in names (now x)) (λ x. x) call) ≡ false
+pub missing_named : {X : Type 0} (now : X → Name) (names : Names) (call : Call X X) → changes_names call ≡ false → are_there (renamed (λ x. number_in names (now x)) (λ x. x) call) ≡ false
     → IsReplied names names (renamed now now call) (Err status.UninitializedObject)
 missing_named {X = X} now names call known missing =
     let number = number_in names in
     let gone : are_there (renamed number (λ n. n) (renamed now now call)) ≡ false =
     ap are_there (renamed_twice now number now (λ (n : Name). n) call) ∙ there_renamed (λ x. number (now x)) now call ∙ sym (there_renamed (λ x. number (now x)) (λ (x : X). x) call) ∙ missing in
-    refused names names (renamed now now call) status.UninitializedObject (fault-missing number (environment_of names.session) (renamed now now call) (create_renamed now now call ∙ known) gone) refl
+    refused names names (renamed now now call) status.UninitializedObject (fault-missing number (environment_of names.session) (renamed now now call) (names_renamed now now call ∙ known) gone) refl

@@ -5,7 +5,7 @@ use Rattle.std.specs.Fmt.{signed_decimal}
 use Rattle.std.specs.Option.{option_and_then}
 use Rattle.calls.specs.declared.obj.Obj.{Obj}
 use Rattle.model.specs.declared.call.Call.{Call}
-use Rattle.model.specs.declared.call.Call.TheVariants.{Create}
+use Rattle.model.specs.declared.call.Call.TheVariants.{Create, Free}
 use Rattle.model.specs.Grammar.{Name}
 use Rattle.model.specs.Run.{Environment, object_at}
 use Rattle.model.specs.Runs.{State}
@@ -29,10 +29,11 @@ environment_in names = through (number_in names) (environment_of names.session)
 abbrev pub state_in : Names → State
 state_in names = record { environment = environment_in names }
 
--- the call makes an object
-abbrev pub is_create : {K N : Type 0} → Call K N → Bool
-is_create (Create name domain shape) = true
-is_create _ = false
+-- the call gives a name to a new object, or takes one away
+abbrev pub changes_names : {K N : Type 0} → Call K N → Bool
+changes_names (Create name domain shape) = true
+changes_names (Free object) = true
+changes_names _ = false
 
 -- the data lines of a reply
 abbrev pub reply_lines : Environment Obj → Reply → List (List ℕ)

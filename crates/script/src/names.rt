@@ -31,7 +31,7 @@ pub struct Names {
 }
 
 impl Names {
-    ghost use Rattle.script.specs.Named.{environment_in, is_create};
+    ghost use Rattle.script.specs.Named.{environment_in, changes_names};
     ghost use Rattle.script.specs.Replied.{IsAnswered, IsReplied};
 
     /// No objects. It takes no memory.
@@ -60,6 +60,7 @@ impl Names {
                 domain,
                 shape,
             } => self.create(name, domain, shape),
+            Call::Free { object } => self.free(object),
             _ => self.perform_known(call, text),
         }
     }
@@ -67,7 +68,7 @@ impl Names {
     /// Does a call on objects that are there, and writes the data lines of its answer.
     fn perform_known(&mut self, call: &Call<&str, &str>, text: &mut Vec<u8>) -> Result<(), Status>
         requires made { made_in self.old.session < 2 ^ 64 - 1 }
-        requires known { is_create call.now ≡ false }
+        requires known { changes_names call.now ≡ false }
         ensures { IsAnswered self.old self.new (renamed (λ name. name.now) (λ name. name.now) call.now)
             text.old.items text.new.items result }
     {
@@ -79,7 +80,7 @@ impl Names {
     /// Does a call on objects that are there, and gives what it answers.
     fn reply(&mut self, call: &Call<&str, &str>) -> Result<Reply, Status>
         requires made { made_in self.old.session < 2 ^ 64 - 1 }
-        requires known { is_create call.now ≡ false }
+        requires known { changes_names call.now ≡ false }
         ensures { IsReplied self.old self.new (renamed (λ name. name.now) (λ name. name.now) call.now) result }
     {
         let Some(call) = self.resolved(call) else {
@@ -109,5 +110,20 @@ impl Names {
             return Err(Status::OutOfMemory);
         }
         Ok(())
+    }
+
+    /// Frees the object of a name, which then stands for none.
+    fn free(&mut self, name: &str) -> Result<(), Status>
+        ensures status { Ends (fault_of (environment_in self.old).count
+            (seen (environment_in self.old) (Call.Free name.now))) result }
+        ensures effect { OnOk result (environment_in self.new
+            ≡ effect bytes_eq (environment_in self.old) (Call.Free name.now)) }
+        ensures kept { OnErr result (environment_in self.new ≡ environment_in self.old) }
+        ensures made { made_in self.new.session ≤ made_in self.old.session + 1 }
+    {
+        let Some(object) = self.numbers.remove(name) else {
+            return Err(Status::UninitializedObject);
+        };
+        self.session.free(object)
     }
 }

@@ -33,6 +33,12 @@ impl Names {
                 domain,
                 shape,
             },
+            Call::Free { object } => Call::Free {
+                object: self.number(object)?,
+            },
+            Call::Clear { object } => Call::Clear {
+                object: self.number(object)?,
+            },
             Call::Set {
                 object,
                 place,
@@ -41,6 +47,10 @@ impl Names {
                 object: self.number(object)?,
                 place,
                 value,
+            },
+            Call::Remove { object, place } => Call::Remove {
+                object: self.number(object)?,
+                place,
             },
             Call::Get { object, place } => Call::Get {
                 object: self.number(object)?,
@@ -83,10 +93,10 @@ impl Names {
             MatchOption result (IsMissing (inputs_of found)) (λ operation. renamed_operation Some operation ≡ found) }
     {
         match *operation {
-            Operation::Multiply { ring, a, b } => {
+            Operation::Multiply { form, ring, a, b } => {
                 let a = self.number(a)?;
                 let b = self.number(b)?;
-                Some(Operation::Multiply { ring, a, b })
+                Some(Operation::Multiply { form, ring, a, b })
             }
         }
     }

@@ -1,29 +1,31 @@
 -- Calls that were performed.
-use Rattle.std.proofs.Common.{◌≡◌, ◌∙◌, ℕ, ◌+◌, false, Option, Some, None, Ok, refl, ap}
+use Rattle.std.proofs.Common.{◌≡◌, ◌∙◌, ℕ, ◌+◌, Bool, true, false, cond, Option, Some, None, is_some, Result, Ok, Err, MatchResult, refl, sym, ap, inl, inr}
+use Rattle.std.specs.Prelude.{OnErr, OnOk}
 use Rattle.std.specs.Prelude.{ℤ}
 use Rattle.std.specs.Option.{option_map, option_map_or}
 use Rattle.algebra.specs.declared.domain.Domain.{Domain}
 use Rattle.calls.specs.Checks.{known_call}
 use Rattle.calls.specs.declared.obj.Obj.{Obj}
 use Rattle.model.specs.declared.call.Call.{Call}
-use Rattle.model.specs.declared.call.Call.TheVariants.{Create, Set, Get, Nvals, Print, Operate}
+use Rattle.model.specs.declared.call.Call.TheVariants.{Create, Free, Clear, Set, Remove, Get, Nvals, Print, Operate}
 use Rattle.model.specs.declared.call.Operation.{Operation}
 use Rattle.model.specs.declared.call.Out.{Out}
 use Rattle.model.specs.declared.shape.Place.{Place}
 use Rattle.model.specs.declared.shape.Shape.{Shape}
 use Rattle.model.specs.declared.status.Status.{Status}
+use Rattle.model.specs.declared.status.Status.TheVariants as status
 use Rattle.model.specs.Fault.{early_fault, found_object, late_fault}
 use Rattle.model.specs.declared.shape.Signature.{Signature}
 use Rattle.model.specs.Object.{Content, Object, col_of, empty_object, row_of, signature_of}
 use Rattle.model.proofs.RenamedLaws.{operation_twice, out_twice}
 use Rattle.model.specs.Renamed.{renamed_operation, renamed_out}
-use Rattle.model.specs.Run.{effect, object_at, with_content, with_object}
+use Rattle.model.specs.Run.{effect, object_at, with_content, with_object, without_object}
 use Rattle.model.specs.WriteBack.{result_of}
-use Rattle.session.specs.Objects.{with_value}
+use Rattle.session.specs.Objects.{with_value, without_value}
 use Rattle.session.specs.Performed.{IsPerformed, count_in, environment_of, fault_in, known_in, made_after, made_in, next_object}
 use Rattle.session.specs.declared.sessions.Session.{Session}
 use Rattle.session.specs.Tables.{same_object}
-use Rattle.session.proofs.SessionLaws.{no_late}
+use Rattle.session.proofs.SessionLaws.{free-fault, no_late}
 
 -- an accepted call
 performed : {T : Type 0} (old new : Session) (call : Call Obj Obj) (x : T) → fault_in old call ≡ None → environment_of new ≡ effect same_object (environment_of old) call
@@ -45,6 +47,38 @@ pub performed-set : {T : Type 0} (old new : Session) (o : Obj) (p : Place) (valu
     → made_in new ≡ made_in old → IsPerformed old new (Set o p value) (Ok x)
 unfolding effect
 performed-set old new o p value x accepted left made = performed old new (Set o p value) x (no_late _ accepted) left made
+
+pub performed-clear : {T : Type 0} (old new : Session) (o : Obj) (content : Content) (x : T)
+    → early_fault (count_in old) (known_call {N = Obj} (known_in old) (Clear o)) ≡ None
+    → environment_of new ≡ with_content same_object (environment_of old) o content → ((i j : ℕ) → content i j ≡ None)
+    → made_in new ≡ made_in old → IsPerformed old new (Clear o) (Ok x)
+unfolding effect
+performed-clear old new o content x accepted left empty made =
+    performed old new (Clear o) x (no_late _ accepted) (left ∙ (λ t. with_content same_object (environment_of old) o (λ i j. empty i j t))) made
+
+pub performed-remove : {T : Type 0} (old new : Session) (o : Obj) (p : Place) (x : T)
+    → early_fault (count_in old) (known_call {N = Obj} (known_in old) (Remove o p)) ≡ None
+    → environment_of new ≡ with_object same_object (environment_of old) o (without_value (object_at (environment_of old) o) p) (environment_of old).count
+    → made_in new ≡ made_in old → IsPerformed old new (Remove o p) (Ok x)
+unfolding effect
+performed-remove old new o p x accepted left made = performed old new (Remove o p) x (no_late _ accepted) left made
+
+-- an object is freed where it is there, and else there is a fault
+pub performed-free : {T : Type 0} (old new : Session) (o : Obj) (r : Result T Status)
+    → MatchResult r (λ x. is_some ((environment_of old).find_object o) ≡ true) (λ s. (s ≡ status.UninitializedObject) × ((environment_of old).find_object o ≡ None))
+    → OnOk r (environment_of new ≡ without_object same_object (environment_of old) o) → OnErr r (environment_of new ≡ environment_of old)
+    → made_in new ≡ made_in old → IsPerformed old new (Free o) r
+unfolding effect
+performed-free old new o (Ok x) there left kept made =
+    performed old new (Free o) x (no_late _ (free-fault (count_in old) ((environment_of old).find_object o) ∙ ap (λ (t : Bool). cond t None (Some status.UninitializedObject)) there)) left made
+performed-free old new o (Err s) absent left kept made = record {
+  status = inr (ap (λ fault. option_map_or Some fault None)
+      (free-fault (count_in old) ((environment_of old).find_object o)
+      ∙ ap (λ (found : Option Object). cond (is_some found) None (Some status.UninitializedObject)) absent.1 ∙ ap Some (sym absent.0)));
+  effect = tt;
+  kept = kept;
+  made = made;
+}
 
 found_value : (early : Option Status) (o : Option Object) (x : Object) (p : Place) (word : ℕ) → early ≡ None → o ≡ Some x → x.content (row_of p) (col_of p) ≡ Some word
     → option_map_or Some early (late_fault {N = Obj} (Get (found_object o) p)) ≡ None

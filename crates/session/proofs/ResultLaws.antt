@@ -78,7 +78,7 @@ evaluated env recipe objects stored joined known stores rows cols content =
 
 -- the output of an operation takes the role of the recipe's output
 output_taken : (out : Out Obj) (operation : Operation Obj) (recipe : Recipe) → recipe.out ≡ out_by_role out → role_of (roles_of out operation) recipe.out.c ≡ out.c
-output_taken out (Multiply ring a b) recipe is = ap (λ (o : Out Role). role_of (roles_of out (Multiply ring a b)) o.c) is
+output_taken out (Multiply form ring a b) recipe is = ap (λ (o : Out Role). role_of (roles_of out (Multiply form ring a b)) o.c) is
 
 -- what an operation's recipe gives is what the operation leaves
 pub left_by_operation : (env : Environment Obj) (out : Out Obj) (operation : Operation Obj) (recipe : Recipe) (stored : Stored)

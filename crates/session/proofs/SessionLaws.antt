@@ -7,7 +7,7 @@ use Rattle.std.proofs.lemmas.Bool.Decides.{nat_tests}
 use Rattle.algebra.specs.declared.domain.Domain.{Domain}
 use Rattle.algebra.specs.Value.{is_value_of}
 use Rattle.calls.specs.declared.obj.Obj.{Obj}
-use Rattle.model.specs.declared.call.Call.TheVariants.{Create, Set, Get, Nvals, Print}
+use Rattle.model.specs.declared.call.Call.TheVariants.{Create, Free, Clear, Set, Remove, Get, Nvals, Print}
 use Rattle.model.specs.declared.limits.TheConstants.{MOST_OBJECTS}
 use Rattle.model.specs.declared.shape.Place.{Place}
 use Rattle.model.specs.declared.shape.Shape.{Shape}
@@ -15,8 +15,8 @@ use Rattle.model.specs.declared.status.Status.{Status}
 use Rattle.model.specs.declared.status.Status.TheVariants as status
 use Rattle.model.specs.Fault.{are_dimensions, early_fault, found_object}
 use Rattle.model.specs.Object.{Object, is_inside, is_of_kind, signature_of}
-use Rattle.model.specs.Run.{Environment, with_object}
-use Rattle.session.specs.Tables.{same_object, without_object}
+use Rattle.model.specs.Run.{Environment, with_object, without_object}
+use Rattle.session.specs.Tables.{same_object}
 
 -- ---- accepted calls
 
@@ -37,6 +37,22 @@ set-accepted count None p value h = absurd (cc)
 set-accepted count (Some o) p value h =
     let both = three (is_of_kind p o.shape) (is_inside p o.shape) (is_value_of o.domain value) h in
     (refl, both.0, both.1)
+
+pub clear-accepted : (count : ℕ) (o : Option Object) → early_fault count (Clear (option_map signature_of o)) ≡ None → is_some o ≡ true
+unfolding early_fault
+clear-accepted count None h = absurd (cc)
+clear-accepted count (Some o) h = refl
+
+pub remove-accepted : (count : ℕ) (o : Option Object) (p : Place) → early_fault count (Remove (option_map signature_of o) p) ≡ None → is_some o ≡ true
+unfolding early_fault
+remove-accepted count None p h = absurd (cc)
+remove-accepted count (Some o) p h = refl
+
+-- an object that is there can be freed, and no other
+pub free-fault : (count : ℕ) (o : Option Object) → early_fault count (Free (option_map signature_of o)) ≡ cond (is_some o) None (Some status.UninitializedObject)
+unfolding early_fault
+free-fault count None = refl
+free-fault count (Some o) = refl
 
 pub get-accepted : (count : ℕ) (o : Option Object) (p : Place) → early_fault count (Get (option_map signature_of o) p) ≡ None → o ≡ None → ⊥
 unfolding early_fault
@@ -97,6 +113,10 @@ pub below-after : {T E : Type 0} (r : Result T E) (old new : Environment Obj) (o
 below-after (Ok x) old new o object count n below small is kept = below-put old new o object count n n below small (omega arith) is
 below-after (Err e) old new o object count n below small is kept = below-kept old new n below kept
 
+pub none_where : (o : Option Object) → is_some o ≡ false → o ≡ None
+none_where None h = refl
+none_where (Some x) h = absurd (cc)
+
 none_from : (o : Option Object) → (is_some o ≡ true → ⊥) → o ≡ None
 none_from None h = refl
 none_from (Some x) h = absurd (h refl)
@@ -111,7 +131,7 @@ left_there false o h = h
 
 -- the objects are below the next number, after one may have been taken out
 pub below-removed : (removed : Bool) (old new : Environment Obj) (o : Obj) (n : ℕ) → ((q : Obj) → is_some (old.find_object q) ≡ true → q.0 < n)
-    → new ≡ cond removed (without_object old o) old → (q : Obj) → is_some (new.find_object q) ≡ true → q.0 < n
+    → new ≡ cond removed (without_object same_object old o) old → (q : Obj) → is_some (new.find_object q) ≡ true → q.0 < n
 below-removed true old new o n below is q there =
     below q (left_there (same_object o q) (old.find_object q) (ap (λ (env : Environment Obj). is_some (env.find_object q)) (sym is) ∙ there))
 below-removed false old new o n below is q there = below-kept old new n below is q there

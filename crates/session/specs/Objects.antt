@@ -2,7 +2,7 @@
 use Rattle.std.specs.Prelude.{ℤ}
 use Rattle.algebra.specs.Value.{word_of}
 use Rattle.model.specs.declared.shape.Place.{Place}
-use Rattle.model.specs.Object.{Object, col_of, row_of, with_entry}
+use Rattle.model.specs.Object.{Object, col_of, row_of, with_entry, without_entry}
 use Rattle.session.specs.declared.held.Held.{Held}
 use Rattle.store.specs.Stored.{content_of}
 
@@ -16,3 +16,7 @@ with_value o place value = record o {
   content = with_entry o.content (row_of place) (col_of place)
       (word_of o.domain value);
 }
+
+-- an object without the entry at a place
+abbrev pub without_value : Object → Place → Object
+without_value o place = record o { content = without_entry o.content (row_of place) (col_of place) }

@@ -6,7 +6,8 @@ use Rattle.algebra.specs.Value.{value_of}
 use Rattle.calls.specs.Checks.{known_call}
 use Rattle.calls.specs.declared.obj.Obj.{Obj}
 use Rattle.model.specs.declared.call.Call.{Call}
-use Rattle.model.specs.declared.call.Call.TheVariants.{Create, Set, Get, Nvals, Print, Operate}
+use Rattle.model.specs.declared.call.Call.TheVariants.{Create, Free, Clear, Set, Remove, Get, Nvals, Print}
+use Rattle.model.specs.declared.call.Call.TheVariants.{Operate}
 use Rattle.model.specs.declared.limits.TheConstants.{MOST_OBJECTS}
 use Rattle.model.specs.declared.status.Status.{Status}
 use Rattle.model.specs.declared.status.Status.TheVariants as status
@@ -52,7 +53,10 @@ numbered session call = renamed (λ object. object) (λ name. next_object sessio
 -- what a call answers
 abbrev pub Answers : Environment Obj → Call Obj Obj → Reply → Type 0
 Answers env (Create name domain shape) (Made object) = object ≡ name
+Answers env (Free object) Done = Unit {0}
+Answers env (Clear object) Done = Unit {0}
 Answers env (Set object place value) Done = Unit {0}
+Answers env (Remove object place) Done = Unit {0}
 Answers env (Get object place) (Value value) =
     let o = object_at env object in (word : ℕ) × (o.content (row_of place) (col_of place) ≡ Some word)
     × (value ≡ value_of o.domain word)

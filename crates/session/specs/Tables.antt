@@ -1,5 +1,5 @@
 -- The objects of a table by their numbers.
-use Rattle.std.specs.Prelude.{◌-◌, ◌==◌, Bool, if◌then◌else◌, None}
+use Rattle.std.specs.Prelude.{◌==◌, Bool}
 use Rattle.std.specs.BTreeMap.{btree_map_len, get}
 use Rattle.std.specs.Option.{option_map}
 use Rattle.std.specs.Ordering.{nat_cmp}
@@ -17,10 +17,3 @@ environment_in table = record {
 -- whether two numbers are one object's
 abbrev pub same_object : Obj → Obj → Bool
 same_object a b = a.0 == b.0
-
--- one object less
-abbrev pub without_object : Environment Obj → Obj → Environment Obj
-without_object env object = record {
-  find_object = λ other. if same_object object other then None else env.find_object other;
-  count = env.count - 1;
-}

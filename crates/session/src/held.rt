@@ -20,7 +20,7 @@ pub struct Held {
 }
 
 impl Held {
-    ghost use Rattle.session.specs.Objects.{object_of, with_value};
+    ghost use Rattle.session.specs.Objects.{object_of, with_value, without_value};
 
     /// Sets a value at a place inside the object. An error leaves the object as it was.
     pub(crate) fn set(&mut self, place: Place, value: i128) -> Result<(), NoMemory>
@@ -33,5 +33,12 @@ impl Held {
             unreachable!()
         };
         self.store.set(place.row(), place.col(), word)
+    }
+
+    /// Removes the entry at a place, where there is one.
+    pub(crate) fn remove(&mut self, place: Place)
+        ensures { object_of self.new ≡ without_value (object_of self.old) place }
+    {
+        self.store.remove(place.row(), place.col());
     }
 }

@@ -8,7 +8,7 @@ ghost use Rattle.session.specs.Results.{IsEvaluated, IsLeft, IsStoreOf};
 
 use crate::sessions::Session;
 use algebra::RingName;
-use calls::{Call, Checked, Obj, Operation, Out, Recipe, Roles, by_role};
+use calls::{Call, Checked, Form, Obj, Operation, Out, Recipe, Roles, by_role};
 use kernel::{eval_piece, join};
 use model::{NoMemory, Status};
 use store::Store;
@@ -18,9 +18,31 @@ impl Session {
 
     /// Multiplies two matrices over a semiring into a third (`GrB_mxm`).
     pub fn mxm(&mut self, out: &Out<Obj>, ring: RingName, a: Obj, b: Obj) -> Result<(), Status>
-        ensures { IsPerformed self.old self.new (Call.Operate out.now (Operation.Multiply ring a b)) result }
+        ensures { IsPerformed self.old self.new
+            (Call.Operate out.now (Operation.Multiply Form.MatrixMatrix ring a b)) result }
     {
-        self.operate(out, &Operation::Multiply { ring, a, b })
+        let form = Form::MatrixMatrix;
+        self.operate(out, &Operation::Multiply { form, ring, a, b })
+    }
+
+    /// Multiplies a matrix and a vector over a semiring into a vector (`GrB_mxv`).
+    pub fn mxv(&mut self, out: &Out<Obj>, ring: RingName, a: Obj, u: Obj) -> Result<(), Status>
+        ensures { IsPerformed self.old self.new
+            (Call.Operate out.now (Operation.Multiply Form.MatrixVector ring a u)) result }
+    {
+        let form = Form::MatrixVector;
+        let b = u;
+        self.operate(out, &Operation::Multiply { form, ring, a, b })
+    }
+
+    /// Multiplies a vector and a matrix over a semiring into a vector (`GrB_vxm`).
+    pub fn vxm(&mut self, out: &Out<Obj>, ring: RingName, u: Obj, a: Obj) -> Result<(), Status>
+        ensures { IsPerformed self.old self.new
+            (Call.Operate out.now (Operation.Multiply Form.VectorMatrix ring u a)) result }
+    {
+        let form = Form::VectorMatrix;
+        let (a, b) = (u, a);
+        self.operate(out, &Operation::Multiply { form, ring, a, b })
     }
 
     /// Computes an operation, and writes it into its output. The same object may be output, mask and

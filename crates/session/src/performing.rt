@@ -16,6 +16,18 @@ impl Session {
     {
         match call {
             Call::Create { domain, shape, .. } => Ok(Reply::Made(self.create(*domain, *shape)?)),
+            Call::Free { object } => {
+                self.free(*object)?;
+                Ok(Reply::Done)
+            }
+            Call::Clear { object } => {
+                self.clear(*object)?;
+                Ok(Reply::Done)
+            }
+            Call::Remove { object, place } => {
+                self.remove(*object, *place)?;
+                Ok(Reply::Done)
+            }
             Call::Set {
                 object,
                 place,

@@ -1,8 +1,8 @@
 //! Sessions.
 ghost use Rattle.std.specs.Prelude.{◌≡◌, ◌<◌, IfOk, MatchResult, None, OnErr, OnOk, Some, is_some, true};
 ghost use Rattle.calls.specs.declared.obj.Obj.{Obj as Object};
-ghost use Rattle.model.specs.Run.{no_objects};
-ghost use Rattle.session.specs.Tables.{environment_in, without_object};
+ghost use Rattle.model.specs.Run.{no_objects, without_object};
+ghost use Rattle.session.specs.Tables.{environment_in, same_object};
 
 use crate::held::Held;
 use crate::reply::Reply;
@@ -107,7 +107,30 @@ impl Session {
         Ok(object)
     }
 
-    /// Sets an entry (`GrB_Matrix_setElement`).
+    /// Removes all entries of an object (`GrB_Matrix_clear`, `GrB_Vector_clear`). It takes no memory.
+    pub fn clear(&mut self, object: Obj) -> Result<(), Status>
+        ensures { IsPerformed self.old self.new (Call.Clear object) result }
+    {
+        self.checked(&Call::Clear { object })?;
+        let Some(held) = self.table.find(object) else {
+            unreachable!()
+        };
+        let shape = held.shape;
+        let store = Store::new(self.alloc, shape.rows(), shape.cols());
+        self.table.replace(object, store);
+        Ok(())
+    }
+
+    /// Removes an entry, where there is one (`GrB_Matrix_removeElement`, `GrB_Vector_removeElement`).
+    pub fn remove(&mut self, object: Obj, place: Place) -> Result<(), Status>
+        ensures { IsPerformed self.old self.new (Call.Remove object place) result }
+    {
+        self.checked(&Call::Remove { object, place })?;
+        self.table.remove_entry(object, place);
+        Ok(())
+    }
+
+    /// Sets an entry (`GrB_Matrix_setElement`, `GrB_Vector_setElement`).
     pub fn set(&mut self, object: Obj, place: Place, value: i128) -> Result<(), Status>
         ensures { IsPerformed self.old self.new (Call.Set object place value) result }
     {
@@ -120,7 +143,7 @@ impl Session {
         Ok(())
     }
 
-    /// The value of an entry (`GrB_Matrix_extractElement`).
+    /// The value of an entry (`GrB_Matrix_extractElement`, `GrB_Vector_extractElement`).
     pub fn get(&self, object: Obj, place: Place) -> Result<i128, Status>
         ensures performed { IsPerformed self.now self.now (Call.Get object place) result }
         ensures value { IfOk result (λ value. Answers (environment_of self.now) (Call.Get object place)
@@ -136,7 +159,7 @@ impl Session {
         }
     }
 
-    /// The number of entries (`GrB_Matrix_nvals`).
+    /// The number of entries (`GrB_Matrix_nvals`, `GrB_Vector_nvals`).
     pub fn nvals(&self, object: Obj) -> Result<u64, Status>
         ensures performed { IsPerformed self.now self.now (Call.Nvals object) result }
         ensures number { IfOk result (λ number. Answers (environment_of self.now) (Call.Nvals object)
@@ -172,7 +195,9 @@ impl Session {
         ensures there { MatchResult result
             (λ _. is_some ((environment_of self.old).find_object object) ≡ true)
             (λ status. (status ≡ Status.UninitializedObject) × ((environment_of self.old).find_object object ≡ None)) }
-        ensures left { OnOk result (environment_of self.new ≡ without_object (environment_of self.old) object) }
+        ensures performed { IsPerformed self.old self.new (Call.Free object) result }
+        ensures left { OnOk result (environment_of self.new
+            ≡ without_object same_object (environment_of self.old) object) }
         ensures kept { OnErr result (environment_of self.new ≡ environment_of self.old) }
         ensures made { made_in self.new ≡ made_in self.old }
     {

@@ -2,7 +2,7 @@
 ghost use Rattle.std.specs.Prelude.{◌≡◌, ◌+◌, MatchOption, None, OnErr, OnOk, Some, if◌then◌else◌, is_some, true};
 ghost use Rattle.algebra.specs.Value.{is_value_of};
 ghost use Rattle.model.specs.Object.{IsObject, cols_of, is_inside, rows_of};
-ghost use Rattle.model.specs.Run.{no_objects, object_at, with_content, with_object};
+ghost use Rattle.model.specs.Run.{no_objects, object_at, with_content, with_object, without_object};
 ghost use Rattle.store.specs.Stored.{content_of};
 
 use crate::held::Held;
@@ -19,8 +19,8 @@ pub struct Table {
 }
 
 impl Table {
-    ghost use Rattle.session.specs.Objects.{object_of, with_value};
-    ghost use Rattle.session.specs.Tables.{environment_in, same_object, without_object};
+    ghost use Rattle.session.specs.Objects.{object_of, with_value, without_value};
+    ghost use Rattle.session.specs.Tables.{environment_in, same_object};
 
     /// No objects. It takes no memory.
     pub(crate) fn new(alloc: Global) -> Table
@@ -88,10 +88,23 @@ impl Table {
         }
     }
 
+    /// Removes the entry at a place of an object, in place, where there is one.
+    pub(crate) fn remove_entry(&mut self, object: Obj, place: Place)
+        requires { is_some ((environment_in self.old).find_object object) ≡ true }
+        ensures { environment_in self.new ≡ with_object same_object (environment_in self.old) object
+            (without_value (object_at (environment_in self.old) object) place) (environment_in self.old).count }
+    {
+        match self.by_number.get_mut(&object.0) {
+            Some(held) => held.remove(place),
+            None => unreachable!(),
+        }
+    }
+
     /// Takes an object out, and says whether it was there.
     pub(crate) fn remove(&mut self, object: Obj) -> bool
         ensures there { result ≡ is_some ((environment_in self.old).find_object object) }
-        ensures left { environment_in self.new ≡ (if result then without_object (environment_in self.old) object
+        ensures left { environment_in self.new ≡ (if result
+            then without_object same_object (environment_in self.old) object
             else environment_in self.old) }
     {
         self.by_number.remove(&object.0).is_some()

@@ -21,6 +21,6 @@ returns c =
     let x = c.index_mut-c.result.now in
     let y : PlainObject = record { name = x.name; domain = x.domain; shape = x.shape; entries = c.in_ok-entries.entries } in
     let is : x ≡ get_or old.objects.items c.in-Some.index x = c.index_mut-c.ensures.value in
-    let new : PlainEnvironment = record { objects = with_item old.objects c.in-Some.index y } in
+    let new : PlainEnvironment = record { objects = with_item old.objects c.in-Some.index y; live = old.live } in
     object-operated old new (named_out c.args.out.now) (named_operation c.args.operation.now) c.in-Some.index x y
-    (sym c.position.ensures ∙ c.in-Some.is) is refl refl refl refl c.requires c.in_ok-entries.ensures
+    (sym c.position.ensures ∙ c.in-Some.is) is refl refl refl refl refl c.requires c.in_ok-entries.ensures

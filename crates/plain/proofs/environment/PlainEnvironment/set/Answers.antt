@@ -41,10 +41,10 @@ returns c =
     let y = c.put.new.self in
     let at = sym c.position.ensures ∙ c.in-Some.is in
     let is : x ≡ get_or old.objects.items c.in-Some.index x = c.index_mut-object.ensures.value in
-    let new : PlainEnvironment = record { objects = with_item old.objects c.in-Some.index y } in
+    let new : PlainEnvironment = record { objects = with_item old.objects c.in-Some.index y; live = old.live } in
     let fits : FitsSigned w128 c.args.value = search rules in
     let word = rw (to_z-of_z w128 c.args.value fits) at c.in-Some-word_of.ensures in
     match_map c.put.result
-    (λ done e. object-set old new c.args.name.now c.in-Some.index x y at is refl c.put.ensures.name c.args.place c.args.value c.in-Some-word_of.word word.1 e)
-    (λ failed e. object-kept old new c.args.name.now c.in-Some.index x y at is refl c.put.ensures.name e)
+    (λ done e. object-set old new c.args.name.now c.in-Some.index x y at is refl c.put.ensures.name refl c.args.place c.args.value c.in-Some-word_of.word word.1 e)
+    (λ failed e. object-kept old new c.args.name.now c.in-Some.index x y at is refl c.put.ensures.name refl e)
     c.put.ensures.object

@@ -1,0 +1,26 @@
+-- The object is there, since the call was accepted, and an empty store takes the place of its own.
+use Rattle.std.proofs.Common.{◌≡◌, ◌<◌, ◌∙◌, None, is_some, true, arith, refl, rules, ap}
+use Rattle.model.specs.Fault.{found_object}
+use Rattle.model.specs.Object.{Object}
+use Rattle.model.specs.Run.{object_at}
+use Rattle.session.specs.Objects.{object_of}
+use Rattle.session.specs.Performed.{count_in, environment_of}
+use Rattle.session.proofs.PerformedLaws.{performed-clear}
+use Rattle.session.proofs.SessionLaws.{below-put, clear-accepted}
+use Rattle.session.proofs.sessions.Session.clear.Goals as goal
+
+pub unreachable-requires : goal.unreachable-requires
+unreachable-requires c =
+    let there = clear-accepted (count_in c.args.self.now) ((environment_of c.args.self.now).find_object c.args.object) c.in_ok-checked.ensures.fault in
+    let none : (environment_of c.args.self.now).find_object c.args.object ≡ None = search rules in
+    absurd (let e = rw none at there in cc)
+
+pub invariant_of-self : goal.invariant_of-self
+invariant_of-self c =
+    let session = c.args.self.now in
+    let there = clear-accepted (count_in session) ((environment_of session).find_object c.args.object) c.in_ok-checked.ensures.fault in
+    let low : c.args.object.0 < session.next = session.fresh c.args.object there in
+    record { fresh = below-put (environment_of session) _ c.args.object _ _ session.next session.next session.fresh low (omega arith) c.replace.ensures }
+
+pub returns : goal.returns
+returns c = performed-clear c.args.self.now _ c.args.object _ _ c.in_ok-checked.ensures.fault c.replace.ensures c.new-store.ensures.content refl
