@@ -12,7 +12,7 @@ use Rattle.store.proofs.Contents.{as_column, by_rows}
 use Rattle.store.proofs.Order.{all_from_map}
 use Rattle.masks.specs.Joins.{AreJoined, joined}
 use Rattle.masks.specs.Merges.{AreMerged}
-use Rattle.masks.proofs.Unions.{lengths, placed_all, placed_order, placed_words}
+use Rattle.masks.proofs.JoinedWords.{lengths, placed_all, placed_order, placed_words}
 
 -- the first places of a merge, so many, lie in lists of their own
 pub flat_join : (f : ℕ → ℕ → ℕ) (a b : List Entry) (count : ℕ) (ends : List FiberEnd) (inner lefts rights sides words : List ℕ) → AreMerged a b count ends inner lefts rights sides → count ≤ length inner

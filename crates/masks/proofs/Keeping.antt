@@ -19,7 +19,7 @@ use Rattle.store.proofs.RangeLaws.{from_left, in_parts}
 use Rattle.store.proofs.Walks.{cols_rise, step_next}
 use Rattle.masks.specs.declared.view.MaskView.{MaskView}
 use Rattle.masks.specs.Keeps.{kept_by, lets_word}
-use Rattle.masks.proofs.Unites.{length_put, put_take}
+use Rattle.masks.proofs.FiberMerges.{length_put, put_take}
 
 -- so many fibers and entries are kept, of those before the fiber at; those from there on are as they were
 pub record IsKeeping (mask : MaskView) (stored all rest : List Entry) (ends : List FiberEnd) (inner words : List ℕ) (at fibers kept start : ℕ) : Type 0 where

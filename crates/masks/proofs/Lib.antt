@@ -1,10 +1,10 @@
 mod BlockLaws
+mod FiberMerges
+mod JoinedWords
 mod Joins
 mod Keeping
 mod Keeps
 pub mod MaskLaws
 mod Merges
 mod Merging
-mod Unions
-mod Unites
 mod WriteLaws

@@ -20,4 +20,5 @@ joined_word f side left right = if side == 1 then left else if side == 2 then ri
 -- the words of a join, one for each place
 pub record AreJoined (f : ℕ → ℕ → ℕ) (sides lefts rights words : List ℕ) : Type 0 where
   pub long : length words ≡ length sides
-  pub each : (k : ℕ) → k < length words → slice_index words k ≡ joined_word f (slice_index sides k) (slice_index lefts k) (slice_index rights k)
+  pub each : (k : ℕ) → k < length words
+      → slice_index words k ≡ joined_word f (slice_index sides k) (slice_index lefts k) (slice_index rights k)

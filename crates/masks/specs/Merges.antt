@@ -40,7 +40,8 @@ pub record IsMerge (a b : List Entry) (rows cols lefts rights sides : List ℕ) 
   pub order : Stand places
 
 -- the first places of the lists are the merge of a and b, and their fibers end there
-pub record AreMerged (a b : List Entry) (count : ℕ) (ends : List FiberEnd) (inner lefts rights sides : List ℕ) : Type 0 where
+pub record AreMerged (a b : List Entry) (count : ℕ) (ends : List FiberEnd) (inner lefts rights sides : List ℕ)
+    : Type 0 where
   pub rises : Rises 0 ends
   pub whole : last_end 0 ends ≡ count
   pub apart : AreApart ends

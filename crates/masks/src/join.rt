@@ -25,7 +25,8 @@ pub(crate) fn join_fibers(
 ) -> Result<FiberLists, NoMemory>
     ensures flat { IfOk result (λ lists. AreFlat lists.ends.items lists.inner.items lists.words.items) }
     ensures words { IfOk result (λ lists. (i j : ℕ) → word_at (entries_in lists) i j
-        ≡ joined (combined (option_map op_named op)) (word_at left.entry.entries i j) (word_at right.entry.entries i j)) }
+        ≡ joined (combined (option_map op_named op))
+        (word_at left.entry.entries i j) (word_at right.entry.entries i j)) }
     ensures inside { IfOk result (λ lists. (first past cols : ℕ)
         → AreIn first past cols (along cols left.entry.entries)
         → AreIn first past cols (along cols right.entry.entries)

@@ -147,7 +147,8 @@ fn lets_through(mask: &MaskView<'_>, inner: &[u64], words: &[u64], at: usize, in
     requires words { length words.now ≡ length inner.now }
     requires rising { AllPairs (λ a b. a < b) inner.now }
     requires first { IsFirstFrom index inner.now at }
-    ensures { (outer : ℕ) → result ≡ lets_word mask.now (word_at (entries_along outer inner.now words.now) outer index) }
+    ensures { (outer : ℕ) → result
+        ≡ lets_word mask.now (word_at (entries_along outer inner.now words.now) outer index) }
 {
     has_index(mask, inner, words, at, index) != mask.complement
 }

@@ -55,7 +55,8 @@ fn write_all(
     ensures first { IfOk result (λ block. block.first ≡ t.first) }
     ensures past { IfOk result (λ block. block.past ≡ t.past) }
     ensures cols { IfOk result (λ block. block.cols ≡ t.cols) }
-    ensures words { IfOk result (λ block. (replace : Bool) (i j : ℕ) → t.first ≤ i → i < t.past → block_content block i j
+    ensures words { IfOk result (λ block. (replace : Bool) (i j : ℕ) → t.first ≤ i → i < t.past
+        → block_content block i j
         ≡ written_at (option_map op_named accum) replace true (content_of old.now i j) (block_content t i j)) }
 {
     match accum {

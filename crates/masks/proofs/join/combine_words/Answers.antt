@@ -1,5 +1,5 @@
 use Rattle.std.proofs.Common.{arith}
-use Rattle.masks.proofs.Unions.{zipped}
+use Rattle.masks.proofs.JoinedWords.{zipped}
 use Rattle.algebra.specs.Operators.{eval_of}
 use Rattle.masks.proofs.join.combine_words.Goals as goal
 

@@ -1,6 +1,6 @@
 use Rattle.std.proofs.Common.{◌∙◌, ap, arith, get_or, cond, eqb}
 use Rattle.std.proofs.lemmas.List.{get_or-set_other, length-set}
-use Rattle.masks.proofs.Unions.{placed_word, words_done}
+use Rattle.masks.proofs.JoinedWords.{placed_word, words_done}
 use Rattle.masks.proofs.join.put_alone.Goals as goal
 
 pub loop-k-preserved : goal.loop-k-preserved

@@ -1,5 +1,5 @@
 use Rattle.std.proofs.Common.{◌≡◌, ℕ, ◌<◌, ◌≤◌, length, get_or}
-use Rattle.masks.proofs.Unions.{placed_word}
+use Rattle.masks.proofs.JoinedWords.{placed_word}
 use Rattle.masks.proofs.join.put_alone.Given as goal
 
 abbrev pub invariant-loop-k : goal.invariant-loop-k

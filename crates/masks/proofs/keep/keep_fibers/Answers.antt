@@ -4,7 +4,7 @@ use Rattle.std.proofs.lemmas.List.{length-set}
 use mir.Val.{bool_byte}
 use Rattle.store.specs.Fibers.{end_at, entries_from}
 use Rattle.masks.proofs.Keeping.{IsNext, keeping_all, keeping_more, keeping_none, lent_part, next_fiber, next_rises}
-use Rattle.masks.proofs.Unites.{length_put}
+use Rattle.masks.proofs.FiberMerges.{length_put}
 use Rattle.masks.proofs.keep.keep_fibers.Goals as goal
 use Rattle.masks.proofs.keep.keep_fibers.Goals.{In-loop-at}
 

@@ -2,7 +2,7 @@ use Rattle.std.proofs.Common.{◌≡◌, ◌-◌, length, take, drop, arith, ap,
 use Rattle.store.specs.Fibers.{entries_along}
 use Rattle.store.proofs.FlatLaws.{all_rows}
 use Rattle.store.proofs.Places.{length_row}
-use Rattle.masks.proofs.Unites.{part_none, part_more, some_more, put_take, length_put}
+use Rattle.masks.proofs.FiberMerges.{part_none, part_more, some_more, put_take, length_put}
 use borrow.Rule.Slice.PartMut.{put_mid}
 use Rattle.masks.proofs.merge.merge_fibers.Goals as goal
 

@@ -1,5 +1,5 @@
 use Rattle.std.proofs.Common.{length, ◌+◌}
-use Rattle.masks.proofs.Unites.{IsPart}
+use Rattle.masks.proofs.FiberMerges.{IsPart}
 use Rattle.masks.proofs.merge.merge_fibers.Given as goal
 
 abbrev pub invariant-loop-right : goal.invariant-loop-right

@@ -1,5 +1,5 @@
 -- The copy begins at place 0.
-use Rattle.std.proofs.Common.{◌≡◌, ◌∙◌, ◌<◌, ◌≤◌, ◌∷◌, length, refl, rules, sym, arith}
+use Rattle.std.proofs.Common.{◌≡◌, ◌∙◌, ◌<◌, ◌∷◌, length, sym, arith}
 use Rattle.std.proofs.lemmas.Bool.Decides.{nat_tests}
 use Rattle.store.proofs.Contents.{no_entries}
 use Rattle.store.proofs.CopyLaws.{copied, ends_behind}

@@ -9,7 +9,7 @@ use Rattle.std.proofs.Common.{take-take}
 use Rattle.std.proofs.Math.Seq.{take-append-add}
 use Rattle.std.proofs.lemmas.Bool.{cases_Bool, cases_eq, cases_lt}
 use Rattle.std.proofs.Common.{false, eqb}
-use Rattle.masks.proofs.Unions.{not_both}
+use Rattle.masks.proofs.JoinedWords.{not_both}
 use Rattle.std.proofs.lemmas.List.Elements.{All-nil, All-cons, All-head, All-tail, All-weaker, All-append}
 use Rattle.std.proofs.lemmas.List.Elements.{filter_map-append}
 use Rattle.model.specs.declared.entry.Entry.{Entry}
