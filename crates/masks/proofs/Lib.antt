@@ -4,6 +4,7 @@ mod JoinedWords
 mod Joins
 mod Keeping
 mod Keeps
+mod KeptFiber
 pub mod MaskLaws
 mod Merges
 mod Merging

@@ -1,10 +1,9 @@
 //! What a mask keeps of the entries of fibers, in the same memory.
-ghost use Rattle.std.specs.Prelude.{◌≡◌, ℕ, ◌<◌, ◌≤◌, ◌-◌, length, take, drop};
+ghost use Rattle.std.specs.Prelude.{◌≡◌, ℕ, ◌<◌, ◌≤◌, ◌-◌, ◌==◌, if◌then◌else◌, length, take, drop, false, Some, None};
 ghost use Rattle.std.specs.List.{All, AllPairs};
 ghost use Rattle.model.specs.Entries.{word_at};
 ghost use Rattle.store.specs.Fibers.{AreFlat, entries_along, entries_from, entries_in};
-ghost use Rattle.masks.specs.Keeps.{IsFirstFrom, kept_by, lets_word};
-ghost use Rattle.masks.specs.Masks.{has_word};
+ghost use Rattle.masks.specs.Keeps.{kept_by, lets_word};
 
 use crate::MaskView;
 use store::{FiberEnd, FiberLists, Fibers};
@@ -114,53 +113,34 @@ fn keep_fiber(
         (entries_along outer (drop from inner.old) (drop from words.old)) }
 {
     let mut kept = 0;
+    let mut at = from;
     let mut next = 0;
-    for at in from..inner.len() {
-        let index = inner[at];
-        next = first_from(stored_inner, next, index);
-        let is_kept = lets_through(mask, stored_inner, stored_words, next, index);
+    while at < inner.len() && next < stored_inner.len() {
+        let (index, other) = (inner[at], stored_inner[next]);
+        let is_kept = keeps(mask, index, other, stored_words[next]);
         inner[kept] = index;
         words[kept] = words[at];
         kept += usize::from(is_kept);
+        at += usize::from(index <= other);
+        next += usize::from(other <= index);
+    }
+    while at < inner.len() {
+        inner[kept] = inner[at];
+        words[kept] = words[at];
+        kept += usize::from(mask.complement);
+        at += 1;
     }
     kept
 }
 
-/// The place of the first index that isn't below `index`; all before `from` are.
+/// Whether the mask keeps an index, where `other` is the first in a fiber of its store that isn't below it,
+/// and has this word. An index behind `other` isn't kept yet.
 #[inline(always)]
-fn first_from(inner: &[u64], from: usize, index: u64) -> usize
-    requires from { from ≤ length inner.now }
-    requires before { All (λ x. x < index) (take from inner.now) }
-    ensures { IsFirstFrom index inner.now result }
+fn keeps(mask: &MaskView<'_>, index: u64, other: u64, word: u64) -> bool
+    ensures kept { index ≤ other → result ≡ lets_word mask.now (if index == other then Some word else None) }
+    ensures passed { other < index → result ≡ false }
 {
-    let mut at = from;
-    while at < inner.len() && inner[at] < index {
-        at += 1;
-    }
-    at
-}
-
-/// Whether the mask lets an inner index of a fiber through, of which `at` is the place of the first that
-/// isn't below it.
-#[inline(always)]
-fn lets_through(mask: &MaskView<'_>, inner: &[u64], words: &[u64], at: usize, index: u64) -> bool
-    requires words { length words.now ≡ length inner.now }
-    requires rising { AllPairs (λ a b. a < b) inner.now }
-    requires first { IsFirstFrom index inner.now at }
-    ensures { (outer : ℕ) → result
-        ≡ lets_word mask.now (word_at (entries_along outer inner.now words.now) outer index) }
-{
-    has_index(mask, inner, words, at, index) != mask.complement
-}
-
-/// Whether a fiber of the mask's store has an inner index that counts.
-#[inline(always)]
-fn has_index(mask: &MaskView<'_>, inner: &[u64], words: &[u64], at: usize, index: u64) -> bool
-    requires words { length words.now ≡ length inner.now }
-    requires rising { AllPairs (λ a b. a < b) inner.now }
-    requires first { IsFirstFrom index inner.now at }
-    ensures { (outer : ℕ) → result
-        ≡ has_word mask.now.valued (word_at (entries_along outer inner.now words.now) outer index) }
-{
-    at < inner.len() && inner[at] == index && mask.counts(words[at])
+    // Without a branch: whether two indices meet can't be foreseen.
+    let is_stored = (index == other) & mask.counts(word);
+    (index <= other) & (is_stored != mask.complement)
 }

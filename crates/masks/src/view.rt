@@ -33,6 +33,6 @@ impl<'a> MaskView<'a> {
     pub fn counts(&self, word: u64) -> bool
         ensures { result ≡ counts self.now.valued word }
     {
-        !self.valued || word != 0
+        !self.valued | (word != 0)
     }
 }
