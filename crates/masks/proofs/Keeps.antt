@@ -2,22 +2,22 @@
 use Rattle.std.proofs.Common.{◌≡◌, ◌≢◌, ℕ, ◌+◌, ◌<◌, ◌≤◌, Bool, true, false, ◌&&◌, cond, eqb, List, [], ◌∷◌, ◌++◌, length, get_or, set, take, drop, Some, None, refl, sym, ◌∙◌, ap, inl, inr, arith, append_assoc, length-append, length-take, length-drop}
 use Rattle.std.specs.List.{All, AllPairs, filter}
 use Rattle.std.proofs.lemmas.Bool.{cases_Bool, cases_eq, ne_eqb}
-use Rattle.std.proofs.lemmas.List.{drop-set-lt, drop_more, get_or-drop, get_or-take, take-set-le, take_more, take_more_set}
-use Rattle.std.proofs.lemmas.List.Elements.{All-append, All-cons, All-head, All-nil, All-tail, All-weaker}
+use Rattle.std.proofs.lemmas.List.{drop-set-lt, drop_more, get_or-drop, get_or-take, take-set-le, take_more_set}
+use Rattle.std.proofs.lemmas.List.Elements.{All-head, All-tail, All-weaker}
 use Rattle.model.specs.declared.entry.Entry.{Entry}
 use Rattle.model.specs.Entries.{entry_at, word_at}
 use Rattle.store.specs.Fibers.{entries_along}
 use Rattle.store.proofs.FlatLaws.{row_in_order}
 use Rattle.store.proofs.Places.{length_row, row_at}
 use Rattle.store.proofs.Positions.{word_at-found, word_at-gap, word_at-none, word_at-skip}
-use Rattle.masks.specs.Keeps.{IsFirstFrom}
-
-pub below_more : (x : ℕ) (xs : List ℕ) (n : ℕ) → n < length xs → get_or xs n 0 < x → All (λ y. y < x) (take n xs) → All (λ y. y < x) (take (n + 1) xs)
-below_more x xs n within less before =
-    let P : ℕ → Type 0 = λ y. y < x in
-    rw (take_more xs n 0 within) (All-append P (take n xs) (get_or xs n 0 ∷ []) before (All-cons P (get_or xs n 0) [] less (All-nil P)))
 
 -- ---- the word of an index in a fiber
+
+-- the first n numbers are below x, and the next one isn't
+pub record IsFirstFrom (x : ℕ) (xs : List ℕ) (n : ℕ) : Type 0 where
+  pub bound : n ≤ length xs
+  pub before : All (λ y. y < x) (take n xs)
+  pub next : n < length xs → x ≤ get_or xs n 0
 
 pub word_found : (outer index : ℕ) (inner words : List ℕ) (n : ℕ) → length words ≡ length inner → AllPairs (λ a b. a < b) inner → n < length inner → get_or inner n 0 ≡ index → word_at (entries_along outer inner words) outer index ≡ Some (get_or words n 0)
 word_found outer index inner words n same rising within is =

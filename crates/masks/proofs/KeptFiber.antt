@@ -9,8 +9,8 @@ use Rattle.model.specs.Entries.{word_at}
 use Rattle.store.specs.Fibers.{entries_along}
 use Rattle.store.proofs.Order.{all_pairs_tail}
 use Rattle.masks.specs.declared.view.MaskView.{MaskView}
-use Rattle.masks.specs.Keeps.{IsFirstFrom, kept_by, lets_word}
-use Rattle.masks.proofs.Keeps.{keep_more, word_absent, word_found}
+use Rattle.masks.specs.Keeps.{kept_by, lets_word}
+use Rattle.masks.proofs.Keeps.{IsFirstFrom, keep_more, word_absent, word_found}
 
 -- Of the entries from the place from on those before the place at are done, and so many of them were kept, at the
 -- front; of the store's fiber, mi with the words mw, the indices before next are done.

@@ -1,6 +1,6 @@
 -- What of some entries a mask keeps: those at the positions that it lets through.
-use Rattle.std.specs.Prelude.{ℕ, ◌<◌, ◌≤◌, not, Bool, if◌then◌else◌, List, length, take, slice_index, Option}
-use Rattle.std.specs.List.{All, filter}
+use Rattle.std.specs.Prelude.{ℕ, not, Bool, if◌then◌else◌, List, Option}
+use Rattle.std.specs.List.{filter}
 use Rattle.model.specs.declared.entry.Entry.{Entry}
 use Rattle.model.specs.Entries.{word_at}
 use Rattle.masks.specs.declared.view.MaskView.{MaskView}
@@ -13,9 +13,3 @@ lets_word mask word = if mask.complement then not (has_word mask.valued word) el
 -- the entries that a mask keeps, by the entries of its store; rows and columns may be exchanged in both
 abbrev pub kept_by : MaskView → List Entry → List Entry → List Entry
 kept_by mask stored es = filter (λ e. lets_word mask (word_at stored e.row e.col)) es
-
--- the first n numbers are below x, and the next one isn't
-pub record IsFirstFrom (x : ℕ) (xs : List ℕ) (n : ℕ) : Type 0 where
-  pub bound : n ≤ length xs
-  pub before : All (λ y. y < x) (take n xs)
-  pub next : n < length xs → x ≤ slice_index xs n
