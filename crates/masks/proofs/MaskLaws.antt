@@ -6,15 +6,11 @@ use Rattle.model.specs.Object.{Content}
 use Rattle.masks.specs.declared.view.MaskView.{MaskView}
 use Rattle.masks.specs.Masks.{has_position, lets_through}
 use Rattle.masks.specs.Writes.{inside_of, written_by}
+use Rattle.masks.proofs.WriteLaws.{complemented}
 
 -- a mask with its complement taken
 abbrev pub other_side : MaskView → MaskView
 other_side mask = record { store = mask.store; valued = mask.valued; complement = not mask.complement }
-
-complemented : (complement has : Bool) → cond (not complement) (not has) has ≡ not (cond complement (not has) has)
-complemented true true = refl
-complemented true false = refl
-complemented false has = refl
 
 -- The complement of a mask lets the other positions through.
 pub lets_others : (mask : MaskView) (i j : ℕ) → lets_through (other_side mask) i j ≡ not (lets_through mask i j)

@@ -1,5 +1,5 @@
 -- A merge, place by place.
-use Rattle.std.proofs.Common.{◌≡◌, ℕ, zero, suc, ◌+◌, ◌<◌, ◌≤◌, List, [], ◌∷◌, ◌++◌, length, get_or, set, take, drop, map, refl, sym, ◌∙◌, ap, subst, arith}
+use Rattle.std.proofs.Common.{◌≡◌, ℕ, ◌+◌, ◌<◌, ◌≤◌, List, [], ◌∷◌, ◌++◌, length, get_or, set, take, drop, map, refl, sym, ◌∙◌, ap, subst, arith}
 use Rattle.std.specs.List.{All, AllPairs, filter_map}
 use Rattle.std.proofs.lemmas.List.{append-nil, take_more, take_more_set, map-append, get_or-drop, get_or_default, length-drop}
 use Rattle.std.proofs.lemmas.List.Elements.{All-nil, All-cons, All-append, All-weaker, filter_map-append}
@@ -100,16 +100,6 @@ later_left es i d order within n e inside =
 
 through : (x y z : Entry) → Precedes x y → Precedes y z → Precedes x z
 through x y z one two = grind arith
-
-from_both : (es : List Entry) (j : ℕ) (x y : Entry) (d : Entry) → InOrder es → j < length es → y ≡ get_or es j d → Precedes x y → All (Precedes x) (drop j es)
-from_both es j x y d order within is before zero e inside =
-    let at : get_or (drop j es) 0 e ≡ y = get_or-drop j es 0 e ∙ ap (λ n. get_or es n e) (omega arith) ∙ get_or_default es j e d within ∙ sym is in
-    rw at before
-from_both es j x y d order within is before (suc n) e inside =
-    let room : j + suc n < length es = omega (arith, length-drop j es) in
-    let at : get_or (drop j es) (suc n) e ≡ get_or es (j + suc n) d = get_or-drop j es (suc n) e ∙ get_or_default es (j + suc n) e d room in
-    let later : Precedes y (get_or es (j + suc n) d) = rw is (order j (j + suc n) d (omega arith) room) in
-    rw at (through x y (get_or es (j + suc n) d) before later)
 
 -- the left list's next entry alone
 pub left_more : (a b : List Entry) (i j k : ℕ) (rows cols lefts rights sides : List ℕ) (d : Entry) (other : ℕ)

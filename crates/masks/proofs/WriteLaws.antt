@@ -3,7 +3,6 @@ use Rattle.std.proofs.Common.{◌≡◌, ℕ, Bool, true, false, not, cond, Opti
 use Rattle.algebra.specs.declared.operator_names.OpName.{OpName}
 use Rattle.model.specs.WriteBack.{accumulated}
 use Rattle.masks.specs.Joins.{combined, joined}
-use Rattle.masks.specs.Masks.{has_word}
 use Rattle.masks.specs.Writes.{written_at}
 use Rattle.masks.proofs.BlockLaws.{joined_left}
 
@@ -27,11 +26,8 @@ pub accumulated_inside : (op : OpName) (is_in : Bool) (old t : Option ℕ) → j
 accumulated_inside op true old t = joined_accumulated op old t
 accumulated_inside op false old t = refl
 
-not_not : (b : Bool) → not (not b) ≡ b
-not_not true = refl
-not_not false = refl
-
--- the complement of a mask lets the other positions through
-pub others_word : (complement valued : Bool) (word : Option ℕ) → cond (not complement) (not (has_word valued word)) (has_word valued word) ≡ not (cond complement (not (has_word valued word)) (has_word valued word))
-others_word true valued word = sym (not_not (has_word valued word))
-others_word false valued word = refl
+-- what a complement does with whether a mask has a position
+pub complemented : (complement has : Bool) → cond (not complement) (not has) has ≡ not (cond complement (not has) has)
+complemented true true = refl
+complemented true false = refl
+complemented false has = refl

@@ -5,8 +5,9 @@ use Rattle.algebra.specs.OperatorNames.{op_named}
 use Rattle.store.specs.Stored.{block_content, content_of}
 use Rattle.masks.specs.Joins.{combined, joined}
 use Rattle.masks.specs.Keeps.{lets_word}
+use Rattle.masks.specs.Masks.{has_word}
 use Rattle.masks.specs.Writes.{written_at}
-use Rattle.masks.proofs.WriteLaws.{accumulated_inside, beside, others_word}
+use Rattle.masks.proofs.WriteLaws.{accumulated_inside, beside, complemented}
 use Rattle.masks.proofs.write.write_under.Goals as goal
 
 pub returns-in_ok-rest-in-None-false-clause-words : goal.returns-in_ok-rest-in-None-false-clause-words
@@ -23,7 +24,7 @@ returns-in_ok-rest-in-None-false-clause-words c =
     (λ block words i j low high.
     words i j
     ∙ rw (c.in_ok-rest-in-None-false.ensures.words i j (rw c.keep_block-inside.ensures.first low) (rw c.keep_block-inside.ensures.past high), c.keep_block-inside.ensures.words i j low high)
-    (beside (lets_word mask (stored i j)) (lets_word (record { store = mask.store; valued = mask.valued; complement = not mask.complement }) (stored i j)) (old i j) (block_content t i j) (others_word mask.complement mask.valued (stored i j))))
+    (beside (lets_word mask (stored i j)) (lets_word (record { store = mask.store; valued = mask.valued; complement = not mask.complement }) (stored i j)) (old i j) (block_content t i j) (complemented mask.complement (has_word mask.valued (stored i j)))))
     c.join_blocks.ensures.words)
 
 pub returns-in_ok-kept-in-Some-true-clause-words : goal.returns-in_ok-kept-in-Some-true-clause-words
