@@ -36,16 +36,25 @@ pub record IsDone (semiring : Semiring) (keeps : ℕ → ℕ → Bool) (first pa
   pub behind : All (λ r. All (λ e. r.outer < e.row) rest) ends
   pub words_are : (i j : ℕ) → word_at (entries_from 0 ends inner words) i j ≡ rows_product semiring keeps done b i j
 
-pub done_none : (semiring : Semiring) (keeps : ℕ → ℕ → Bool) (first past : ℕ) (a b : Stored) → IsDone semiring keeps first past a b [] [] [] (entries_between first past a.cols (content_of a))
+-- ---- no rows
+
+pub none_inside : (first past cols : ℕ) → AreIn first past cols (entries_from 0 [] [] [])
+unfolding outers
+none_inside first past cols = λ k d within. absurd (omega arith)
+
+pub none_words : (i j : ℕ) → word_at (entries_from 0 [] [] []) i j ≡ None
 unfolding word_at outers
+none_words i j = refl
+
+pub done_none : (semiring : Semiring) (keeps : ℕ → ℕ → Bool) (first past : ℕ) (a b : Stored) → IsDone semiring keeps first past a b [] [] [] (entries_between first past a.cols (content_of a))
 done_none semiring keeps first past a b = record {
   done = [];
   split = refl;
   apart = λ k d within. absurd (omega arith);
   flat = flat_none;
-  inside = λ k d within. absurd (omega arith);
+  inside = none_inside first past b.cols;
   behind = λ k d within. absurd (omega arith);
-  words_are = λ i j. refl;
+  words_are = none_words;
 }
 
 -- ---- entries of one row among others

@@ -1,8 +1,8 @@
 -- Terms of which only those at some columns are kept.
-use Rattle.std.proofs.Common.{◌≡◌, ℕ, ◌<◌, true, false, cond, ◌&&◌, eqb, Bool, List, [], ◌∷◌, ◌++◌, map, Option, None, refl, sym, ◌∙◌, ap, inl, inr}
+use Rattle.std.proofs.Common.{◌≡◌, ℕ, ◌<◌, true, false, cond, ◌&&◌, eqb, Bool, List, [], ◌∷◌, ◌++◌, ◌+◌, get_or, length, take, map, Option, None, refl, sym, ◌∙◌, ap, inl, inr}
 use Rattle.std.specs.List.{All, Contains, filter, flat_map, reduce}
 use Rattle.std.proofs.lemmas.Bool.{cases_Bool, cases_eq, eq-eqb, ne_eqb}
-use Rattle.std.proofs.lemmas.List.Elements.{All-nil, All-cons, All-head, All-tail, All-append, All-weaker, All-map, All-contains}
+use Rattle.std.proofs.lemmas.List.Elements.{All-nil, All-cons, All-head, All-tail, All-append, All-weaker, All-map, All-contains, filter-append}
 use Rattle.store.proofs.Positions.{filter_none, filter_whole}
 use Rattle.algebra.specs.declared.binary.BinaryOp.{BinaryOp}
 use Rattle.algebra.specs.declared.semiring.Semiring.{Semiring}
@@ -11,8 +11,8 @@ use Rattle.model.specs.Entries.{row_entries}
 use Rattle.store.specs.Stored.{Stored, content_of}
 use Rattle.store.proofs.RowEntries.{row_entries-inside}
 use Rattle.spgemm.specs.declared.term.Term.{Term}
-use Rattle.spgemm.specs.Terms.{apply, kept_terms, sum_at, terms_of_row, times_row, words_at}
-use Rattle.spgemm.proofs.Terms.{times_cols}
+use Rattle.spgemm.specs.Terms.{apply, kept_terms, sum_at, term_at, terms_of_row, times_row, words_at}
+use Rattle.spgemm.proofs.Terms.{times_cols, times_more}
 
 -- what is kept of a list is kept, and has what all of it has
 all_kept : (P : Term → Type 0) (keeps : ℕ → Bool) (ts : List Term) → All P ts → All (λ t. P t × (keeps t.col ≡ true)) (kept_terms keeps ts)
@@ -81,3 +81,10 @@ words_kept keeps col (t ∷ ts) =
 pub sum_kept : (op : BinaryOp) (keeps : ℕ → Bool) (col : ℕ) (ts : List Term) → sum_at op col (kept_terms keeps ts) ≡ cond (keeps col) (sum_at op col ts) None
 sum_kept op keeps col ts =
     rw (words_kept keeps col ts) (elim (keeps col) as (λ b. reduce (apply op) (cond b (words_at col ts) []) ≡ cond b (sum_at op col ts) None) [ true ↦ refl | false ↦ refl ])
+
+-- one product more
+pub kept_times_more : (keeps : ℕ → Bool) (op : BinaryOp) (word : ℕ) (row : List Entry) (k : ℕ) (e : Entry) → get_or row k e ≡ e → k < length row
+    → kept_terms keeps (times_row op word (take (k + 1) row)) ≡ kept_terms keeps (times_row op word (take k row)) ++ cond (keeps e.col) (term_at e.col (apply op word e.word) ∷ []) []
+kept_times_more keeps op word row k e this within =
+    let more = rw this at (times_more op word row k e within) in
+    ap (kept_terms keeps) more ∙ filter-append (λ t. keeps t.col) (times_row op word (take k row)) (term_at e.col (apply op word e.word) ∷ [])

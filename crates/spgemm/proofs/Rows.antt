@@ -31,11 +31,11 @@ nil_from_list None h = refl
 nil_from_list (Some b) h = cc
 
 -- columns and words side by side, as a row's entries are
-abbrev side_by_side : ℕ → List Term → List Entry
+abbrev pub side_by_side : ℕ → List Term → List Entry
 side_by_side index sums = entries_along index (map (λ s. s.col) sums) (map (λ s. s.word) sums)
 
 -- where there is at most one word at each column, it is the one that the row has there
-side_by_side_words : (index col : ℕ) (sums : List Term) (o : Option ℕ) → words_at col sums ≡ option_to_list o → word_at (side_by_side index sums) index col ≡ o
+pub side_by_side_words : (index col : ℕ) (sums : List Term) (o : Option ℕ) → words_at col sums ≡ option_to_list o → word_at (side_by_side index sums) index col ≡ o
 unfolding word_at
 side_by_side_words index col [] o h = sym (nil_from_list o h)
 side_by_side_words index col (s ∷ rest) o h =

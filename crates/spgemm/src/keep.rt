@@ -21,14 +21,6 @@ fn lets_through(mask: MaskView<'_>, i: u64, j: u64) -> bool
     has != mask.complement
 }
 
-/// Drops the terms of a row that a mask doesn't let through.
-#[inline(always)]
-pub(crate) fn keep_in_row(terms: &mut Vec<Term>, mask: MaskView<'_>, row: u64)
-    ensures { terms.new.items ≡ kept_terms (lets_through mask.entry row) terms.old.items }
-{
-    terms.retain(|term| lets_through(mask, row, term.col));
-}
-
 /// Drops the terms outside some rows of a column, and those that a mask doesn't let through.
 #[inline(always)]
 pub(crate) fn keep_in_column(terms: &mut Vec<Term>, mask: MaskView<'_>, first: u64, past: u64)

@@ -1,16 +1,13 @@
 //! One row of a product.
 ghost use Rattle.std.specs.Prelude.{◌≡◌, length, OnOk};
 ghost use Rattle.store.specs.Fibers.{entries_along};
-ghost use Rattle.masks.specs.Masks.{lets_through};
 ghost use Rattle.spgemm.specs.Products.{HasRow};
-ghost use Rattle.spgemm.specs.Terms.{kept_terms, terms_of_row};
+ghost use Rattle.spgemm.specs.Terms.{terms_of_row};
 
 use crate::expand::expand;
-use crate::keep::keep_in_row;
 use crate::sums::sum_runs;
 use crate::term::Term;
 use algebra::{BinaryOp, Semiring};
-use masks::MaskView;
 use model::NoMemory;
 use store::{FiberLists, Row, Store};
 
@@ -30,27 +27,6 @@ pub(crate) fn multiply_row(
         lists.old lists.new) }
 {
     expand(terms, row, b, semiring.multiply)?;
-    close_sums(lists, terms, row.index, semiring.add.op)
-}
-
-/// The same, at the columns that a mask lets through.
-#[inline(always)]
-pub(crate) fn multiply_row_under(
-    lists: &mut FiberLists,
-    terms: &mut Vec<Term>,
-    row: Row<'_>,
-    b: &Store,
-    mask: MaskView<'_>,
-    semiring: Semiring,
-) -> Result<(), NoMemory>
-    requires { length row.words.now ≡ length row.cols.now }
-    ensures { OnOk result (HasRow semiring.add.op row.entry.index
-        (kept_terms (lets_through mask.entry row.entry.index)
-        (terms_of_row semiring.multiply (entries_along row.entry.index row.entry.cols.now row.entry.words.now) b.now))
-        lists.old lists.new) }
-{
-    expand(terms, row, b, semiring.multiply)?;
-    keep_in_row(terms, mask, row.index);
     close_sums(lists, terms, row.index, semiring.add.op)
 }
 

@@ -5,8 +5,11 @@ ghost use Rattle.masks.specs.Masks.{lets_through};
 ghost use Rattle.model.specs.Product.{product};
 ghost use Rattle.store.specs.Stored.{block_content, content_of};
 ghost use Rattle.spgemm.specs.Products.{IsProductBlock};
+ghost use Rattle.spgemm.specs.Slots.{lets_by};
 
-use crate::row::multiply_row_under;
+use crate::empty::empty_block;
+use crate::masked_row::{Room, multiply_row_under};
+use crate::multiply::multiply_rows;
 use algebra::{Semiring, with_semiring};
 use masks::MaskView;
 use model::NoMemory;
@@ -37,18 +40,23 @@ pub fn multiply_rows_under(
         then product (ring_named semiring) a.now.cols (content_of a.now) (content_of b.now) i j
         else None)) }
 {
-    with_semiring!(
-        semiring,
-        |own| multiply_under(alloc, a, b, mask, own, range)
-    )
+    match mask.store {
+        Some(store) => with_semiring!(
+            semiring,
+            |own| multiply_under(alloc, a, b, store, mask, own, range)
+        ),
+        None if mask.complement => Ok(empty_block(alloc, range, b.cols())),
+        None => multiply_rows(alloc, a, b, semiring, range),
+    }
 }
 
-/// What `multiply_rows_under` gives, by one semiring of its arms.
+/// What `multiply_rows_under` gives under a mask with a store, by one semiring of its arms.
 #[inline(always)]
 fn multiply_under(
     alloc: Global,
     a: &Store,
     b: &Store,
+    store: &Store,
     mask: MaskView<'_>,
     semiring: Semiring,
     range: Range<u64>,
@@ -56,16 +64,28 @@ fn multiply_under(
     requires inner { a.now.cols ≡ b.now.rows }
     requires range { range.start ≤ range.end }
     requires rows { range.end ≤ a.now.rows }
-    ensures { IfOk result (IsProductBlock semiring (lets_through mask.entry) range.start range.end a.now b.now) }
+    requires store { store.now.cols ≡ b.now.cols }
+    ensures { IfOk result
+        (IsProductBlock semiring (lets_by mask.entry store.now) range.start range.end a.now b.now) }
 {
     prove_eq!(a.cols(), b.rows());
     let (first, past) = (range.start, range.end);
     let mut lists = FiberLists::new(alloc);
-    let mut terms = Vec::new(alloc);
+    let mut room = Room::new(alloc, marks_for(store, b))?;
     let mut rest = a.rows_in(range);
     while let Some((row, others)) = rest.split_first() {
-        multiply_row_under(&mut lists, &mut terms, row, b, mask, semiring)?;
+        multiply_row_under(&mut lists, &mut room, row, b, store, mask, semiring)?;
         rest = others;
     }
     Ok(RowBlock::of_rows(first, past, b.cols(), lists))
+}
+
+/// How many columns of B get a mark: all, where that is little beside the entries, else none.
+fn marks_for(store: &Store, b: &Store) -> usize {
+    let entries = store.nvals().saturating_add(b.nvals());
+    if b.cols() / 8 <= entries {
+        b.cols() as usize
+    } else {
+        0
+    }
 }

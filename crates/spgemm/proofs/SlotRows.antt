@@ -1,0 +1,339 @@
+-- The columns that a mask has as slots, and the row of the sums at them.
+use Rattle.std.proofs.Common.{◌≡◌, ◌≢◌, ℕ, zero, suc, ◌+◌, ◌-◌, ◌<◌, ◌≤◌, true, false, cond, ◌&&◌, ◌||◌, not, eqb, leb, ltb, Bool, List, [], ◌∷◌, ◌++◌, length, get_or, map, Option, Some, None, Result, Ok, Err, OnOk, Vec, refl, sym, ◌∙◌, ap, subst, add-one, inl, inr, arith}
+use Rattle.std.specs.Option.{is_some, option_map, option_to_list}
+use Rattle.std.specs.List.{All, AllPairs, Contains, cons_option, filter, filter_map, list_any}
+use Rattle.std.proofs.lemmas.Bool.{cases_Bool, cases_eq, eq-eqb, ne_eqb}
+use Rattle.std.proofs.lemmas.Bool.Decides.{nat_tests}
+use Rattle.std.proofs.lemmas.List.{length-map}
+use Rattle.std.proofs.lemmas.List.Elements.{All-nil, All-cons, All-head, All-tail, All-weaker, All-map, Contains-append_right, filter_agree}
+use Rattle.std.proofs.lemmas.List.Folds.{list_any_none}
+use Rattle.algebra.specs.declared.binary.BinaryOp.{BinaryOp}
+use Rattle.masks.specs.declared.view.MaskView.{MaskView}
+use Rattle.masks.specs.Masks.{counts, has_word}
+use Rattle.model.specs.declared.entry.Entry.{Entry}
+use Rattle.model.specs.Entries.{below, count_from, entry_at, row_entries}
+use Rattle.model.specs.declared.memory.NoMemory.{NoMemory}
+use Rattle.store.specs.declared.lists.FiberEnd.{FiberEnd}
+use Rattle.store.specs.declared.lists.FiberLists.{FiberLists}
+use Rattle.store.specs.Fibers.{entries_along}
+use Rattle.store.specs.Stored.{Stored, content_of}
+use Rattle.store.proofs.CloseLaws.{closed}
+use Rattle.store.proofs.Order.{all_pairs_cons, all_pairs_filter, all_pairs_head, all_pairs_map, all_pairs_nil, all_pairs_tail}
+use Rattle.spgemm.specs.declared.term.Term.{Term}
+use Rattle.spgemm.specs.Products.{HasRow, IsSumRow}
+use Rattle.spgemm.specs.Slots.{AreSlots, AreSlotSums, IsSlotOf, counted, has_in_column, has_in_row, is_slot, lets_by, present}
+use Rattle.spgemm.specs.Terms.{kept_terms, sum_at, term_at, words_at}
+use Rattle.spgemm.specs.Vectors.{entries_of_column}
+use Rattle.spgemm.proofs.Kept.{sum_kept}
+use Rattle.spgemm.proofs.Rows.{side_by_side_words}
+
+-- ---- numbers in a row
+
+all_numbers : (first n : ℕ) → All (λ k. (first ≤ k) × (k < first + n)) (count_from first n)
+unfolding count_from
+all_numbers first zero = All-nil (λ k. (first ≤ k) × (k < first + 0))
+all_numbers first (suc n) =
+    All-cons (λ k. (first ≤ k) × (k < first + suc n)) first (count_from (first + 1) n) (omega arith, omega arith)
+    (All-weaker (λ k. (first + 1 ≤ k) × (k < first + 1 + n)) (λ k. (first ≤ k) × (k < first + suc n)) (λ k p. (omega (arith, p.0), omega (arith, p.1))) (count_from (first + 1) n) (all_numbers (first + 1) n))
+
+numbers_rise : (first n : ℕ) → AllPairs (λ p q. p < q) (count_from first n)
+unfolding count_from
+numbers_rise first zero = all_pairs_nil (λ p q. p < q)
+numbers_rise first (suc n) =
+    all_pairs_cons (λ p q. p < q) first (count_from (first + 1) n)
+    (All-weaker (λ k. (first + 1 ≤ k) × (k < first + 1 + n)) (λ k. first < k) (λ k p. omega (arith, p.0)) (count_from (first + 1) n) (all_numbers (first + 1) n))
+    (numbers_rise (first + 1) n)
+
+all_filtered : (P : ℕ → Type 0) (test : ℕ → Bool) (ks : List ℕ) → All P ks → All (λ k. P k × (test k ≡ true)) (filter test ks)
+all_filtered P test [] h = All-nil (λ k. P k × (test k ≡ true))
+all_filtered P test (k ∷ ks) h =
+    let rest = all_filtered P test ks (All-tail P k ks h) in
+    elim (cases_Bool (test k)) [
+      | inl with_it ↦ rw with_it (All-cons (λ k. P k × (test k ≡ true)) k (filter test ks) (All-head P k ks h, with_it) rest)
+      | inr without ↦ rw without rest
+    ]
+
+one_number : (test : ℕ → Bool) (col first n : ℕ) → filter (λ k. eqb k col) (filter test (count_from first n)) ≡ cond ((leb first col && ltb col (first + n)) && test col) (col ∷ []) []
+unfolding count_from
+one_number test col first zero = let out : (leb first col && ltb col (first + 0)) ≡ false = grind (arith, nat_tests) in rw out refl
+one_number test col first (suc n) =
+    let rest = one_number test col (first + 1) n in
+    elim (cases_eq first col) [
+      | inl here ↦
+          let out : (leb (first + 1) col && ltb col (first + 1 + n)) ≡ false = grind (arith, nat_tests) in
+          let in_it : (leb first col && ltb col (first + suc n)) ≡ true = grind (arith, nat_tests) in
+          let none : filter (λ k. eqb k col) (filter test (count_from (first + 1) n)) ≡ [] = rw out at rest in
+          elim (cases_Bool (test first)) [
+            | inl with_it ↦
+                let also : test col ≡ true = ap test (sym here) ∙ with_it in
+                rw (in_it, with_it, also, eq-eqb first col here, none) (ap (λ k. k ∷ []) here)
+            | inr without ↦
+                let also : test col ≡ false = ap test (sym here) ∙ without in
+                rw (in_it, without, also) none
+          ]
+      | inr away ↦
+          let same : (leb (first + 1) col && ltb col (first + 1 + n)) ≡ (leb first col && ltb col (first + suc n)) = grind (arith, nat_tests) in
+          let more : filter (λ k. eqb k col) (filter test (count_from (first + 1) n)) ≡ cond ((leb first col && ltb col (first + suc n)) && test col) (col ∷ []) [] = rw same at rest in
+          elim (cases_Bool (test first)) [
+            | inl with_it ↦ rw (with_it, ne_eqb first col away) more
+            | inr without ↦ rw without more
+          ]
+    ]
+
+-- ---- slots
+
+slots_from : (test keeps : ℕ → Bool) (first n : ℕ) → ((col : ℕ) → ((leb first col && ltb col (first + n)) && test col) ≡ keeps col) → AreSlots keeps (filter test (count_from first n))
+slots_from test keeps first n is = record {
+  rising = all_pairs_filter (λ p q. p < q) test (count_from first n) (numbers_rise first n);
+  kept =
+      All-weaker (λ k. ((first ≤ k) × (k < first + n)) × (test k ≡ true)) (λ k. keeps k ≡ true)
+      (λ k p. sym (is k) ∙ (let low : leb first k ≡ true = grind (arith, nat_tests, p.0.0) in let high : ltb k (first + n) ≡ true = grind (arith, nat_tests, p.0.1) in rw (low, high, p.1) refl))
+      (filter test (count_from first n)) (all_filtered (λ k. (first ≤ k) × (k < first + n)) test (count_from first n) (all_numbers first n));
+  once = λ col. one_number test col first n ∙ ap (λ b. cond b (col ∷ []) []) (is col);
+}
+
+counted_columns : (valued : Bool) (i : ℕ) (c : ℕ → Option ℕ) (ks : List ℕ) → counted valued (filter_map (λ k. option_map (entry_at i k) (c k)) ks) ≡ filter (λ k. has_word valued (c k)) ks
+counted_columns valued i c [] = refl
+counted_columns valued i c (k ∷ ks) =
+    let rest = counted_columns valued i c ks in
+    elim (c k) as (λ o. counted valued (cons_option (option_map (entry_at i k) o) (filter_map (λ k. option_map (entry_at i k) (c k)) ks)) ≡ cond (has_word valued o) (k ∷ filter (λ k. has_word valued (c k)) ks) (filter (λ k. has_word valued (c k)) ks)) [
+      | None ↦ rest
+      | Some w ↦ elim (counts valued w) as (λ b. map (λ (e : Entry). e.col) (cond b (entry_at i k w ∷ filter (λ (e : Entry). counts valued e.word) (filter_map (λ k. option_map (entry_at i k) (c k)) ks)) (filter (λ (e : Entry). counts valued e.word) (filter_map (λ k. option_map (entry_at i k) (c k)) ks))) ≡ cond b (k ∷ filter (λ k. has_word valued (c k)) ks) (filter (λ k. has_word valued (c k)) ks)) [
+        | true ↦ ap (λ ks. k ∷ ks) rest
+        | false ↦ rest
+      ]
+    ]
+
+-- the row's own index does not matter
+counted_any : (valued : Bool) (i : ℕ) (cols words : List ℕ) → counted valued (entries_along i cols words) ≡ counted valued (entries_along 0 cols words)
+counted_any valued i [] words = refl
+counted_any valued i (col ∷ cols) [] = refl
+counted_any valued i (col ∷ cols) (word ∷ words) =
+    elim (counts valued word) as (λ b. map (λ (e : Entry). e.col) (cond b (entry_at i col word ∷ filter (λ (e : Entry). counts valued e.word) (entries_along i cols words)) (filter (λ (e : Entry). counts valued e.word) (entries_along i cols words)))
+    ≡ map (λ (e : Entry). e.col) (cond b (entry_at 0 col word ∷ filter (λ (e : Entry). counts valued e.word) (entries_along 0 cols words)) (filter (λ (e : Entry). counts valued e.word) (entries_along 0 cols words)))) [
+      | true ↦ ap (λ ks. col ∷ ks) (counted_any valued i cols words)
+      | false ↦ counted_any valued i cols words
+    ]
+
+pub row_slots : (valued : Bool) (store : Stored) (i : ℕ) (cols words : List ℕ) → entries_along i cols words ≡ row_entries store.cols (content_of store) i → AreSlots (has_in_row valued store i) (counted valued (entries_along 0 cols words))
+row_slots valued store i cols words is =
+    let test : ℕ → Bool = λ col. has_word valued (content_of store i col) in
+    let are : counted valued (entries_along 0 cols words) ≡ filter test (below store.cols) = sym (counted_any valued i cols words) ∙ ap (counted valued) is ∙ counted_columns valued i (content_of store i) (below store.cols) in
+    subst (AreSlots (has_in_row valued store i)) (sym are) (slots_from test (has_in_row valued store i) 0 store.cols (λ col. let same : (leb 0 col && ltb col (0 + store.cols)) ≡ ltb col store.cols = grind (arith, nat_tests) in ap (λ b. b && test col) same))
+
+pub column_slots : (valued : Bool) (store : Stored) (first past : ℕ) (rows words : List ℕ) → first ≤ past → entries_along 0 rows words ≡ entries_of_column (content_of store) first past → AreSlots (has_in_column valued store first past) (counted valued (entries_along 0 rows words))
+column_slots valued store first past rows words le is =
+    let test : ℕ → Bool = λ row. has_word valued (content_of store row 0) in
+    let are : counted valued (entries_along 0 rows words) ≡ filter test (count_from first (past - first)) = ap (counted valued) is ∙ counted_columns valued 0 (λ row. content_of store row 0) (count_from first (past - first)) in
+    let end : first + (past - first) ≡ past = omega arith in
+    subst (AreSlots (has_in_column valued store first past)) (sym are) (slots_from test (has_in_column valued store first past) first (past - first) (λ row. rw end refl))
+
+pub ok_slots : (r : Result (Unit {0}) NoMemory) (keeps : ℕ → Bool) (xs ys : List ℕ) → OnOk r (xs ≡ ys) → AreSlots keeps ys → OnOk r (AreSlots keeps xs)
+ok_slots (Err e) keeps xs ys same are = tt
+ok_slots (Ok u) keeps xs ys same are = subst (AreSlots keeps) (sym same) are
+
+-- ---- whether a column is a slot
+
+any_none : (col : ℕ) (slots : List ℕ) → All (λ slot. slot ≢ col) slots → is_slot slots col ≡ false
+any_none col slots h = list_any_none (λ slot. eqb slot col) slots (All-weaker (λ slot. slot ≢ col) (λ slot. eqb slot col ≡ false) (λ slot away. ne_eqb slot col away) slots h)
+
+any_at : (col : ℕ) (slots : List ℕ) (at : ℕ) → at < length slots → get_or slots at 0 ≡ col → is_slot slots col ≡ true
+any_at col [] at within is = absurd (omega arith)
+any_at col (s ∷ slots) zero within is = rw (eq-eqb s col is) refl
+any_at col (s ∷ slots) (suc at) within is = elim (eqb s col) as (λ b. (b || is_slot slots col) ≡ true) [
+  | true ↦ refl
+  | false ↦ any_at col slots at (omega arith) is
+]
+
+pub slot_found : (slots : List ℕ) (col : ℕ) (found : Option ℕ) → IsSlotOf slots col found → is_some found ≡ is_slot slots col
+slot_found slots col None h = sym (any_none col slots h)
+slot_found slots col (Some at) h = sym (any_at col slots at h.0 h.1)
+
+filter_not_any : (col : ℕ) (slots : List ℕ) → is_slot slots col ≡ false → filter (λ slot. eqb slot col) slots ≡ []
+filter_not_any col [] h = refl
+filter_not_any col (s ∷ slots) h =
+    elim (cases_eq s col) [
+      | inl here ↦ let other : true ≡ false = rw (eq-eqb s col here) at h in cc
+      | inr away ↦ let rest : is_slot slots col ≡ false = rw (ne_eqb s col away) at h in rw (ne_eqb s col away) (filter_not_any col slots rest)
+    ]
+
+any_not_filter : (col : ℕ) (slots : List ℕ) → filter (λ slot. eqb slot col) slots ≡ [] → is_slot slots col ≡ false
+any_not_filter col [] h = refl
+any_not_filter col (s ∷ slots) h =
+    elim (cases_eq s col) [
+      | inl here ↦ let some : s ∷ filter (λ slot. eqb slot col) slots ≡ [] = rw (eq-eqb s col here) at h in cc
+      | inr away ↦ let rest : filter (λ slot. eqb slot col) slots ≡ [] = rw (ne_eqb s col away) at h in rw (ne_eqb s col away) (any_not_filter col slots rest)
+    ]
+
+pub slot_kept : (keeps : ℕ → Bool) (slots : List ℕ) (col : ℕ) → AreSlots keeps slots → is_slot slots col ≡ keeps col
+slot_kept keeps slots col are =
+    let once = are.once col in
+    elim (cases_Bool (keeps col)) [
+      | inl with_it ↦
+          elim (cases_Bool (is_slot slots col)) [
+            | inl found ↦ found ∙ sym with_it
+            | inr missed ↦
+                let one : filter (λ slot. eqb slot col) slots ≡ col ∷ [] = rw with_it at once in
+                let none = filter_not_any col slots missed in
+                absurd cc
+          ]
+      | inr without ↦
+          let none : filter (λ slot. eqb slot col) slots ≡ [] = rw without at once in
+          any_not_filter col slots none ∙ sym without
+    ]
+
+-- the terms that are at no slot are those that are not kept
+pub outside_is : (keeps : ℕ → Bool) (slots : List ℕ) (terms : List Term) → AreSlots keeps slots → kept_terms (λ col. not (is_slot slots col)) terms ≡ kept_terms (λ col. not (keeps col)) terms
+outside_is keeps slots terms are = filter_agree (λ t. not (is_slot slots t.col)) (λ t. not (keeps t.col)) (λ t. ap not (slot_kept keeps slots t.col are)) terms
+
+-- ---- the row of the sums
+
+abbrev found_sums : (ℕ → Option ℕ) → List ℕ → List Term
+found_sums f slots = filter_map (λ col. option_map (term_at col) (f col)) slots
+
+present_is : (f : ℕ → Option ℕ) (slots : List ℕ) (sums : List (Option ℕ)) → length sums ≡ length slots → ((at : ℕ) → at < length slots → get_or sums at None ≡ f (get_or slots at 0)) → present slots sums ≡ found_sums f slots
+present_is f [] sums same are = refl
+present_is f (s ∷ slots) [] same are = absurd (omega arith)
+present_is f (s ∷ slots) (o ∷ sums) same are =
+    let first : o ≡ f s = are 0 (omega arith) in
+    let rest = present_is f slots sums (omega arith) (λ at within. let next = are (at + 1) (omega arith) in rw add-one at next) in
+    rw first (ap (cons_option (option_map (term_at s) (f s))) rest)
+
+words_found : (f : ℕ → Option ℕ) (col : ℕ) (slots : List ℕ) → words_at col (found_sums f slots) ≡ words_at col (found_sums f (filter (λ slot. eqb slot col) slots))
+words_found f col [] = refl
+words_found f col (s ∷ slots) =
+    let rest = words_found f col slots in
+    elim (cases_eq s col) [
+      | inl here ↦ rw (eq-eqb s col here) (elim (f s) as (λ o. words_at col (cons_option (option_map (term_at s) o) (found_sums f slots)) ≡ words_at col (cons_option (option_map (term_at s) o) (found_sums f (filter (λ slot. eqb slot col) slots)))) [
+        | None ↦ rest
+        | Some w ↦ rw (eq-eqb s col here) (ap (λ ws. w ∷ ws) rest)
+      ])
+      | inr away ↦ rw (ne_eqb s col away) (elim (f s) as (λ o. words_at col (cons_option (option_map (term_at s) o) (found_sums f slots)) ≡ words_at col (found_sums f (filter (λ slot. eqb slot col) slots))) [
+        | None ↦ rest
+        | Some w ↦ rw (ne_eqb s col away) rest
+      ])
+    ]
+
+words_one : (f : ℕ → Option ℕ) (col : ℕ) (b : Bool) → words_at col (found_sums f (cond b (col ∷ []) [])) ≡ option_to_list (cond b (f col) None)
+words_one f col true = elim (f col) as (λ o. words_at col (cons_option (option_map (term_at col) o) []) ≡ option_to_list o) [
+  | None ↦ refl
+  | Some w ↦ rw (eq-eqb col col refl) refl
+]
+words_one f col false = refl
+
+found_above : (f : ℕ → Option ℕ) (low : ℕ) (slots : List ℕ) → All (λ slot. low < slot) slots → All (λ s. low < s.col) (found_sums f slots)
+found_above f low [] h = All-nil (λ s. low < s.col)
+found_above f low (s ∷ slots) h =
+    let rest = found_above f low slots (All-tail (λ slot. low < slot) s slots h) in
+    elim (f s) as (λ o. All (λ s. low < s.col) (cons_option (option_map (term_at s) o) (found_sums f slots))) [
+      | None ↦ rest
+      | Some w ↦ All-cons (λ s. low < s.col) (term_at s w) (found_sums f slots) (All-head (λ slot. low < slot) s slots h) rest
+    ]
+
+found_rise : (f : ℕ → Option ℕ) (slots : List ℕ) → AllPairs (λ p q. p < q) slots → AllPairs (λ s t. s.col < t.col) (found_sums f slots)
+found_rise f [] h = all_pairs_nil (λ s t. s.col < t.col)
+found_rise f (s ∷ slots) h =
+    let rest = found_rise f slots (all_pairs_tail (λ p q. p < q) s slots h) in
+    elim (f s) as (λ o. AllPairs (λ s t. s.col < t.col) (cons_option (option_map (term_at s) o) (found_sums f slots))) [
+      | None ↦ rest
+      | Some w ↦ all_pairs_cons (λ s t. s.col < t.col) (term_at s w) (found_sums f slots) (found_above f s slots (all_pairs_head (λ p q. p < q) s slots h)) rest
+    ]
+
+abbrev at_term : Term → ℕ
+at_term t = t.col
+
+-- a column that is kept, and has words, is one of the terms that are kept
+has_words : (keeps : ℕ → Bool) (col word : ℕ) (words : List ℕ) (terms : List Term) → keeps col ≡ true → words_at col terms ≡ word ∷ words → Contains (map at_term (kept_terms keeps terms)) col
+has_words keeps col word words [] kept some = absurd cc
+has_words keeps col word words (t ∷ terms) kept some =
+    elim (cases_eq t.col col) [
+      | inl here ↦ let also : keeps t.col ≡ true = ap keeps here ∙ kept in rw also (0, omega arith, here)
+      | inr away ↦
+          let rest : words_at col terms ≡ word ∷ words = rw (ne_eqb t.col col away) at some in
+          let more = has_words keeps col word words terms kept rest in
+          elim (cases_Bool (keeps t.col)) [
+            | inl with_it ↦ rw with_it (Contains-append_right (t.col ∷ []) (map at_term (kept_terms keeps terms)) col more)
+            | inr without ↦ rw without more
+          ]
+    ]
+
+words_of_sum : (op : BinaryOp) (col word : ℕ) (terms : List Term) (words : List ℕ) → words ≡ words_at col terms → sum_at op col terms ≡ Some word → (rest : List ℕ) × (words_at col terms ≡ get_or words 0 0 ∷ rest)
+words_of_sum op col word terms [] is some = let none : sum_at op col terms ≡ None = rw (← is) refl in absurd cc
+words_of_sum op col word terms (w ∷ ws) is some = (ws, sym is)
+
+found_more : (op : BinaryOp) (keeps : ℕ → Bool) (terms : List Term) (slot : ℕ) (rest : List Term) → keeps slot ≡ true → All (λ s. Contains (map at_term (kept_terms keeps terms)) s.col) rest → (o : Option ℕ) → sum_at op slot terms ≡ o
+    → All (λ s. Contains (map at_term (kept_terms keeps terms)) s.col) (cons_option (option_map (term_at slot) o) rest)
+found_more op keeps terms slot rest kept h None is = h
+found_more op keeps terms slot rest kept h (Some word) is =
+    let words = words_of_sum op slot word terms (words_at slot terms) refl is in
+    All-cons (λ s. Contains (map at_term (kept_terms keeps terms)) s.col) (term_at slot word) rest (has_words keeps slot (get_or (words_at slot terms) 0 0) words.0 terms kept words.1) h
+
+found_kept : (op : BinaryOp) (keeps : ℕ → Bool) (terms : List Term) (slots : List ℕ) → All (λ slot. keeps slot ≡ true) slots → All (λ s. Contains (map at_term (kept_terms keeps terms)) s.col) (found_sums (λ col. sum_at op col terms) slots)
+found_kept op keeps terms [] h = All-nil (λ s. Contains (map at_term (kept_terms keeps terms)) s.col)
+found_kept op keeps terms (slot ∷ slots) h =
+    let P : Term → Type 0 = λ s. Contains (map at_term (kept_terms keeps terms)) s.col in
+    let rest = found_kept op keeps terms slots (All-tail (λ slot. keeps slot ≡ true) slot slots h) in
+    found_more op keeps terms slot (found_sums (λ col. sum_at op col terms) slots) (All-head (λ slot. keeps slot ≡ true) slot slots h) rest (sum_at op slot terms) refl
+
+-- what stands beside the slots is the row of the sums of the terms that are kept
+slot_row : (op : BinaryOp) (index : ℕ) (keeps : ℕ → Bool) (slots : List ℕ) (terms : List Term) (sums : List (Option ℕ)) → AreSlots keeps slots → AreSlotSums op slots terms sums
+    → IsSumRow op index (kept_terms keeps terms) (map (λ s. s.col) (present slots sums)) (map (λ s. s.word) (present slots sums))
+slot_row op index keeps slots terms sums are here =
+    let f : ℕ → Option ℕ = λ col. sum_at op col terms in
+    let is = present_is f slots sums here.lengths here.sums_are in
+    rw is (record {
+      lengths = length-map (found_sums f slots) (λ (s : Term). s.word) ∙ sym (length-map (found_sums f slots) at_term);
+      rising = all_pairs_map (λ p q. p < q) at_term (found_sums f slots) (found_rise f slots are.rising);
+      columns = All-map (λ col. Contains (map at_term (kept_terms keeps terms)) col) at_term (found_sums f slots) (found_kept op keeps terms slots are.kept);
+      words_are = λ col.
+          side_by_side_words index col (found_sums f slots) (sum_at op col (kept_terms keeps terms))
+          (words_found f col slots ∙ ap (λ ss. words_at col (found_sums f ss)) (are.once col) ∙ words_one f col (keeps col) ∙ ap option_to_list (sym (sum_kept op keeps col terms)));
+    })
+
+-- the sums behind the rows, where the row was closed
+pub slots_closed : (r : Result (Unit {0}) NoMemory) (op : BinaryOp) (index : ℕ) (slots : List ℕ) (terms : List Term) (sums : List (Option ℕ)) (old mid new : FiberLists) → AreSlotSums op slots terms sums
+    → mid.ends ≡ old.ends → mid.inner.items ≡ old.inner.items ++ map (λ s. s.col) (present slots sums) → mid.words.items ≡ old.words.items ++ map (λ s. s.word) (present slots sums)
+    → OnOk r (new.ends.items ≡ closed mid.ends.items index (length mid.inner.items)) → new.inner.items ≡ mid.inner.items → new.words.items ≡ mid.words.items
+    → OnOk r ((keeps : ℕ → Bool) → AreSlots keeps slots → HasRow op index (kept_terms keeps terms) old new)
+slots_closed (Err e) op index slots terms sums old mid new here same put_inner put_words ends inner words = tt
+slots_closed (Ok u) op index slots terms sums old mid new here same put_inner put_words ends inner words = λ keeps are.
+    record {
+      cols = map (λ s. s.col) (present slots sums);
+      added = map (λ s. s.word) (present slots sums);
+      sums = slot_row op index keeps slots terms sums are here;
+      inner = inner ∙ put_inner;
+      words = words ∙ put_words;
+      ends = ends ∙ ap (λ es. closed es index (length mid.inner.items)) (ap (λ (v : Vec FiberEnd _). v.items) same) ∙ ap (λ is. closed old.ends.items index (length is)) (sym inner);
+    }
+
+pub rows_outside : (r : Result (Unit {0}) NoMemory) (op : BinaryOp) (index : ℕ) (slots : List ℕ) (terms left : List Term) (old new : FiberLists) → left ≡ kept_terms (λ col. not (is_slot slots col)) terms → OnOk r (HasRow op index left old new)
+    → OnOk r ((keeps : ℕ → Bool) → AreSlots keeps slots → HasRow op index (kept_terms (λ col. not (keeps col)) terms) old new)
+rows_outside (Err e) op index slots terms left old new is here = tt
+rows_outside (Ok u) op index slots terms left old new is here = λ keeps are. subst (λ ts. HasRow op index ts old new) (is ∙ outside_is keeps slots terms are) here
+
+-- ---- where terms are at columns below a width
+
+agree_below : (p q : ℕ → Bool) (width : ℕ) (terms : List Term) → All (λ t. t.col < width) terms → ((col : ℕ) → col < width → p col ≡ q col) → kept_terms p terms ≡ kept_terms q terms
+agree_below p q width [] below same = refl
+agree_below p q width (t ∷ ts) below same =
+    let rest = agree_below p q width ts (All-tail (λ t. t.col < width) t ts below) same in
+    rw (same t.col (All-head (λ t. t.col < width) t ts below)) (elim (q t.col) as (λ b. cond b (t ∷ kept_terms p ts) (kept_terms p ts) ≡ cond b (t ∷ kept_terms q ts) (kept_terms q ts)) [
+      | true ↦ ap (λ ts. t ∷ ts) rest
+      | false ↦ rest
+    ])
+
+inside_width : (col width : ℕ) (b : Bool) → col < width → (ltb col width && b) ≡ b
+inside_width col width b below = let test : ltb col width ≡ true = grind (arith, nat_tests) in rw test refl
+
+-- the row at the columns of a mask's row is the one that the mask lets through
+pub row_let_through : (mask : MaskView) (store : Stored) (i width : ℕ) (op : BinaryOp) (terms : List Term) (old new : FiberLists) → store.cols ≡ width → All (λ t. t.col < width) terms → mask.complement ≡ false
+    → HasRow op i (kept_terms (has_in_row mask.valued store i) terms) old new → HasRow op i (kept_terms (lets_by mask store i) terms) old new
+row_let_through mask store i width op terms old new same below plain here =
+    subst (λ ts. HasRow op i ts old new)
+    (agree_below (has_in_row mask.valued store i) (lets_by mask store i) width terms below (λ col less. rw (plain, same) (inside_width col width (has_word mask.valued (content_of store i col)) less))) here
+
+pub row_let_out : (mask : MaskView) (store : Stored) (i width : ℕ) (op : BinaryOp) (terms : List Term) (old new : FiberLists) → store.cols ≡ width → All (λ t. t.col < width) terms → mask.complement ≡ true
+    → HasRow op i (kept_terms (λ col. not (has_in_row mask.valued store i col)) terms) old new → HasRow op i (kept_terms (lets_by mask store i) terms) old new
+row_let_out mask store i width op terms old new same below turned here =
+    subst (λ ts. HasRow op i ts old new)
+    (agree_below (λ col. not (has_in_row mask.valued store i col)) (lets_by mask store i) width terms below (λ col less. rw (turned, same) (ap not (inside_width col width (has_word mask.valued (content_of store i col)) less)))) here
