@@ -15,7 +15,7 @@ use Rattle.spgemm.specs.Terms.{apply, kept_terms, sum_at, term_at, terms_of_row,
 use Rattle.spgemm.proofs.Terms.{times_cols, times_more}
 
 -- what is kept of a list is kept, and has what all of it has
-all_kept : (P : Term → Type 0) (keeps : ℕ → Bool) (ts : List Term) → All P ts → All (λ t. P t × (keeps t.col ≡ true)) (kept_terms keeps ts)
+pub all_kept : (P : Term → Type 0) (keeps : ℕ → Bool) (ts : List Term) → All P ts → All (λ t. P t × (keeps t.col ≡ true)) (kept_terms keeps ts)
 all_kept P keeps [] h = All-nil (λ t. P t × (keeps t.col ≡ true))
 all_kept P keeps (t ∷ ts) h =
     let rest = all_kept P keeps ts (All-tail P t ts h) in
@@ -88,3 +88,15 @@ pub kept_times_more : (keeps : ℕ → Bool) (op : BinaryOp) (word : ℕ) (row :
 kept_times_more keeps op word row k e this within =
     let more = rw this at (times_more op word row k e within) in
     ap (kept_terms keeps) more ∙ filter-append (λ t. keeps t.col) (times_row op word (take k row)) (term_at e.col (apply op word e.word) ∷ [])
+
+pub kept_twice : (p q : ℕ → Bool) (ts : List Term) → kept_terms p (kept_terms q ts) ≡ kept_terms (λ col. q col && p col) ts
+kept_twice p q [] = refl
+kept_twice p q (t ∷ ts) =
+    let rest = kept_twice p q ts in
+    elim (q t.col) as (λ b. kept_terms p (cond b (t ∷ kept_terms q ts) (kept_terms q ts)) ≡ cond (b && p t.col) (t ∷ kept_terms (λ col. q col && p col) ts) (kept_terms (λ col. q col && p col) ts)) [
+      | true ↦ elim (p t.col) as (λ b. cond b (t ∷ kept_terms p (kept_terms q ts)) (kept_terms p (kept_terms q ts)) ≡ cond b (t ∷ kept_terms (λ col. q col && p col) ts) (kept_terms (λ col. q col && p col) ts)) [
+        | true ↦ ap (λ ts. t ∷ ts) rest
+        | false ↦ rest
+      ]
+      | false ↦ rest
+    ]

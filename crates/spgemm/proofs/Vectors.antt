@@ -9,8 +9,6 @@ use Rattle.std.proofs.lemmas.List.Elements.{All-nil, All-head, All-weaker, All-m
 use Rattle.algebra.specs.declared.semiring.Semiring.{Semiring}
 use Rattle.algebra.specs.declared.operator_names.RingName.{RingName}
 use Rattle.algebra.specs.OperatorNames.{ring_named}
-use Rattle.masks.specs.declared.view.MaskView.{MaskView}
-use Rattle.masks.specs.Masks.{lets_through}
 use Rattle.model.specs.declared.entry.Entry.{Entry}
 use Rattle.model.specs.Entries.{below, count_from, entries_between, entry_at, row_entries, word_at}
 use Rattle.model.specs.Object.{Content, IsWithin, turned_content}
@@ -25,7 +23,7 @@ use Rattle.store.proofs.FlatLaws.{all_cols, flat_none}
 use Rattle.store.proofs.Order.{all_append_right}
 use Rattle.store.proofs.Contents.{row_of_column}
 use Rattle.store.proofs.RowEntries.{entries_between-inside}
-use Rattle.spgemm.specs.Vectors.{entries_of_column, lets_down}
+use Rattle.spgemm.specs.Vectors.{entries_of_column, in_range, keeps_down}
 use Rattle.spgemm.proofs.Blocks.{elsewhere}
 use Rattle.spgemm.proofs.Kept.{sums_kept}
 use Rattle.spgemm.proofs.Product.{product_at_is}
@@ -113,16 +111,16 @@ one_row keeps semiring row a terms old new are no_ends no_inner no_words made =
           ]);
     }
 
-in_range : (first past row : ℕ) (x : Bool) → ((leb first row && ltb row past) && x) ≡ true → (first ≤ row) × (row < past)
-in_range first past row x h = (grind (arith, nat_tests), grind (arith, nat_tests))
+range_of : (first past row : ℕ) (x : Bool) → ((leb first row && ltb row past) && x) ≡ true → (first ≤ row) × (row < past)
+range_of first past row x h = (grind (arith, nat_tests), grind (arith, nat_tests))
 
 -- so it lies inside the part
-pub one_row_inside : (mask : MaskView) (first past : ℕ) (semiring : Semiring) (row : List Entry) (a : Stored) (lists : FiberLists) → IsOneRow (lets_down mask first past) semiring row a lists
+pub one_row_inside : (keeps : ℕ → ℕ → Bool) (first past : ℕ) (semiring : Semiring) (row : List Entry) (a : Stored) (lists : FiberLists) → IsOneRow (keeps_down keeps first past) semiring row a lists
     → AreIn first past 1 (turned (entries_from 0 lists.ends.items lists.inner.items lists.words.items))
-one_row_inside mask first past semiring row a lists h =
+one_row_inside keeps first past semiring row a lists h =
     let es = entries_from 0 lists.ends.items lists.inner.items lists.words.items in
     All-map (λ e. ((first ≤ e.row) × (e.row < past)) × (e.col < 1)) (λ e. entry_at e.col e.row e.word) es
-    (All-weaker (λ e. (e.row ≡ 0) × (lets_down mask first past e.col ≡ true)) (λ e. ((first ≤ e.col) × (e.col < past)) × (e.row < 1)) (λ e p. (in_range first past e.col (lets_through mask e.col 0) p.1, omega (arith, p.0))) es h.columns)
+    (All-weaker (λ e. (e.row ≡ 0) × (keeps_down keeps first past e.col ≡ true)) (λ e. ((first ≤ e.col) × (e.col < past)) × (e.row < 1)) (λ e p. (range_of first past e.col (keeps e.col 0) p.1, omega (arith, p.0))) es h.columns)
 
 nothing : (b : Bool) (o : Option ℕ) → o ≡ None → cond b o None ≡ None
 nothing true o h = h
@@ -138,20 +136,20 @@ not_first : (k rows j : ℕ) → j ≢ 0 → (ltb k rows && ltb j 1) ≡ false
 not_first k rows j away = grind (arith, nat_tests)
 
 -- and its words are the product's
-pub vector_words : (mask : MaskView) (first past : ℕ) (semiring : Semiring) (u a : Stored) (rows words : List ℕ) (lists : FiberLists) (i j : ℕ) → u.cols ≡ 1 → IsWithin u.rows u.cols (content_of u) → IsWithin a.rows a.cols (content_of a)
-    → entries_along 0 rows words ≡ entries_of_column (content_of u) 0 u.rows → IsOneRow (lets_down mask first past) semiring (entries_along 0 rows words) a lists → first ≤ i → i < past
+pub vector_words : (keeps : ℕ → ℕ → Bool) (first past : ℕ) (semiring : Semiring) (u a : Stored) (rows words : List ℕ) (lists : FiberLists) (i j : ℕ) → u.cols ≡ 1 → IsWithin u.rows u.cols (content_of u) → IsWithin a.rows a.cols (content_of a)
+    → entries_along 0 rows words ≡ entries_of_column (content_of u) 0 u.rows → IsOneRow (keeps_down keeps first past) semiring (entries_along 0 rows words) a lists → first ≤ i → i < past
     → word_at (turned (entries_from 0 lists.ends.items lists.inner.items lists.words.items)) i j
-    ≡ cond (lets_through mask i j) (turned_content (product (ring_named semiring) u.rows (turned_content (content_of u)) (content_of a)) i j) None
-vector_words mask first past semiring u a rows words lists i j one u_within a_within is h low high =
+    ≡ cond (keeps i j) (turned_content (product (ring_named semiring) u.rows (turned_content (content_of u)) (content_of a)) i j) None
+vector_words keeps first past semiring u a rows words lists i j one u_within a_within is h low high =
     let c = content_of u in
-    let keeps = lets_down mask first past in
+    let down = keeps_down keeps first past in
     let row = entries_along 0 rows words in
-    let whole : product_at semiring keeps row a i ≡ cond (keeps i) (product (ring_named semiring) u.rows (turned_content c) (content_of a) 0 i) None =
-    ap (λ row. product_at semiring keeps row a i) (is ∙ whole_column c u.rows) ∙ product_at_is semiring keeps u.rows 0 i (turned_content c) a a_within in
+    let whole : product_at semiring down row a i ≡ cond (down i) (product (ring_named semiring) u.rows (turned_content c) (content_of a) 0 i) None =
+    ap (λ row. product_at semiring down row a i) (is ∙ whole_column c u.rows) ∙ product_at_is semiring down u.rows 0 i (turned_content c) a a_within in
     word_at-turned (entries_from 0 lists.ends.items lists.inner.items lists.words.items) i j ∙ h.words_are j i
     ∙ elim (cases_eq j 0) [
-      | inl here ↦ rw (eq-eqb j 0 here, here) (whole ∙ ap (λ b. cond b (product (ring_named semiring) u.rows (turned_content c) (content_of a) 0 i) None) (inside_range first past i (lets_through mask i 0) low high))
+      | inl here ↦ rw (eq-eqb j 0 here, here) (whole ∙ ap (λ b. cond b (product (ring_named semiring) u.rows (turned_content c) (content_of a) 0 i) None) (inside_range first past i (keeps i 0) low high))
       | inr away ↦
           let none = no_product (ring_named semiring) u.rows (turned_content c) (content_of a) j i (λ k. u_within k j (rw one (not_first k u.rows j away))) in
-          rw (ne_eqb j 0 away) (sym (nothing (lets_through mask i j) (product (ring_named semiring) u.rows (turned_content c) (content_of a) j i) none))
+          rw (ne_eqb j 0 away) (sym (nothing (keeps i j) (product (ring_named semiring) u.rows (turned_content c) (content_of a) j i) none))
     ]

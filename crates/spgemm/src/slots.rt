@@ -104,6 +104,13 @@ impl Slots {
     }
 }
 
+/// How many columns get a mark: all, where that is little beside the entries of two stores, which a product
+/// goes along anyhow, else none.
+pub(crate) fn marks_for(cols: u64, one: &Store, other: &Store) -> usize {
+    let entries = one.nvals().saturating_add(other.nvals());
+    if cols / 8 <= entries { cols as usize } else { 0 }
+}
+
 /// Where a column stands among slots; by a binary search.
 fn search(slots: &[u64], col: u64) -> Option<usize>
     requires { AllPairs (λ p q. p < q) slots.now }

@@ -10,6 +10,7 @@ ghost use Rattle.spgemm.specs.Slots.{lets_by};
 use crate::empty::empty_block;
 use crate::masked_row::{Room, multiply_row_under};
 use crate::multiply::multiply_rows;
+use crate::slots::marks_for;
 use algebra::{Semiring, with_semiring};
 use masks::MaskView;
 use model::NoMemory;
@@ -71,21 +72,11 @@ fn multiply_under(
     prove_eq!(a.cols(), b.rows());
     let (first, past) = (range.start, range.end);
     let mut lists = FiberLists::new(alloc);
-    let mut room = Room::new(alloc, marks_for(store, b))?;
+    let mut room = Room::new(alloc, marks_for(b.cols(), store, b))?;
     let mut rest = a.rows_in(range);
     while let Some((row, others)) = rest.split_first() {
         multiply_row_under(&mut lists, &mut room, row, b, store, mask, semiring)?;
         rest = others;
     }
     Ok(RowBlock::of_rows(first, past, b.cols(), lists))
-}
-
-/// How many columns of B get a mark: all, where that is little beside the entries, else none.
-fn marks_for(store: &Store, b: &Store) -> usize {
-    let entries = store.nvals().saturating_add(b.nvals());
-    if b.cols() / 8 <= entries {
-        b.cols() as usize
-    } else {
-        0
-    }
 }

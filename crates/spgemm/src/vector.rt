@@ -6,11 +6,14 @@ ghost use Rattle.model.specs.Object.{turned_content};
 ghost use Rattle.model.specs.Product.{product};
 ghost use Rattle.store.specs.Stored.{block_content, content_of};
 ghost use Rattle.spgemm.specs.Vectors.{IsVectorBlock};
+ghost use Rattle.spgemm.specs.Products.{everywhere};
+ghost use Rattle.spgemm.specs.Slots.{lets_by};
 
 use crate::column::column_in;
-use crate::expand::expand;
-use crate::keep::keep_in_column;
-use crate::row::close_sums;
+use crate::empty::empty_block;
+use crate::masked_row::Room;
+use crate::slots::marks_for;
+use crate::vector_row::{multiply_part, multiply_part_under};
 use algebra::{Semiring, with_semiring};
 use masks::MaskView;
 use model::NoMemory;
@@ -46,19 +49,25 @@ pub fn multiply_vector(
         (content_of a.now)) i j
         else None)) }
 {
-    with_semiring!(
-        semiring,
-        |own| multiply_vector_by(alloc, u, a, mask, own, range)
-    )
+    match mask.store {
+        Some(store) => with_semiring!(
+            semiring,
+            |own| multiply_vector_under(alloc, u, a, store, mask, own, range)
+        ),
+        None if mask.complement => Ok(empty_block(alloc, range, 1)),
+        None => with_semiring!(
+            semiring,
+            |own| multiply_vector_by(alloc, u, a, own, range)
+        ),
+    }
 }
 
-/// What `multiply_vector` gives, by one semiring of its arms.
+/// What `multiply_vector` gives without a mask, by one semiring of its arms.
 #[inline(always)]
 fn multiply_vector_by(
     alloc: Global,
     u: &Store,
     a: &Store,
-    mask: MaskView<'_>,
     semiring: Semiring,
     range: Range<u64>,
 ) -> Result<RowBlock, NoMemory>
@@ -66,7 +75,7 @@ fn multiply_vector_by(
     requires inner { u.now.rows ≡ a.now.rows }
     requires range { range.start ≤ range.end }
     requires rows { range.end ≤ a.now.cols }
-    ensures { IfOk result (IsVectorBlock semiring (lets_through mask.entry) range.start range.end u.now a.now) }
+    ensures { IfOk result (IsVectorBlock semiring everywhere range.start range.end u.now a.now) }
 {
     prove_eq!(u.rows(), a.rows());
     let (cols, words) = column_in(u, 0..u.rows());
@@ -77,8 +86,38 @@ fn multiply_vector_by(
     };
     let mut lists = FiberLists::new(alloc);
     let mut terms = Vec::new(alloc);
-    expand(&mut terms, row, a, semiring.multiply)?;
-    keep_in_column(&mut terms, mask, range.start, range.end);
-    close_sums(&mut lists, &mut terms, 0, semiring.add.op)?;
+    multiply_part(&mut lists, &mut terms, row, a, semiring, &range)?;
+    Ok(RowBlock::of_fibers(range.start, range.end, 1, lists))
+}
+
+/// What `multiply_vector` gives under a mask with a store, by one semiring of its arms.
+#[inline(always)]
+fn multiply_vector_under(
+    alloc: Global,
+    u: &Store,
+    a: &Store,
+    store: &Store,
+    mask: MaskView<'_>,
+    semiring: Semiring,
+    range: Range<u64>,
+) -> Result<RowBlock, NoMemory>
+    requires vector { u.now.cols ≡ 1 }
+    requires inner { u.now.rows ≡ a.now.rows }
+    requires range { range.start ≤ range.end }
+    requires rows { range.end ≤ a.now.cols }
+    requires store { store.now.cols ≡ 1 }
+    ensures { IfOk result
+        (IsVectorBlock semiring (lets_by mask.entry store.now) range.start range.end u.now a.now) }
+{
+    prove_eq!(u.rows(), a.rows());
+    let (cols, words) = column_in(u, 0..u.rows());
+    let row = Row {
+        index: 0,
+        cols,
+        words,
+    };
+    let mut lists = FiberLists::new(alloc);
+    let mut room = Room::new(alloc, marks_for(a.cols(), store, u))?;
+    multiply_part_under(&mut lists, &mut room, row, a, store, mask, semiring, &range)?;
     Ok(RowBlock::of_fibers(range.start, range.end, 1, lists))
 }
