@@ -45,9 +45,9 @@ unmark_past slots marks n at is outside here = record {
   places = λ col some.
       let was = here.places col some in
       let later : at + 1 ≢ get_or marks col 0 = λ e.
-          let col_is : col ≡ n = sym was.1 ∙ ap (λ m. get_or slots (m - 1) 0) (sym e) ∙ (let back : at + 1 - 1 ≡ at = omega arith in ap (λ m. get_or slots m 0) back) ∙ sym is in
-          let none : get_or marks col 0 ≡ 0 = ap (λ c. get_or marks c 0) col_is ∙ get_or_past marks n 0 outside in
-          absurd (omega arith) in
+      let col_is : col ≡ n = sym was.1 ∙ ap (λ m. get_or slots (m - 1) 0) (sym e) ∙ (let back : at + 1 - 1 ≡ at = omega arith in ap (λ m. get_or slots m 0) back) ∙ sym is in
+      let none : get_or marks col 0 ≡ 0 = ap (λ c. get_or marks c 0) col_is ∙ get_or_past marks n 0 outside in
+      absurd (omega arith) in
       ((omega (arith, was.0.0), was.0.1), was.1);
 }
 

@@ -239,11 +239,11 @@ found_rise f (s ∷ slots) h =
       | Some w ↦ all_pairs_cons (λ s t. s.col < t.col) (term_at s w) (found_sums f slots) (found_above f s slots (all_pairs_head (λ p q. p < q) s slots h)) rest
     ]
 
-abbrev at_term : Term → ℕ
+abbrev pub at_term : Term → ℕ
 at_term t = t.col
 
 -- a column that is kept, and has words, is one of the terms that are kept
-has_words : (keeps : ℕ → Bool) (col word : ℕ) (words : List ℕ) (terms : List Term) → keeps col ≡ true → words_at col terms ≡ word ∷ words → Contains (map at_term (kept_terms keeps terms)) col
+pub has_words : (keeps : ℕ → Bool) (col word : ℕ) (words : List ℕ) (terms : List Term) → keeps col ≡ true → words_at col terms ≡ word ∷ words → Contains (map at_term (kept_terms keeps terms)) col
 has_words keeps col word words [] kept some = absurd cc
 has_words keeps col word words (t ∷ terms) kept some =
     elim (cases_eq t.col col) [
@@ -257,7 +257,7 @@ has_words keeps col word words (t ∷ terms) kept some =
           ]
     ]
 
-words_of_sum : (op : BinaryOp) (col word : ℕ) (terms : List Term) (words : List ℕ) → words ≡ words_at col terms → sum_at op col terms ≡ Some word → (rest : List ℕ) × (words_at col terms ≡ get_or words 0 0 ∷ rest)
+pub words_of_sum : (op : BinaryOp) (col word : ℕ) (terms : List Term) (words : List ℕ) → words ≡ words_at col terms → sum_at op col terms ≡ Some word → (rest : List ℕ) × (words_at col terms ≡ get_or words 0 0 ∷ rest)
 words_of_sum op col word terms [] is some = let none : sum_at op col terms ≡ None = rw (← is) refl in absurd cc
 words_of_sum op col word terms (w ∷ ws) is some = (ws, sym is)
 

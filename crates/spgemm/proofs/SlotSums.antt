@@ -18,7 +18,7 @@ reduce_more : (f : ℕ → ℕ → ℕ) (xs : List ℕ) (y : ℕ) (o : Option �
 reduce_more f xs y None h = ap (λ xs. reduce f (xs ++ y ∷ [])) (reduce-none f xs h)
 reduce_more f xs y (Some s) h = reduce-push f xs s y h
 
-sum_here : (op : BinaryOp) (col : ℕ) (terms : List Term) (t : Term) → t.col ≡ col → sum_at op col (terms ++ t ∷ []) ≡ Some (option_map_or (λ s. apply op s t.word) (sum_at op col terms) t.word)
+pub sum_here : (op : BinaryOp) (col : ℕ) (terms : List Term) (t : Term) → t.col ≡ col → sum_at op col (terms ++ t ∷ []) ≡ Some (option_map_or (λ s. apply op s t.word) (sum_at op col terms) t.word)
 sum_here op col terms t here =
     ap (reduce (apply op)) (words_at-append col terms (t ∷ []) ∙ ap (λ ws. words_at col terms ++ ws) (words_at-here col t here))
     ∙ reduce_more (apply op) (words_at col terms) t.word (sum_at op col terms) refl

@@ -5,6 +5,7 @@ ghost use Rattle.model.specs.Product.{product};
 ghost use Rattle.store.specs.Stored.{block_content, content_of};
 ghost use Rattle.spgemm.specs.Products.{IsProductBlock, everywhere};
 
+use crate::column_product::multiply_by_vector;
 use crate::row::multiply_row;
 use algebra::{Semiring, with_semiring};
 use model::NoMemory;
@@ -34,6 +35,9 @@ pub fn multiply_rows(
         ≡ product (ring_named semiring) a.now.cols (content_of a.now) (content_of b.now) i j) }
 {
     // All that runs below the arms is inlined, so that its loops are compiled for each.
+    if b.cols() == 1 {
+        return with_semiring!(semiring, |own| multiply_by_vector(alloc, a, b, own, range));
+    }
     with_semiring!(semiring, |own| multiply_by(alloc, a, b, own, range))
 }
 

@@ -8,7 +8,7 @@ ghost use Rattle.spgemm.specs.Terms.{apply, terms_of_row, times_row};
 ghost use Rattle.spgemm.specs.declared.term.Term.{Term};
 
 use crate::slots::Slots;
-use crate::sums::push_sum;
+use crate::sums::{push_sum, sum_with};
 use crate::term::Term;
 use algebra::{BinaryOp, Semiring};
 use model::NoMemory;
@@ -31,10 +31,7 @@ fn add_at(sums: &mut [Option<u64>], at: usize, word: u64, add: BinaryOp)
     ensures { sums.new ≡ set sums.old at
         (Some (option_map_or (λ sum. apply add sum word) (slice_index_or sums.old at None) word)) }
 {
-    sums[at] = Some(match sums[at] {
-        None => word,
-        Some(sum) => add.eval(sum, word),
-    });
+    sums[at] = sum_with(sums[at], word, add);
 }
 
 /// Adds a word times each entry of a row to the sum at the slot of its column, where there is one.
@@ -57,7 +54,12 @@ fn add_products(
 {
     for k in 0..cols.len() {
         if let Some(at) = slots.find(cols[k]) {
-            add_at(sums, at, semiring.multiply.eval(word, words[k]), semiring.add.op);
+            add_at(
+                sums,
+                at,
+                semiring.multiply.eval(word, words[k]),
+                semiring.add.op,
+            );
         }
     }
 }
@@ -65,7 +67,13 @@ fn add_products(
 /// Makes `sums` those of the products of a row of A with B, each entry times the row of B that its column
 /// names, at the slots of their columns. Products at other columns are dropped at once.
 #[inline(always)]
-pub(crate) fn add_row(sums: &mut [Option<u64>], slots: &Slots, row: Row<'_>, b: &Store, semiring: Semiring)
+pub(crate) fn add_row(
+    sums: &mut [Option<u64>],
+    slots: &Slots,
+    row: Row<'_>,
+    b: &Store,
+    semiring: Semiring,
+)
     requires lengths { length row.words.now ≡ length row.cols.now }
     requires rising { AllPairs (λ p q. p < q) slots.now.cols.items }
     requires marks { AreMarks slots.now.cols.items slots.now.marks.items }
@@ -82,7 +90,11 @@ pub(crate) fn add_row(sums: &mut [Option<u64>], slots: &Slots, row: Row<'_>, b: 
 
 /// Puts the sums that there are behind the inner indices and words, each at its slot.
 #[inline(always)]
-pub(crate) fn put_sums(lists: &mut FiberLists, slots: &[u64], sums: &[Option<u64>]) -> Result<(), NoMemory>
+pub(crate) fn put_sums(
+    lists: &mut FiberLists,
+    slots: &[u64],
+    sums: &[Option<u64>],
+) -> Result<(), NoMemory>
     requires { length sums.now ≡ length slots.now }
     ensures ends { OnOk result (lists.new.ends ≡ lists.old.ends) }
     ensures inner { OnOk result (lists.new.inner.items

@@ -7,6 +7,7 @@ ghost use Rattle.store.specs.Stored.{block_content, content_of};
 ghost use Rattle.spgemm.specs.Products.{IsProductBlock};
 ghost use Rattle.spgemm.specs.Slots.{lets_by};
 
+use crate::column_product::multiply_by_vector_under;
 use crate::empty::empty_block;
 use crate::masked_row::{Room, multiply_row_under};
 use crate::multiply::multiply_rows;
@@ -42,6 +43,10 @@ pub fn multiply_rows_under(
         else None)) }
 {
     match mask.store {
+        Some(store) if b.cols() == 1 => with_semiring!(
+            semiring,
+            |own| multiply_by_vector_under(alloc, a, b, store, mask, own, range)
+        ),
         Some(store) => with_semiring!(
             semiring,
             |own| multiply_under(alloc, a, b, store, mask, own, range)

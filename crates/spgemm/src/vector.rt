@@ -55,10 +55,7 @@ pub fn multiply_vector(
             |own| multiply_vector_under(alloc, u, a, store, mask, own, range)
         ),
         None if mask.complement => Ok(empty_block(alloc, range, 1)),
-        None => with_semiring!(
-            semiring,
-            |own| multiply_vector_by(alloc, u, a, own, range)
-        ),
+        None => with_semiring!(semiring, |own| multiply_vector_by(alloc, u, a, own, range)),
     }
 }
 
