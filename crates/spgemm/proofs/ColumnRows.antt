@@ -1,16 +1,16 @@
 -- The rows of a product with a vector, one after another, as one fiber.
-use Rattle.std.proofs.Common.{Err, IfOk, Ok, Result, ◌≡◌, ◌≢◌, ℕ, zero, suc, ◌+◌, ◌-◌, ◌<◌, ◌≤◌, true, false, cond, ◌&&◌, not, eqb, leb, ltb, Bool, List, [], ◌∷◌, ◌++◌, length, get_or, map, Option, Some, None, Vec, refl, sym, ◌∙◌, ap, subst, append_assoc, add-one, inl, inr, arith}
-use Rattle.std.specs.Option.{option_map, option_map_or, option_to_list}
+use Rattle.std.proofs.Common.{Err, IfOk, Ok, Result, ◌≡◌, ◌≢◌, ℕ, ◌<◌, ◌≤◌, true, false, cond, ◌&&◌, not, leb, ltb, Bool, List, [], ◌∷◌, ◌++◌, length, get_or, map, Option, Some, None, Vec, refl, sym, ◌∙◌, ap, subst, inl, inr, arith}
+use Rattle.std.specs.Option.{option_map, option_to_list}
 use Rattle.std.specs.List.{All, AllPairs, Contains, reduce}
-use Rattle.std.proofs.lemmas.Bool.{cases_Bool, cases_eq, eq-eqb, ne_eqb}
+use Rattle.std.proofs.lemmas.Bool.{cases_eq, eq-eqb, ne_eqb}
 use Rattle.std.proofs.lemmas.Bool.Decides.{nat_tests}
 use Rattle.std.proofs.lemmas.List.{append-nil, length-append}
-use Rattle.std.proofs.lemmas.List.Elements.{All-nil, All-cons, All-head, All-tail, All-append, All-weaker, All-map, All-push}
+use Rattle.std.proofs.lemmas.List.Elements.{All-nil, All-cons, All-head, All-tail, All-weaker, All-push}
 use Rattle.std.proofs.lemmas.List.Quantifiers.{all_pairs_push}
 use Rattle.algebra.specs.declared.binary.BinaryOp.{BinaryOp}
 use Rattle.algebra.specs.declared.semiring.Semiring.{Semiring}
 use Rattle.model.specs.declared.entry.Entry.{Entry}
-use Rattle.model.specs.Entries.{count_from, entries_between, entry_at, row_entries, word_at}
+use Rattle.model.specs.Entries.{entries_between, entry_at, word_at}
 use Rattle.model.specs.Object.{Content}
 use Rattle.store.specs.declared.lists.FiberLists.{FiberLists}
 use Rattle.store.specs.Fibers.{entries_along}
@@ -20,11 +20,7 @@ use Rattle.store.specs.Fibers.{AreFlat, entries_from, outers}
 use Rattle.store.specs.Stored.{AreIn, Block, turned}
 use Rattle.store.specs.declared.lists.FiberEnd.{FiberEnd}
 use Rattle.store.proofs.CloseLaws.{close_fiber, closed}
-use Rattle.store.proofs.FlatLaws.{all_cols, all_rows, flat_none}
-use Rattle.store.proofs.Order.{all_append_left, all_append_right}
-use Rattle.store.proofs.Places.{length_row}
-use Rattle.store.proofs.RowEntries.{entries_between-inside}
-use Rattle.store.proofs.Contents.{turned_twice, word_at-turned}
+use Rattle.store.proofs.FlatLaws.{all_rows, flat_none}
 use Rattle.store.proofs.Contents.{turned_along}
 use Rattle.spgemm.specs.declared.term.Term.{Term}
 use Rattle.spgemm.specs.Products.{IsSumRow, rows_product}

@@ -1,7 +1,7 @@
 -- The columns that a mask has as slots, and the row of the sums at them.
 use Rattle.std.proofs.Common.{◌≡◌, ◌≢◌, ℕ, zero, suc, ◌+◌, ◌-◌, ◌<◌, ◌≤◌, true, false, cond, ◌&&◌, ◌||◌, not, eqb, leb, ltb, Bool, List, [], ◌∷◌, ◌++◌, length, get_or, map, Option, Some, None, Result, Ok, Err, OnOk, Vec, refl, sym, ◌∙◌, ap, subst, add-one, inl, inr, arith}
 use Rattle.std.specs.Option.{is_some, option_map, option_to_list}
-use Rattle.std.specs.List.{All, AllPairs, Contains, cons_option, filter, filter_map, list_any}
+use Rattle.std.specs.List.{All, AllPairs, Contains, cons_option, filter, filter_map}
 use Rattle.std.proofs.lemmas.Bool.{cases_Bool, cases_eq, eq-eqb, ne_eqb}
 use Rattle.std.proofs.lemmas.Bool.Decides.{nat_tests}
 use Rattle.std.proofs.lemmas.List.{length-map}

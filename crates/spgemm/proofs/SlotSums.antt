@@ -1,10 +1,10 @@
 -- Sums at slots, one term after another.
-use Rattle.std.proofs.Common.{◌≡◌, ◌≢◌, ℕ, ◌+◌, ◌<◌, ◌≤◌, true, false, ltb, List, [], ◌∷◌, ◌++◌, length, get_or, replicate, set, take, map, Option, Some, None, refl, sym, ◌∙◌, ap, subst, append_assoc, inl, inr, arith}
+use Rattle.std.proofs.Common.{◌≡◌, ◌≢◌, ℕ, ◌+◌, ◌<◌, ltb, List, [], ◌∷◌, ◌++◌, length, get_or, replicate, set, take, Option, Some, None, refl, sym, ◌∙◌, ap, subst, append_assoc, inl, inr, arith}
 use Rattle.std.specs.Option.{option_map, option_map_or, option_to_list}
-use Rattle.std.specs.List.{All, AllPairs, cons_option, reduce}
+use Rattle.std.specs.List.{All, AllPairs, reduce}
 use Rattle.std.proofs.lemmas.Bool.{cases_Bool, cases_eq}
 use Rattle.std.proofs.lemmas.Bool.Decides.{nat_tests}
-use Rattle.std.proofs.lemmas.List.{append-nil, get_or-replicate, get_or-set_other, get_or-set_same, get_or_default, length-set, length-replicate, length-take-le, take_more}
+use Rattle.std.proofs.lemmas.List.{append-nil, get_or-replicate, get_or-set_other, get_or-set_same, length-set, length-replicate, length-take-le, take_more}
 use Rattle.algebra.specs.declared.binary.BinaryOp.{BinaryOp}
 use Rattle.model.specs.declared.entry.Entry.{Entry}
 use Rattle.spgemm.specs.declared.term.Term.{Term}
