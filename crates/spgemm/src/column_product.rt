@@ -1,5 +1,5 @@
 //! The product of a store and a vector, on a range of rows.
-ghost use Rattle.std.specs.Prelude.{◌≡◌, ◌<◌, ◌≤◌, ◌++◌, ℕ, if◌then◌else◌, length, slice_index, None, Some, IfOk, OnOk};
+ghost use Rattle.std.specs.Prelude.{◌≡◌, ◌<◌, ◌≤◌, ◌++◌, [], ℕ, if◌then◌else◌, length, slice_index, None, Some, IfOk, OnOk};
 ghost use Rattle.std.specs.List.{AllPairs};
 ghost use Rattle.std.specs.Option.{option_map, option_to_list};
 ghost use Rattle.store.specs.Fibers.{entries_along};
@@ -73,6 +73,18 @@ fn put_sum(lists: &mut FiberLists, row: u64, sum: Option<u64>) -> Result<(), NoM
     Ok(())
 }
 
+/// Lists without a fiber, with room for so many entries.
+fn lists_for(alloc: Global, count: usize) -> Result<FiberLists, NoMemory>
+    ensures ends { IfOk result (λ lists. lists.ends.items ≡ []) }
+    ensures inner { IfOk result (λ lists. lists.inner.items ≡ []) }
+    ensures words { IfOk result (λ lists. lists.words.items ≡ []) }
+{
+    let mut lists = FiberLists::new(alloc);
+    lists.inner.reserve(count)?;
+    lists.words.reserve(count)?;
+    Ok(lists)
+}
+
 /// The rows in `range` of the product of `a` and a vector that are let through: the slots, or the others.
 /// Each is one sum along the row of `a`; no terms are kept and none sorted.
 #[inline(always)]
@@ -97,7 +109,8 @@ fn multiply_column(
     prove_eq!(a.cols(), u.rows());
     let (first, past) = (range.start, range.end);
     let known = full_words(u);
-    let mut lists = FiberLists::new(alloc);
+    // Room for the most rows that there can be.
+    let mut lists = lists_for(alloc, (past - first).min(a.nvals()) as usize)?;
     let mut rest = a.rows_in(range);
     while let Some((row, others)) = rest.split_first() {
         let sum = let_sum(slots, complement, row, u, known, semiring);

@@ -7,7 +7,7 @@ use Rattle.spgemm.proofs.column_product.multiply_column.Goals as goal
 
 pub loop-row-init : goal.loop-row-init
 loop-row-init c =
-    rw c.rows_in-rest.ensures.entries (column_none c.args.semiring (lets_slot c.args.complement c.args.slots.now.cols.items) c.args.range.start c.args.range.end c.args.a.now c.args.u.now c.new-lists.result c.new-lists.ensures.ends c.new-lists.ensures.inner c.new-lists.ensures.words)
+    rw c.rows_in-rest.ensures.entries (column_none c.args.semiring (lets_slot c.args.complement c.args.slots.now.cols.items) c.args.range.start c.args.range.end c.args.a.now c.args.u.now c.in_ok-lists.lists c.in_ok-lists.ensures.ends c.in_ok-lists.ensures.inner c.in_ok-lists.ensures.words)
 
 pub loop-row-smaller : goal.loop-row-smaller
 loop-row-smaller c =
