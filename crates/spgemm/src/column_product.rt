@@ -1,6 +1,6 @@
 //! The product of a store and a vector, on a range of rows.
-ghost use Rattle.std.specs.Prelude.{◌≡◌, ◌<◌, ◌≤◌, ◌++◌, [], ℕ, if◌then◌else◌, length, slice_index, None, Some, IfOk, OnOk};
-ghost use Rattle.std.specs.List.{AllPairs};
+ghost use Rattle.std.specs.Prelude.{◌≡◌, ◌<◌, ◌≤◌, ◌++◌, [], ℕ, if◌then◌else◌, length, slice_index, true, None, Some, IfOk, OnOk};
+ghost use Rattle.std.specs.List.{All, AllPairs};
 ghost use Rattle.std.specs.Option.{option_map, option_to_list};
 ghost use Rattle.store.specs.Fibers.{entries_along};
 ghost use Rattle.store.specs.Stored.{content_of};
@@ -9,7 +9,7 @@ ghost use Rattle.spgemm.specs.Columns.{IsColumnBlock, lets_slot};
 ghost use Rattle.spgemm.specs.Products.{IsProductBlock, everywhere};
 ghost use Rattle.spgemm.specs.Slots.{AreMarks, lets_by};
 
-use crate::dot::{full_words, sum_row};
+use crate::dot::{full_words, is_full, sum_known, sum_row};
 use crate::slots::{Slots, marks_for};
 use algebra::Semiring;
 use masks::MaskView;
@@ -39,11 +39,13 @@ fn let_sum(
     row: Row<'_>,
     u: &Store,
     known: &[u64],
+    is_full: bool,
     semiring: Semiring,
 ) -> Option<u64>
     requires lengths { length row.words.now ≡ length row.cols.now }
     requires column { u.now.cols ≡ 1 }
     requires known { (k : ℕ) → k < length known.now → content_of u.now k 0 ≡ Some (slice_index known.now k) }
+    requires full { is_full ≡ true → All (λ col. col < length known.now) row.cols.now }
     requires rising { AllPairs (λ p q. p < q) slots.now.cols.items }
     requires marks { AreMarks slots.now.cols.items slots.now.marks.items }
     ensures { result ≡ (if lets_slot complement slots.now.cols.items row.entry.index
@@ -51,10 +53,13 @@ fn let_sum(
         (entries_along row.entry.index row.entry.cols.now row.entry.words.now) u.now)
         else None) }
 {
-    if lets_slot(slots, complement, row.index) {
-        sum_row(row, u, known, semiring)
+    if !lets_slot(slots, complement, row.index) {
+        return None;
+    }
+    if is_full {
+        sum_known(row, known, semiring)
     } else {
-        None
+        sum_row(row, u, known, semiring)
     }
 }
 
@@ -109,11 +114,12 @@ fn multiply_column(
     prove_eq!(a.cols(), u.rows());
     let (first, past) = (range.start, range.end);
     let known = full_words(u);
+    let is_full = is_full(u, known);
     // Room for the most rows that there can be.
     let mut lists = lists_for(alloc, (past - first).min(a.nvals()) as usize)?;
     let mut rest = a.rows_in(range);
     while let Some((row, others)) = rest.split_first() {
-        let sum = let_sum(slots, complement, row, u, known, semiring);
+        let sum = let_sum(slots, complement, row, u, known, is_full, semiring);
         put_sum(&mut lists, row.index, sum)?;
         rest = others;
     }
