@@ -4,7 +4,7 @@ use Rattle.std.specs.Option.{is_some, option_map, option_to_list}
 use Rattle.std.specs.List.{All, AllPairs, Contains, cons_option, filter, filter_map}
 use Rattle.std.proofs.lemmas.Bool.{cases_Bool, cases_eq, eq-eqb, ne_eqb}
 use Rattle.std.proofs.lemmas.Bool.Decides.{nat_tests}
-use Rattle.std.proofs.lemmas.List.{length-map}
+use Rattle.std.proofs.lemmas.List.{append-nil, length-map}
 use Rattle.std.proofs.lemmas.List.Elements.{All-nil, All-cons, All-head, All-tail, All-weaker, All-map, Contains-append_right, filter_agree}
 use Rattle.std.proofs.lemmas.List.Folds.{list_any_none}
 use Rattle.algebra.specs.declared.binary.BinaryOp.{BinaryOp}
@@ -305,6 +305,14 @@ slots_closed (Ok u) op index slots terms sums old mid new here same put_inner pu
       words = words ∙ put_words;
       ends = ends ∙ ap (λ es. closed es index (length mid.inner.items)) (ap (λ (v : Vec FiberEnd _). v.items) same) ∙ ap (λ is. closed old.ends.items index (length is)) (sym inner);
     }
+
+-- without slots the row has no sums
+pub no_slots_closed : (r : Result (Unit {0}) NoMemory) (op : BinaryOp) (index : ℕ) (slots : List ℕ) (terms : List Term) (old new : FiberLists) → length slots ≡ 0
+    → OnOk r (new.ends.items ≡ closed old.ends.items index (length old.inner.items)) → new.inner.items ≡ old.inner.items → new.words.items ≡ old.words.items
+    → OnOk r ((keeps : ℕ → Bool) → AreSlots keeps slots → HasRow op index (kept_terms keeps terms) old new)
+no_slots_closed r op index [] terms old new none ends inner words =
+    slots_closed r op index [] terms [] old old new (record { lengths = refl; sums_are = λ at within. absurd (omega arith) }) refl (sym (append-nil old.inner.items)) (sym (append-nil old.words.items)) ends inner words
+no_slots_closed r op index (s ∷ slots) terms old new none ends inner words = absurd (omega arith)
 
 pub rows_outside : (r : Result (Unit {0}) NoMemory) (op : BinaryOp) (index : ℕ) (slots : List ℕ) (terms left : List Term) (old new : FiberLists) → left ≡ kept_terms (λ col. not (is_slot slots col)) terms → OnOk r (HasRow op index left old new)
     → OnOk r ((keeps : ℕ → Bool) → AreSlots keeps slots → HasRow op index (kept_terms (λ col. not (keeps col)) terms) old new)
