@@ -13,3 +13,4 @@ pub mod RangeLaws
 pub mod RowEntries
 pub mod StoreLaws
 pub mod Walks
+pub mod Windows

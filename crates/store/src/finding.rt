@@ -1,6 +1,6 @@
 //! Entries and fibers found in lists.
-ghost use Rattle.std.specs.Prelude.{◌≡◌, ◌<◌, ◌≤◌, ◌+◌, ◌∷◌, length, take, drop, slice_index, slice_range, None, Some};
-ghost use Rattle.std.specs.Prelude.{IfOk, IfErr, IfSome, MatchOption};
+ghost use Rattle.std.specs.Prelude.{◌≡◌, ℕ, ◌<◌, ◌≤◌, ◌+◌, ◌∷◌, length, take, drop, slice_index, slice_range, None, Some};
+ghost use Rattle.std.specs.Prelude.{IfOk, IfErr, IfSome, MatchOption, slice_index_or};
 ghost use Rattle.std.specs.List.{All};
 ghost use Rattle.std.specs.List.Sorted.{IsSearchInRange};
 ghost use Rattle.std.specs.Option.{option_map, option_to_list};
@@ -45,8 +45,42 @@ pub(crate) fn fiber_at(ends: &[FiberEnd], outer: u64) -> Spot
     }
 }
 
-/// How many fibers are before an outer index.
+/// How many fibers are before an outer index; by a binary search among as many fibers as outer indices
+/// below the last one have none.
 pub(crate) fn first_from(ends: &[FiberEnd], outer: u64) -> usize
+    requires { AreApart ends.now }
+    ensures bound { result ≤ length ends.now }
+    ensures before { All (λ r. r.outer < outer) (take result ends.now) }
+    ensures behind { All (λ r. outer ≤ r.outer) (drop result ends.now) }
+{
+    let (low, high) = window(ends, outer);
+    low + count_before(&ends[low..high], outer)
+}
+
+/// Fibers among which the first one from an outer index is, or would be. As outer indices rise, none is
+/// below its place, and none is above it by more than the number of indices that are passed over.
+#[inline(always)]
+fn window(ends: &[FiberEnd], outer: u64) -> (usize, usize)
+    requires { AreApart ends.now }
+    ensures low { result.0 ≤ result.1 }
+    ensures high { result.1 ≤ length ends.now }
+    ensures before { (k : ℕ) (d : FiberEnd) → k < result.0 → (slice_index_or ends.now k d).outer < outer }
+    ensures behind { (k : ℕ) (d : FiberEnd) → result.1 ≤ k → k < length ends.now
+        → outer ≤ (slice_index_or ends.now k d).outer }
+{
+    if ends.is_empty() {
+        return (0, 0);
+    }
+    let last = ends.len() - 1;
+    let passed_over = ends[last].outer - last as u64;
+    let high = outer.min(ends.len() as u64);
+    let low = high.min(outer.saturating_sub(passed_over));
+    (low as usize, high as usize)
+}
+
+/// How many fibers of a part are before an outer index.
+#[inline(always)]
+fn count_before(ends: &[FiberEnd], outer: u64) -> usize
     requires { AreApart ends.now }
     ensures bound { result ≤ length ends.now }
     ensures before { All (λ r. r.outer < outer) (take result ends.now) }
