@@ -1,6 +1,6 @@
 //! Entries and fibers found in lists.
-ghost use Rattle.std.specs.Prelude.{◌≡◌, ℕ, ◌<◌, ◌≤◌, ◌+◌, ◌∷◌, length, take, drop, slice_index, slice_range, None, Some};
-ghost use Rattle.std.specs.Prelude.{IfOk, IfErr, IfSome, MatchOption, slice_index_or};
+ghost use Rattle.std.specs.Prelude.{◌≡◌, ℕ, ◌<◌, ◌≤◌, ◌+◌, ◌∷◌, length, take, drop, None, Some};
+ghost use Rattle.std.specs.Prelude.{slice_index, slice_index_or, slice_range, IfOk, IfErr, IfSome, MatchOption};
 ghost use Rattle.std.specs.List.{All};
 ghost use Rattle.std.specs.List.Sorted.{IsSearchInRange};
 ghost use Rattle.std.specs.Option.{option_map, option_to_list};

@@ -1,7 +1,7 @@
 //! Stores: what an object holds.
 ghost use Rattle.std.specs.Prelude.{◌≡◌, ℕ, ◌<◌, ◌≤◌, None, length, OnOk, OnErr, IfOk};
 ghost use Rattle.model.specs.Entries.{InOrder, IsInside, entries_between, entries_of, row_entries, word_at};
-ghost use Rattle.model.specs.Object.{cast_content, with_entry, IsWithin};
+ghost use Rattle.model.specs.Object.{cast_content, with_entry, without_entry, IsWithin};
 
 use crate::edits::{put, take_out};
 use crate::finding::{fiber, find, row_of_column};
@@ -36,7 +36,6 @@ impl Model for Store {
 }
 
 impl Store {
-    ghost use Rattle.store.specs.Entries.{without_entry};
     ghost use Rattle.store.specs.Fibers.{entries_along};
     ghost use Rattle.store.specs.Stored.{along, block_content, content_of};
 
