@@ -1,17 +1,8 @@
 -- Blocks of rows of products.
-use Rattle.std.specs.Prelude.{ℕ, ◌≡◌, ◌<◌, ◌≤◌, if◌then◌else◌, None, IfSome}
-use Rattle.kernel.specs.Factors.{cols_of_product, inner_of, rows_of_product}
-use Rattle.algebra.specs.declared.operator_names.RingName.{RingName}
+use Rattle.std.specs.Prelude.{ℕ, ◌≡◌, ◌<◌, ◌≤◌, IfSome}
 use Rattle.masks.specs.declared.view.MaskView.{MaskView}
-use Rattle.masks.specs.Masks.{lets_through}
-use Rattle.model.specs.declared.call.Form.{Form}
 use Rattle.model.specs.Object.{Content}
-use Rattle.model.specs.Operations.{multiplied}
-use Rattle.store.specs.Stored.{Block, Stored, block_content, content_of}
-
--- what a map has at the positions that a mask lets through
-abbrev pub masked : MaskView → Content → Content
-masked mask c = λ i j. if lets_through mask i j then c i j else None
+use Rattle.store.specs.Stored.{Block, block_content}
 
 -- the mask's store, where there is one, has so many rows and columns
 abbrev pub HasShape : ℕ → ℕ → MaskView → Type 0

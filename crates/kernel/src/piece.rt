@@ -2,8 +2,9 @@
 ghost use Rattle.std.specs.Prelude.{◌≡◌, ℕ, ◌<◌, ◌≤◌, IfOk};
 ghost use Rattle.calls.specs.Recipes.{meaning};
 ghost use Rattle.calls.specs.Roles.{role_of};
-ghost use Rattle.kernel.specs.Blocks.{HasRows, HasShape, masked};
+ghost use Rattle.kernel.specs.Blocks.{HasRows, HasShape};
 ghost use Rattle.kernel.specs.Evaluated.{AreInputs, computed, object_in, output_of};
+ghost use Rattle.masks.specs.Writes.{inside_of};
 ghost use Rattle.model.specs.Object.{IsWithin, cols_of, rows_of};
 ghost use Rattle.store.specs.Stored.{block_content, content_of};
 
@@ -41,7 +42,7 @@ fn computed_rows(
     requires rows { range.end ≤ rows_of (output_of recipe.now).shape }
     requires mask { HasShape (rows_of (output_of recipe.now).shape) (cols_of (output_of recipe.now).shape) mask }
     ensures { IfOk result (HasRows range.start range.end (cols_of (output_of recipe.now).shape)
-        (masked mask.entry (computed recipe.now (object_in recipe.now (λ role. (role_of stores.now role).now))))) }
+        (inside_of mask.entry (computed recipe.now (object_in recipe.now (λ role. (role_of stores.now role).now))))) }
 {
     let to = recipe.signatures.of(recipe.out.c).domain;
     let factors = Factors {

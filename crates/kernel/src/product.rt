@@ -2,8 +2,9 @@
 ghost use Rattle.std.specs.Prelude.{◌≡◌, ℕ, ◌≤◌, IfOk, Some};
 ghost use Rattle.algebra.specs.OperatorNames.{ring_named};
 ghost use Rattle.algebra.specs.Value.{IsWordOf};
-ghost use Rattle.kernel.specs.Blocks.{HasRows, HasShape, masked};
+ghost use Rattle.kernel.specs.Blocks.{HasRows, HasShape};
 ghost use Rattle.kernel.specs.Factors.{AreFactors, cols_of_product, inner_of, rows_of_product};
+ghost use Rattle.masks.specs.Writes.{inside_of};
 ghost use Rattle.model.specs.Object.{AreWordsOf, cast_content};
 ghost use Rattle.model.specs.Operations.{multiplied};
 ghost use Rattle.model.specs.Product.{sum_domain};
@@ -53,7 +54,7 @@ pub(crate) fn product_rows(
     ensures { let product = factors.entry in
         let ring = ring_named product.ring in
         IfOk result (HasRows range.start range.end (cols_of_product product.form product.b.store.now)
-        (masked mask.entry (cast_content (sum_domain ring) to (multiplied product.form ring
+        (inside_of mask.entry (cast_content (sum_domain ring) to (multiplied product.form ring
         (inner_of product.form product.a.store.now)
         (cast_content product.a.domain ring.domain (content_of product.a.store.now))
         (cast_content product.b.domain ring.domain (content_of product.b.store.now)))))) }
@@ -81,7 +82,7 @@ fn multiplied_rows(
     requires range { range.start ≤ range.end }
     requires rows { range.end ≤ rows_of_product form a.now b.now }
     requires mask { HasShape (rows_of_product form a.now b.now) (cols_of_product form b.now) mask }
-    ensures { IfOk result (HasRows range.start range.end (cols_of_product form b.now) (masked mask.entry
+    ensures { IfOk result (HasRows range.start range.end (cols_of_product form b.now) (inside_of mask.entry
         (multiplied form (ring_named ring) (inner_of form a.now) (content_of a.now) (content_of b.now)))) }
 {
     match form {
