@@ -91,14 +91,11 @@ impl PlainEnvironment {
     fn get_fault(&self, name: &str, place: Place) -> Option<Status>
         ensures { result ≡ fault_in self.now (Call.Get name.now place) }
     {
-        let Some(object) = self.find(name) else {
-            return Some(Status::UninitializedObject);
-        };
-        if !place.is_of_kind(object.shape) {
-            Some(Status::WrongKind)
-        } else if !place.is_inside(object.shape) {
-            Some(Status::InvalidIndex)
-        } else if object.word(place.row(), place.col()).is_none() {
+        if let Some(status) = self.place_fault(name, place) {
+            return Some(status);
+        }
+        let object = self.find(name)?;
+        if object.word(place.row(), place.col()).is_none() {
             Some(Status::NoValue)
         } else {
             None

@@ -5,7 +5,8 @@ ghost use Rattle.model.specs.Renamed.{inputs_of, outputs_of, renamed, renamed_op
 ghost use Rattle.calls.specs.Checks.{IsMissing};
 
 use crate::names::Names;
-use model::{Call, Operation, Out};
+use algebra::Domain;
+use model::{Call, Operation, Out, Shape};
 use session::Obj;
 
 impl Names {
@@ -28,11 +29,7 @@ impl Names {
                 name,
                 domain,
                 shape,
-            } => Call::Create {
-                name,
-                domain,
-                shape,
-            },
+            } => created(name, domain, shape),
             Call::Free { object } => Call::Free {
                 object: self.number(object)?,
             },
@@ -62,11 +59,10 @@ impl Names {
             Call::Print { object } => Call::Print {
                 object: self.number(object)?,
             },
-            Call::Operate { out, operation } => {
-                let out = self.resolved_out(&out)?;
-                let operation = self.resolved_operation(&operation)?;
-                Call::Operate { out, operation }
-            }
+            Call::Operate { out, operation } => Call::Operate {
+                out: self.resolved_out(&out)?,
+                operation: self.resolved_operation(&operation)?,
+            },
         };
         Some(resolved)
     }
@@ -99,5 +95,16 @@ impl Names {
                 Some(Operation::Multiply { form, ring, a, b })
             }
         }
+    }
+}
+
+/// A creation, which names no object that is there.
+const fn created<N>(name: N, domain: Domain, shape: Shape) -> Call<Obj, N>
+    ensures { result ≡ Call.Create name domain shape }
+{
+    Call::Create {
+        name,
+        domain,
+        shape,
     }
 }
