@@ -1,12 +1,12 @@
 -- Index operators as formulas on whole numbers, brought into the answer's domain: of a value a, its
 -- row i and column j, and a scalar s (`GrB_IndexUnaryOp` of GraphBLAS C API 2.0).
-use Rattle.std.specs.Prelude.{ℕ, ℤ, pos, ◌+ℤ◌, ◌-ℤ◌, not, int_lt, int_le, Bool, true}
+use Rattle.std.specs.Prelude.{ℕ, ℤ, pos, ◌+ℤ◌, ◌-ℤ◌, ◌==◌, if◌then◌else◌, not, int_lt, int_le, Bool, true, false}
 use Rattle.algebra.specs.declared.domain.Domain.{Domain}
 use Rattle.algebra.specs.declared.domain.Domain.TheVariants as domains
 use Rattle.algebra.specs.declared.kinds.IndexKind.{IndexKind}
 use Rattle.algebra.specs.declared.kinds.IndexKind.TheVariants as index
 use Rattle.algebra.specs.Operators.{truth, int_equal}
-use Rattle.algebra.specs.Value.{value_of, word_of, is_built_in, is_integer}
+use Rattle.algebra.specs.Value.{are_compatible, cast_of, value_of, word_of, is_built_in, is_integer}
 
 -- what each operator gives, before it is brought into the answer's domain
 abbrev pub index_formula : IndexKind → ℤ → ℤ → ℤ → ℤ → ℤ
@@ -51,6 +51,24 @@ abbrev pub index_eval_of : IndexKind → Domain → ℕ → ℕ → ℕ → ℕ 
 index_eval_of kind d a i j s =
     word_of (index_answer_domain kind) (index_formula kind (value_of d a) (pos i) (pos j)
     (value_of (scalar_domain kind d) s))
+
+-- whether an operator looks at positions alone, and not at the value
+abbrev pub is_by_position : IndexKind → Bool
+is_by_position index.ValueEq = false
+is_by_position index.ValueNe = false
+is_by_position index.ValueLt = false
+is_by_position index.ValueLe = false
+is_by_position index.ValueGt = false
+is_by_position index.ValueGe = false
+is_by_position _ = true
+
+-- whether an operator on a domain takes values of another: one by position takes any
+abbrev pub takes_index : IndexKind → Domain → Domain → Bool
+takes_index kind d from = if is_by_position kind then true else are_compatible from d
+
+-- whether an operator's answer, cast to BOOL, is true (GrB_select keeps such an entry)
+abbrev pub passes : IndexKind → Domain → ℕ → ℕ → ℕ → ℕ → Bool
+passes kind d a i j s = cast_of (index_answer_domain kind) domains.Bool (index_eval_of kind d a i j s) == 1
 
 -- the domains on which an operator is there: one by position doesn't look at the value
 abbrev pub offers_index : IndexKind → Domain → Bool

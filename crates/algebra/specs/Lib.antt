@@ -1,3 +1,4 @@
+pub mod Functions
 pub mod IndexOperators
 pub mod Monoids
 pub mod Names

@@ -70,6 +70,17 @@ impl Domain {
         }
     }
 
+    /// The word of a whole number that is brought into the domain: in BOOL whether it isn't 0, else
+    /// modulo 2^64.
+    pub const fn wrapped(self, value: i128) -> u64
+        ensures { result ≡ word_of self value }
+    {
+        match self {
+            Domain::Bool => (value != 0) as u64,
+            Domain::Int64 | Domain::Uint64 | Domain::User(_) => value.rem_euclid(1 << 64) as u64,
+        }
+    }
+
     /// Whether both domains are the same.
     pub const fn is_same(self, other: Domain) -> bool
         ensures { result ≡ same_domain self other }

@@ -1,7 +1,8 @@
 //! Index operators (`GrB_IndexUnaryOp`).
 ghost use Rattle.std.specs.Prelude.{◌≡◌, ◌↔◌, ◌+ℤ◌, pos, IsTrue, IsSome, IfSome, true};
 ghost use Rattle.std.specs.Int.{cast_signed, w64};
-ghost use Rattle.algebra.specs.IndexOperators.{index_answer_domain, index_eval_of, offers_index, scalar_domain};
+ghost use Rattle.algebra.specs.IndexOperators.{index_answer_domain, index_eval_of, is_by_position, offers_index};
+ghost use Rattle.algebra.specs.IndexOperators.{passes, scalar_domain};
 
 use crate::{Domain, IndexKind};
 
@@ -16,6 +17,38 @@ impl IndexKind {
                 domain.is_integer()
             }
             _ => true,
+        }
+    }
+
+    /// Whether an operator of this kind looks at positions alone, and not at the value.
+    pub const fn is_by_position(self) -> bool
+        ensures { result ≡ is_by_position self }
+    {
+        !matches!(
+            self,
+            IndexKind::ValueEq
+                | IndexKind::ValueNe
+                | IndexKind::ValueLt
+                | IndexKind::ValueLe
+                | IndexKind::ValueGt
+                | IndexKind::ValueGe
+        )
+    }
+
+    /// The domain of the scalar on a domain: INT64 for an operator by position, else that of the values.
+    pub const fn scalar(self, domain: Domain) -> Domain
+        ensures { result ≡ scalar_domain self domain }
+    {
+        if self.is_by_position() { Domain::Int64 } else { domain }
+    }
+
+    /// The domain of the answer: INT64 for ROWINDEX, COLINDEX and DIAGINDEX, else BOOL.
+    pub const fn answer(self) -> Domain
+        ensures { result ≡ index_answer_domain self }
+    {
+        match self {
+            IndexKind::RowIndex | IndexKind::ColIndex | IndexKind::DiagIndex => Domain::Int64,
+            _ => Domain::Bool,
         }
     }
 }
@@ -47,25 +80,33 @@ impl IndexOp {
     pub const fn scalar(self) -> Domain
         ensures { result ≡ scalar_domain self.kind self.domain }
     {
-        match self.kind {
-            IndexKind::ValueEq
-            | IndexKind::ValueNe
-            | IndexKind::ValueLt
-            | IndexKind::ValueLe
-            | IndexKind::ValueGt
-            | IndexKind::ValueGe => self.domain,
-            _ => Domain::Int64,
-        }
+        self.kind.scalar(self.domain)
     }
 
     /// The domain of the answer: INT64 for ROWINDEX, COLINDEX and DIAGINDEX, else BOOL.
     pub const fn answer(self) -> Domain
         ensures { result ≡ index_answer_domain self.kind }
     {
-        match self.kind {
-            IndexKind::RowIndex | IndexKind::ColIndex | IndexKind::DiagIndex => Domain::Int64,
-            _ => Domain::Bool,
-        }
+        self.kind.answer()
+    }
+
+    /// Whether the answer for a word of its domain at row `i` and column `j`, cast to BOOL, is true.
+    #[inline(always)]
+    pub const fn passes(self, a: u64, i: u64, j: u64, s: u64) -> bool
+        ensures { result ≡ passes self.kind self.domain a i j s }
+    {
+        self.eval(a, i, j, s) != 0
+    }
+
+    /// The operator of a kind that is known to be offered: where both are literals, the compiler sees
+    /// through it.
+    #[inline(always)]
+    pub fn of(kind: IndexKind, domain: Domain) -> IndexOp
+        requires { offers_index kind domain ≡ true }
+        ensures kind { result.kind ≡ kind }
+        ensures domain { result.domain ≡ domain }
+    {
+        IndexOp::new(kind, domain).unwrap()
     }
 
     /// What the operator gives for a word `a` of its domain at row `i` and column `j`, and a word `s`

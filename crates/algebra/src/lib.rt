@@ -5,6 +5,7 @@
 mod arms;
 mod binary;
 mod domain;
+mod functions;
 mod index;
 mod kinds;
 mod monoid;
@@ -15,6 +16,7 @@ mod unary;
 
 pub use binary::BinaryOp;
 pub use domain::{Domain, cast, compatible};
+pub use functions::{Function, FunctionName};
 pub use index::IndexOp;
 pub use kinds::{BinaryKind, IndexKind, MonoidKind, UnaryKind};
 pub use monoid::Monoid;

@@ -1,13 +1,13 @@
 //! Operators and semirings by name, whether they are offered or not.
 ghost use Rattle.std.specs.Prelude.{◌≡◌, MatchOption, true, false};
-ghost use Rattle.algebra.specs.IndexOperators.{offers_index};
+ghost use Rattle.algebra.specs.IndexOperators.{index_answer_domain, offers_index, scalar_domain, takes_index};
 ghost use Rattle.algebra.specs.OperatorNames.{index_named, monoid_named, op_named, ring_named, unary_named};
 ghost use Rattle.algebra.specs.Operators.{answer_domain, combines_by, offers, offers_semiring};
 ghost use Rattle.algebra.specs.UnaryOperators.{offers_unary};
 
 use crate::{
     BinaryKind, BinaryOp, Domain, IndexKind, IndexOp, Monoid, MonoidKind, Semiring, UnaryKind,
-    UnaryOp,
+    UnaryOp, compatible,
 };
 
 /// A binary operator by its kind and the domain of its inputs. Not every such name is one of an
@@ -81,6 +81,27 @@ impl IndexName {
         ensures { result ≡ offers_index self.kind self.domain }
     {
         self.kind.is_on(self.domain)
+    }
+
+    /// The domain of the scalar: INT64 for an operator by position, else that of the values.
+    pub const fn scalar(self) -> Domain
+        ensures { result ≡ scalar_domain self.kind self.domain }
+    {
+        self.kind.scalar(self.domain)
+    }
+
+    /// The domain of the answer: INT64 for ROWINDEX, COLINDEX and DIAGINDEX, else BOOL.
+    pub const fn answer(self) -> Domain
+        ensures { result ≡ index_answer_domain self.kind }
+    {
+        self.kind.answer()
+    }
+
+    /// Whether it takes values of a domain, cast to its own; an operator by position takes any.
+    pub const fn takes(self, from: Domain) -> bool
+        ensures { result ≡ takes_index self.kind self.domain from }
+    {
+        self.kind.is_by_position() || compatible(from, self.domain)
     }
 
     /// The operator of the name; None where there is none.
