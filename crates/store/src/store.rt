@@ -2,6 +2,7 @@
 ghost use Rattle.std.specs.Prelude.{◌≡◌, ℕ, ◌<◌, ◌≤◌, None, length, OnOk, OnErr, IfOk};
 ghost use Rattle.model.specs.Entries.{InOrder, IsInside, entries_between, entries_of, row_entries, word_at};
 ghost use Rattle.model.specs.Object.{cast_content, with_entry, without_entry, IsWithin};
+ghost use Rattle.model.specs.Reductions.{all_words};
 
 use crate::edits::{put, take_out};
 use crate::finding::{fiber, find, row_of_column};
@@ -106,6 +107,13 @@ impl Store {
         ensures { result ≡ length (entries_of self.now.rows self.now.cols (content_of self.now)) }
     {
         self.lists.inner.len() as u64
+    }
+
+    /// All words, row by row.
+    pub fn words(&self) -> &[u64]
+        ensures { result.now ≡ all_words self.now.rows self.now.cols (content_of self.now) }
+    {
+        &self.lists.words
     }
 
     /// The word at row `i` and column `j`, where there is one. Its time grows with the logarithm of
