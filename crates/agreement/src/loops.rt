@@ -1,6 +1,6 @@
 //! Loops over words of `lanes`.
 use algebra::{BinaryKind, BinaryOp, Domain, Monoid, MonoidKind, UnaryKind, UnaryOp};
-use lanes::{cast_words, fold_words, map_words, unite_words, zip_words};
+use lanes::{bind_first, bind_second, cast_words, fold_words, map_words, unite_words, zip_words};
 use std::test::Fail;
 
 const MINUS_ONE: u64 = 18446744073709551615;
@@ -50,18 +50,38 @@ fn unites_by_the_side_of_each_word(rt: HostRuntime) -> Result<(), Fail> {
 
 #[test]
 fn maps_words(rt: HostRuntime) -> Result<(), Fail> {
-    let a = [0, 1, MINUS_ONE];
     for (kind, domain, wanted) in [
         (UnaryKind::Ainv, Domain::Int64, [0, MINUS_ONE, 1]),
         (UnaryKind::Abs, Domain::Int64, [0, 1, 1]),
         (UnaryKind::Lnot, Domain::Bool, [1, 0, 0]),
         (UnaryKind::Identity, Domain::Bool, [0, 1, 1]),
-        (UnaryKind::Identity, Domain::Uint64, a),
+        (UnaryKind::Identity, Domain::Uint64, [0, 1, MINUS_ONE]),
     ] {
         let op = UnaryOp::new(kind, domain).ok_or("offered")?;
-        let mut out = [9; 3];
-        map_words(op, &a, &mut out);
-        assert_eq!(rt; out, wanted, "{kind:?} {domain:?}");
+        let mut words = [0, 1, MINUS_ONE];
+        map_words(op, &mut words);
+        assert_eq!(rt; words, wanted, "{kind:?} {domain:?}");
+    }
+    Ok(())
+}
+
+#[test]
+fn binds_an_operand(rt: HostRuntime) -> Result<(), Fail> {
+    for (kind, domain, of_first, of_second) in [
+        (BinaryKind::Minus, Domain::Int64, [7, 6, 8], [MINUS_ONE - 6, MINUS_ONE - 5, MINUS_ONE - 7]),
+        (BinaryKind::Gt, Domain::Int64, [1, 1, 1], [0, 0, 0]),
+        (BinaryKind::Gt, Domain::Uint64, [1, 1, 0], [0, 0, 1]),
+        (BinaryKind::First, Domain::Int64, [7, 7, 7], [0, 1, MINUS_ONE]),
+        (BinaryKind::Second, Domain::Int64, [0, 1, MINUS_ONE], [7, 7, 7]),
+        (BinaryKind::First, Domain::Bool, [1, 1, 1], [0, 1, 1]),
+    ] {
+        let op = BinaryOp::new(kind, domain).ok_or("offered")?;
+        let mut words = [0, 1, MINUS_ONE];
+        bind_first(op, 7, &mut words);
+        assert_eq!(rt; words, of_first, "{kind:?} {domain:?}");
+        let mut words = [0, 1, MINUS_ONE];
+        bind_second(op, &mut words, 7);
+        assert_eq!(rt; words, of_second, "{kind:?} {domain:?}");
     }
     Ok(())
 }
@@ -131,7 +151,7 @@ fn takes_empty_lists(rt: HostRuntime) -> Result<(), Fail> {
     let mut none = [0; 0];
     zip_words(plus, &[], &[], &mut none);
     unite_words(plus, &[], &[], &[], &mut none);
-    map_words(not, &[], &mut none);
+    map_words(not, &mut none);
     cast_words(Domain::Int64, Domain::Bool, &mut none);
     assert_eq!(rt; none, []);
     Ok(())

@@ -4,11 +4,13 @@
 
 mod arms;
 mod binary;
+mod bound;
 mod casts;
 mod monoid;
 mod unary;
 
 pub use binary::{unite_words, zip_words};
+pub use bound::{bind_first, bind_second};
 pub use casts::cast_words;
 pub use monoid::fold_words;
 pub use unary::map_words;
