@@ -150,18 +150,14 @@ impl<'a> Fibers<'a> {
         ensures flat { IfOk result (λ lists. AreFlat lists.ends.items lists.inner.items lists.words.items) }
         ensures entries { IfOk result (λ lists. entries_in lists ≡ self.now.entries) }
     {
-        if self.inner.is_empty() {
-            return Ok(FiberLists::new(alloc));
-        }
-        let ends = ends_from(alloc, self.head, self.others, self.from)?;
-        let inner = Vec::from_slice(alloc, self.inner)?;
+        let (ends, inner) = self.copy_places(alloc)?;
         let words = Vec::from_slice(alloc, self.words)?;
         Ok(FiberLists { ends, inner, words })
     }
 }
 
 /// Where fibers end in lists that begin with the first of them, at the place `from`.
-fn ends_from(
+pub(crate) fn ends_from(
     alloc: Global,
     head: FiberEnd,
     others: &[FiberEnd],
