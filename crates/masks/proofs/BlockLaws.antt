@@ -1,24 +1,15 @@
 -- Joins, and what a mask keeps, of entries by rows and columns.
-use Rattle.std.proofs.Common.{◌≡◌, ℕ, Bool, true, false, ◌&&◌, cond, eqb, List, [], ◌∷◌, length, Option, Some, None, refl, sym, ◌∙◌, inl, inr, arith}
+use Rattle.std.proofs.Common.{◌≡◌, ℕ, Bool, true, false, ◌&&◌, cond, eqb, List, [], ◌∷◌, length, Option, None, refl, sym, ◌∙◌, inl, inr, arith, ap, ◌<◌, ◌≤◌}
 use Rattle.std.proofs.lemmas.Bool.{cases_Bool}
 use Rattle.std.proofs.lemmas.Bool.Decides.{nat_tests}
 use Rattle.std.proofs.lemmas.List.Elements.{All-filter}
 use Rattle.model.specs.declared.entry.Entry.{Entry}
-use Rattle.model.specs.Entries.{word_at}
+use Rattle.model.specs.Entries.{entry_at, word_at}
 use Rattle.store.specs.Stored.{AreIn, along}
-use Rattle.store.proofs.Contents.{as_column, by_rows, word_at-turned}
+use Rattle.store.proofs.Contents.{as_column, by_rows, length_along, word_at-turned}
+use Rattle.store.proofs.PartLaws.{LiesIn, are_in, lies_in}
 use Rattle.masks.specs.declared.view.MaskView.{MaskView}
-use Rattle.masks.specs.Joins.{joined}
 use Rattle.masks.specs.Keeps.{kept_by, lets_word}
-use Rattle.masks.proofs.Joins.{LiesIn, are_in, lies_in}
-
-pub join_along : (f : ℕ → ℕ → ℕ) (cols : ℕ) (a b es : List Entry) → ((i j : ℕ) → word_at es i j ≡ joined f (word_at a i j) (word_at b i j))
-    → (i j : ℕ) → word_at (along cols es) i j ≡ joined f (word_at (along cols a) i j) (word_at (along cols b) i j)
-join_along f cols a b es words i j =
-    elim (cases_Bool (eqb cols 1)) [
-      | inl one ↦ rw (as_column cols es one, as_column cols a one, as_column cols b one) (word_at-turned es i j ∙ words j i ∙ rw (word_at-turned a i j, word_at-turned b i j) refl)
-      | inr many ↦ rw (by_rows cols es many, by_rows cols a many, by_rows cols b many) (words i j)
-    ]
 
 same_at : (i j row col : ℕ) → (eqb i row && eqb j col) ≡ true → (i ≡ row) × (j ≡ col)
 same_at i j row col at = (grind (arith, nat_tests), grind (arith, nat_tests))
@@ -59,12 +50,23 @@ kept_in mask first past cols stored es inside =
     are_in first past cols (kept_by mask stored es)
     (All-filter (λ e. lets_word mask (word_at stored e.row e.col)) (λ (e : Entry). LiesIn (eqb cols 1) first past cols e.row e.col) es (lies_in first past cols es inside))
 
--- a side without an entry
-pub joined_left : (f : ℕ → ℕ → ℕ) (left : Option ℕ) → left ≡ joined f left None
-joined_left f None = refl
-joined_left f (Some word) = refl
-
 pub no_word : (es : List Entry) (i j : ℕ) → length es ≡ 0 → word_at es i j ≡ None
 unfolding word_at
 no_word [] i j none = refl
 no_word (e ∷ es) i j none = absurd (omega arith)
+
+-- fibers without an entry have no word, and a block of such fibers none either
+pub no_fibers_word : (cols : ℕ) (es : List Entry) (i j : ℕ) (word : Option ℕ) → length es ≡ 0 → word_at (along cols es) i j ≡ word → word ≡ None
+no_fibers_word cols es i j word none is = sym is ∙ no_word (along cols es) i j (length_along cols es ∙ none)
+
+pub empty_fibers : (cols : ℕ) (es all : List Entry) → length es ≡ 0 → along cols es ≡ all → length all ≡ 0
+empty_fibers cols es all none is = sym (ap length is) ∙ length_along cols es ∙ none
+
+-- where there is an entry there is a row
+pub some_between : (first past cols : ℕ) (es all : List Entry) → 0 < length es → along cols es ≡ all → AreIn first past cols all → first ≤ past
+some_between first past cols es all some is inside =
+    let size : length all ≡ length es = sym (ap length is) ∙ length_along cols es in
+    let at = inside 0 (entry_at 0 0 0) (omega arith) in
+    let low = at.0.0 in
+    let high = at.0.1 in
+    omega arith

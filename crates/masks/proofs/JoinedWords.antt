@@ -3,37 +3,42 @@ use Rattle.std.proofs.Common.{◌≡◌, ℕ, ◌+◌, ◌<◌, true, false, ◌
 use Rattle.std.specs.List.{All, filter_map, zip}
 use Rattle.std.proofs.lemmas.Bool.{cases_Bool, cases_eq}
 use Rattle.std.proofs.lemmas.Slice.Zip.{get_or-zip, length-zip}
-use Rattle.lanes.specs.Lists.{zip_with}
+use Rattle.algebra.specs.declared.domain.Domain.{Domain}
+use Rattle.algebra.specs.declared.kinds.BinaryKind.{BinaryKind}
+use Rattle.algebra.specs.Operators.{answer_domain, eval_of}
+use Rattle.algebra.specs.Value.{cast_of}
+use Rattle.lanes.specs.Lists.{united, united_word, zip_with}
 use Rattle.std.proofs.lemmas.Bool.Decides.{nat_tests}
 use Rattle.std.proofs.lemmas.List.{ext_get_or, get_or-map, get_or-set_other, get_or-set_same, length-map}
 use Rattle.std.proofs.lemmas.List.Elements.{All-nil, All-cons, All-head, All-tail, All-map}
 use Rattle.model.specs.declared.entry.Entry.{Entry}
 use Rattle.model.specs.Entries.{InOrder, Precedes, entry_at, word_at}
+use Rattle.model.specs.ElementWise.{of_either}
 use Rattle.store.specs.Fibers.{placed}
 use Rattle.store.proofs.Order.{all_pairs_nil, all_pairs_cons, all_pairs_head, all_pairs_tail}
 use Rattle.masks.specs.Merges.{Place, position, left_entry, right_entry, Stand, IsMerge}
-use Rattle.masks.specs.Joins.{AreJoined, joined, joined_word}
+use Rattle.masks.specs.Joins.{AreJoined, joined_word}
 
-abbrev pub value : (ℕ → ℕ → ℕ) → Place → ℕ
-value f p = joined_word f p.side p.left p.right
+abbrev pub value : (ℕ → ℕ) → (ℕ → ℕ → ℕ) → Place → ℕ
+value alone f p = joined_word alone f p.side p.left p.right
 
-abbrev pub entry_of : (ℕ → ℕ → ℕ) → Place → Entry
-entry_of f p = entry_at p.row p.col (value f p)
+abbrev pub entry_of : (ℕ → ℕ) → (ℕ → ℕ → ℕ) → Place → Entry
+entry_of alone f p = entry_at p.row p.col (value alone f p)
 
-pub placed_places : (f : ℕ → ℕ → ℕ) (ps : List Place) → placed (map (λ p. p.row) ps) (map (λ p. p.col) ps) (map (value f) ps) ≡ map (entry_of f) ps
-placed_places f [] = refl
-placed_places f (p ∷ ps) = ap (λ es. entry_of f p ∷ es) (placed_places f ps)
+pub placed_places : (alone : ℕ → ℕ) (f : ℕ → ℕ → ℕ) (ps : List Place) → placed (map (λ p. p.row) ps) (map (λ p. p.col) ps) (map (value alone f) ps) ≡ map (entry_of alone f) ps
+placed_places alone f [] = refl
+placed_places alone f (p ∷ ps) = ap (λ es. entry_of alone f p ∷ es) (placed_places alone f ps)
 
 -- words that are right in each place
-pub words_are : (f : ℕ → ℕ → ℕ) (ps : List Place) (sides lefts rights words : List ℕ) → sides ≡ map (λ p. p.side) ps → lefts ≡ map (λ p. p.left) ps → rights ≡ map (λ p. p.right) ps → length words ≡ length ps
-    → ((k : ℕ) → k < length words → get_or words k 0 ≡ joined_word f (get_or sides k 0) (get_or lefts k 0) (get_or rights k 0)) → words ≡ map (value f) ps
-words_are f ps sides lefts rights words s l r same each =
+pub words_are : (alone : ℕ → ℕ) (f : ℕ → ℕ → ℕ) (ps : List Place) (sides lefts rights words : List ℕ) → sides ≡ map (λ p. p.side) ps → lefts ≡ map (λ p. p.left) ps → rights ≡ map (λ p. p.right) ps → length words ≡ length ps
+    → ((k : ℕ) → k < length words → get_or words k 0 ≡ joined_word alone f (get_or sides k 0) (get_or lefts k 0) (get_or rights k 0)) → words ≡ map (value alone f) ps
+words_are alone f ps sides lefts rights words s l r same each =
     let p0 : Place = record { row = 0; col = 0; left = 0; right = 0; side = 0 } in
-    ext_get_or 0 words (map (value f) ps) (same ∙ sym (length-map ps (value f)))
+    ext_get_or 0 words (map (value alone f) ps) (same ∙ sym (length-map ps (value alone f)))
     (λ i within.
     let inside : i < length ps = omega arith in
     each i within
-    ∙ rw (s, l, r, get_or-map (λ (p : Place). p.side) ps i p0 0 inside, get_or-map (λ (p : Place). p.left) ps i p0 0 inside, get_or-map (λ (p : Place). p.right) ps i p0 0 inside) (sym (get_or-map (value f) ps i p0 0 inside)))
+    ∙ rw (s, l, r, get_or-map (λ (p : Place). p.side) ps i p0 0 inside, get_or-map (λ (p : Place). p.left) ps i p0 0 inside, get_or-map (λ (p : Place). p.right) ps i p0 0 inside) (sym (get_or-map (value alone f) ps i p0 0 inside)))
 
 -- ---- one side of the places
 
@@ -66,12 +71,12 @@ pub not_both : (n : ℕ) → eqb n 2 ≡ true → eqb n 1 ≡ false
 not_both n h = grind (arith, nat_tests)
 
 -- the words of the places are the join of the two sides'
-pub joined_words : (f : ℕ → ℕ → ℕ) (ps : List Place) (i j : ℕ) → Stand ps → word_at (map (entry_of f) ps) i j ≡ joined f (word_at (filter_map left_entry ps) i j) (word_at (filter_map right_entry ps) i j)
+pub joined_words : (alone : ℕ → ℕ) (f : ℕ → ℕ → ℕ) (ps : List Place) (i j : ℕ) → Stand ps → word_at (map (entry_of alone f) ps) i j ≡ of_either alone alone f (word_at (filter_map left_entry ps) i j) (word_at (filter_map right_entry ps) i j)
 unfolding word_at
-joined_words f [] i j order = refl
-joined_words f (p ∷ ps) i j order =
+joined_words alone f [] i j order = refl
+joined_words alone f (p ∷ ps) i j order =
     let later = all_pairs_head (λ p q. Precedes (position p) (position q)) p ps order in
-    let rest = joined_words f ps i j (all_pairs_tail (λ p q. Precedes (position p) (position q)) p ps order) in
+    let rest = joined_words alone f ps i j (all_pairs_tail (λ p q. Precedes (position p) (position q)) p ps order) in
     elim (cases_Bool (eqb i p.row && eqb j p.col)) [
       | inl at ↦
           let no_left : word_at (filter_map left_entry ps) i j ≡ None = none_later 2 (λ p. p.left) i j p ps later at in
@@ -87,30 +92,30 @@ joined_words f (p ∷ ps) i j order =
     ]
 
 -- what holds of each position on both sides holds of each place
-pub all_places : (f : ℕ → ℕ → ℕ) (P : ℕ → ℕ → Type 0) (ps : List Place) → All (λ e. P e.row e.col) (filter_map left_entry ps) → All (λ e. P e.row e.col) (filter_map right_entry ps) → All (λ e. P e.row e.col) (map (entry_of f) ps)
-all_places f P [] h g = All-nil (λ e. P e.row e.col)
-all_places f P (p ∷ ps) h g =
+pub all_places : (alone : ℕ → ℕ) (f : ℕ → ℕ → ℕ) (P : ℕ → ℕ → Type 0) (ps : List Place) → All (λ e. P e.row e.col) (filter_map left_entry ps) → All (λ e. P e.row e.col) (filter_map right_entry ps) → All (λ e. P e.row e.col) (map (entry_of alone f) ps)
+all_places alone f P [] h g = All-nil (λ e. P e.row e.col)
+all_places alone f P (p ∷ ps) h g =
     let Q : Entry → Type 0 = λ e. P e.row e.col in
     elim (cases_Bool (eqb p.side 2)) [
       | inl two ↦
           let left : All Q (filter_map left_entry ps) = rw two at h in
           let right : All Q (entry_at p.row p.col p.right ∷ filter_map right_entry ps) = rw (not_both p.side two) at g in
-          All-cons Q (entry_of f p) (map (entry_of f) ps) (All-head Q (entry_at p.row p.col p.right) (filter_map right_entry ps) right) (all_places f P ps left (All-tail Q (entry_at p.row p.col p.right) (filter_map right_entry ps) right))
+          All-cons Q (entry_of alone f p) (map (entry_of alone f) ps) (All-head Q (entry_at p.row p.col p.right) (filter_map right_entry ps) right) (all_places alone f P ps left (All-tail Q (entry_at p.row p.col p.right) (filter_map right_entry ps) right))
       | inr other ↦
           let left : All Q (entry_at p.row p.col p.left ∷ filter_map left_entry ps) = rw other at h in
           let right : All Q (filter_map right_entry ps) = elim (cases_Bool (eqb p.side 1)) [
             | inl one ↦ rw one at g
             | inr both ↦ All-tail Q (entry_at p.row p.col p.right) (filter_map right_entry ps) (rw both at g)
           ] in
-          All-cons Q (entry_of f p) (map (entry_of f) ps) (All-head Q (entry_at p.row p.col p.left) (filter_map left_entry ps) left) (all_places f P ps (All-tail Q (entry_at p.row p.col p.left) (filter_map left_entry ps) left) right)
+          All-cons Q (entry_of alone f p) (map (entry_of alone f) ps) (All-head Q (entry_at p.row p.col p.left) (filter_map left_entry ps) left) (all_places alone f P ps (All-tail Q (entry_at p.row p.col p.left) (filter_map left_entry ps) left) right)
     ]
 
-pub places_in_order : (f : ℕ → ℕ → ℕ) (ps : List Place) → Stand ps → InOrder (map (entry_of f) ps)
-places_in_order f [] h = all_pairs_nil Precedes
-places_in_order f (p ∷ ps) h =
-    all_pairs_cons Precedes (entry_of f p) (map (entry_of f) ps)
-    (All-map (Precedes (entry_of f p)) (entry_of f) ps (all_pairs_head (λ p q. Precedes (position p) (position q)) p ps h))
-    (places_in_order f ps (all_pairs_tail (λ p q. Precedes (position p) (position q)) p ps h))
+pub places_in_order : (alone : ℕ → ℕ) (f : ℕ → ℕ → ℕ) (ps : List Place) → Stand ps → InOrder (map (entry_of alone f) ps)
+places_in_order alone f [] h = all_pairs_nil Precedes
+places_in_order alone f (p ∷ ps) h =
+    all_pairs_cons Precedes (entry_of alone f p) (map (entry_of alone f) ps)
+    (All-map (Precedes (entry_of alone f p)) (entry_of alone f) ps (all_pairs_head (λ p q. Precedes (position p) (position q)) p ps h))
+    (places_in_order alone f ps (all_pairs_tail (λ p q. Precedes (position p) (position q)) p ps h))
 
 -- ---- the lists of a merge, with the words of the join
 
@@ -124,28 +129,28 @@ lengths a b rows cols lefts rights sides m =
     let s : length sides ≡ n = ap length m.sides_are ∙ length-map m.places (λ (p : Place). p.side) in
     (c ∙ sym r, (l ∙ sym s, (g ∙ sym s, s ∙ sym r)))
 
-pub placed_is : (f : ℕ → ℕ → ℕ) (a b : List Entry) (rows cols lefts rights sides words : List ℕ) (m : IsMerge a b rows cols lefts rights sides) → AreJoined f sides lefts rights words → placed rows cols words ≡ map (entry_of f) m.places
-placed_is f a b rows cols lefts rights sides words m u =
+pub placed_is : (alone : ℕ → ℕ) (f : ℕ → ℕ → ℕ) (a b : List Entry) (rows cols lefts rights sides words : List ℕ) (m : IsMerge a b rows cols lefts rights sides) → AreJoined alone f sides lefts rights words → placed rows cols words ≡ map (entry_of alone f) m.places
+placed_is alone f a b rows cols lefts rights sides words m u =
     let long = u.long ∙ ap length m.sides_are ∙ length-map m.places (λ (p : Place). p.side) in
-    let is = words_are f m.places sides lefts rights words m.sides_are m.lefts_are m.rights_are long u.each in
+    let is = words_are alone f m.places sides lefts rights words m.sides_are m.lefts_are m.rights_are long u.each in
     let rows_are = m.rows_are in
     let cols_are = m.cols_are in
-    rw (rows_are, cols_are, is) (placed_places f m.places)
+    rw (rows_are, cols_are, is) (placed_places alone f m.places)
 
-pub placed_order : (f : ℕ → ℕ → ℕ) (a b : List Entry) (rows cols lefts rights sides words : List ℕ) (m : IsMerge a b rows cols lefts rights sides) → AreJoined f sides lefts rights words → InOrder (placed rows cols words)
-placed_order f a b rows cols lefts rights sides words m u = subst InOrder (sym (placed_is f a b rows cols lefts rights sides words m u)) (places_in_order f m.places m.order)
+pub placed_order : (alone : ℕ → ℕ) (f : ℕ → ℕ → ℕ) (a b : List Entry) (rows cols lefts rights sides words : List ℕ) (m : IsMerge a b rows cols lefts rights sides) → AreJoined alone f sides lefts rights words → InOrder (placed rows cols words)
+placed_order alone f a b rows cols lefts rights sides words m u = subst InOrder (sym (placed_is alone f a b rows cols lefts rights sides words m u)) (places_in_order alone f m.places m.order)
 
-pub placed_all : (f : ℕ → ℕ → ℕ) (P : ℕ → ℕ → Type 0) (a b : List Entry) (rows cols lefts rights sides words : List ℕ) (m : IsMerge a b rows cols lefts rights sides) → AreJoined f sides lefts rights words → All (λ e. P e.row e.col) a → All (λ e. P e.row e.col) b → All (λ e. P e.row e.col) (placed rows cols words)
-placed_all f P a b rows cols lefts rights sides words m u h g =
-    subst (All (λ e. P e.row e.col)) (sym (placed_is f a b rows cols lefts rights sides words m u))
-    (all_places f P m.places (subst (All (λ e. P e.row e.col)) (sym m.left) h) (subst (All (λ e. P e.row e.col)) (sym m.right) g))
+pub placed_all : (alone : ℕ → ℕ) (f : ℕ → ℕ → ℕ) (P : ℕ → ℕ → Type 0) (a b : List Entry) (rows cols lefts rights sides words : List ℕ) (m : IsMerge a b rows cols lefts rights sides) → AreJoined alone f sides lefts rights words → All (λ e. P e.row e.col) a → All (λ e. P e.row e.col) b → All (λ e. P e.row e.col) (placed rows cols words)
+placed_all alone f P a b rows cols lefts rights sides words m u h g =
+    subst (All (λ e. P e.row e.col)) (sym (placed_is alone f a b rows cols lefts rights sides words m u))
+    (all_places alone f P m.places (subst (All (λ e. P e.row e.col)) (sym m.left) h) (subst (All (λ e. P e.row e.col)) (sym m.right) g))
 
-pub placed_words : (f : ℕ → ℕ → ℕ) (a b : List Entry) (rows cols lefts rights sides words : List ℕ) (m : IsMerge a b rows cols lefts rights sides) → AreJoined f sides lefts rights words → (i j : ℕ) → word_at (placed rows cols words) i j ≡ joined f (word_at a i j) (word_at b i j)
-placed_words f a b rows cols lefts rights sides words m u i j =
-    ap (λ es. word_at es i j) (placed_is f a b rows cols lefts rights sides words m u)
-    ∙ joined_words f m.places i j m.order
-    ∙ ap (λ es. joined f (word_at es i j) (word_at (filter_map right_entry m.places) i j)) m.left
-    ∙ ap (λ es. joined f (word_at a i j) (word_at es i j)) m.right
+pub placed_words : (alone : ℕ → ℕ) (f : ℕ → ℕ → ℕ) (a b : List Entry) (rows cols lefts rights sides words : List ℕ) (m : IsMerge a b rows cols lefts rights sides) → AreJoined alone f sides lefts rights words → (i j : ℕ) → word_at (placed rows cols words) i j ≡ of_either alone alone f (word_at a i j) (word_at b i j)
+placed_words alone f a b rows cols lefts rights sides words m u i j =
+    ap (λ es. word_at es i j) (placed_is alone f a b rows cols lefts rights sides words m u)
+    ∙ joined_words alone f m.places i j m.order
+    ∙ ap (λ es. of_either alone alone f (word_at es i j) (word_at (filter_map right_entry m.places) i j)) m.left
+    ∙ ap (λ es. of_either alone alone f (word_at a i j) (word_at es i j)) m.right
 
 -- ---- words put in place
 
@@ -158,9 +163,39 @@ zipped f xs ys k within same =
 abbrev pub placed_word : List ℕ → List ℕ → List ℕ → List ℕ → ℕ → ℕ
 placed_word sides lefts rights words k = cond (eqb (get_or sides k 0) 1) (get_or lefts k 0) (cond (eqb (get_or sides k 0) 2) (get_or rights k 0) (get_or words k 0))
 
+pub united_at : (kind : BinaryKind) (d : Domain) (sides lefts rights : List ℕ) (k : ℕ) → k < length sides → length lefts ≡ length sides → length rights ≡ length sides
+    → get_or (united kind d sides lefts rights) k 0 ≡ joined_word (cast_of d (answer_domain kind d)) (eval_of kind d) (get_or sides k 0) (get_or lefts k 0) (get_or rights k 0)
+united_at kind d sides lefts rights k within l r =
+    let long = length-zip lefts rights in
+    let long' = length-zip sides (zip lefts rights) in
+    let at = get_or-zip sides (zip lefts rights) k (0, (0, 0)) within (omega arith) ∙ ap (λ (p : ℕ × ℕ). (get_or sides k 0, p)) (get_or-zip lefts rights k (0, 0) (omega arith) (omega arith)) in
+    get_or-map (λ (p : ℕ × (ℕ × ℕ)). united_word kind d p.0 p.1.0 p.1.1) (zip sides (zip lefts rights)) k (0, (0, 0)) 0 (omega arith)
+    ∙ ap (λ (p : ℕ × (ℕ × ℕ)). united_word kind d p.0 p.1.0 p.1.1) at
+
 pub words_done : (words : List ℕ) (k word : ℕ) (P : ℕ → ℕ) → k < length words → ((n : ℕ) → n < k → get_or words n 0 ≡ P n) → word ≡ P k → (n : ℕ) → n < k + 1 → get_or (set words k word) n 0 ≡ P n
 words_done words k word P room done is n below =
     elim (cases_eq n k) [
       | inl same ↦ rw same (get_or-set_same words k word 0 room ∙ is)
       | inr other ↦ get_or-set_other words k n word 0 other ∙ done n (omega arith)
     ]
+
+-- the words of both, and over them those of one side alone
+pub words_chosen : (f : ℕ → ℕ → ℕ) (sides lefts rights both words : List ℕ) → length sides ≡ length both → length words ≡ length both
+    → ((k : ℕ) → k < length both → get_or both k 0 ≡ f (get_or lefts k 0) (get_or rights k 0)) → ((k : ℕ) → k < length both → get_or words k 0 ≡ placed_word sides lefts rights both k) → AreJoined (λ word. word) f sides lefts rights words
+words_chosen f sides lefts rights both words long same made chosen = record {
+  long = omega arith;
+  each = λ k within.
+      let inside : k < length both = omega arith in
+      chosen k inside ∙ ap (λ word. cond (eqb (get_or sides k 0) 1) (get_or lefts k 0) (cond (eqb (get_or sides k 0) 2) (get_or rights k 0) word)) (made k inside);
+}
+
+-- the words of a union
+pub words_united : (kind : BinaryKind) (d : Domain) (sides lefts rights words : List ℕ) → length lefts ≡ length sides → length rights ≡ length sides → words ≡ united kind d sides lefts rights
+    → AreJoined (cast_of d (answer_domain kind d)) (eval_of kind d) sides lefts rights words
+words_united kind d sides lefts rights words l r is =
+    let all = zip sides (zip lefts rights) in
+    let long : length words ≡ length sides = ap length is ∙ length-map all (λ (p : ℕ × (ℕ × ℕ)). united_word kind d p.0 p.1.0 p.1.1) ∙ omega (arith, length-zip sides (zip lefts rights), length-zip lefts rights) in
+    record {
+      long = long;
+      each = λ k within. ap (λ ws. get_or ws k 0) is ∙ united_at kind d sides lefts rights k (omega arith) l r;
+    }

@@ -1,23 +1,28 @@
 -- The lists of a join are fibers.
-use Rattle.std.proofs.Common.{◌≡◌, ℕ, ◌<◌, ◌≤◌, Bool, true, false, eqb, List, length, take, map, sym, ◌∙◌, inl, inr, arith, length-take}
+use Rattle.std.proofs.Common.{◌≡◌, ℕ, ◌<◌, ◌≤◌, eqb, List, ◌++◌, length, get_or, take, drop, refl, sym, ◌∙◌, inl, inr, arith, length-take, Result, Ok, Err, OnOk}
 use Rattle.std.specs.List.{All}
+use Rattle.std.proofs.Math.Seq.{drop-append_seam, take-append_seam}
 use Rattle.std.proofs.lemmas.Bool.{cases_Bool}
-use Rattle.std.proofs.lemmas.List.Elements.{All-map}
 use Rattle.model.specs.declared.entry.Entry.{Entry}
-use Rattle.model.specs.Entries.{entry_at, word_at}
+use Rattle.model.specs.ElementWise.{of_either}
+use Rattle.model.specs.Entries.{Precedes, entry_at, word_at}
+use Rattle.model.specs.Object.{Content}
 use Rattle.store.specs.declared.lists.FiberEnd.{FiberEnd}
+use Rattle.store.specs.declared.lists.FiberLists.{FiberLists}
 use Rattle.store.specs.Fibers.{AreFlat, entries_from, outers}
+use Rattle.store.specs.Parts.{HasPart}
 use Rattle.store.specs.Stored.{AreIn, along}
-use Rattle.store.proofs.Contents.{as_column, by_rows}
-use Rattle.store.proofs.Order.{all_from_map}
-use Rattle.masks.specs.Joins.{AreJoined, joined}
+use Rattle.store.proofs.Contents.{as_column, by_rows, word_at-turned}
+use Rattle.store.proofs.PartLaws.{LiesIn, are_in, lies_in}
+use Rattle.masks.specs.declared.join.Joining.{Joining}
+use Rattle.masks.specs.Joins.{AreJoined, HasJoin, alone_of, both_of, joined}
 use Rattle.masks.specs.Merges.{AreMerged}
 use Rattle.masks.proofs.JoinedWords.{lengths, placed_all, placed_order, placed_words}
 
 -- the first places of a merge, so many, lie in lists of their own
-pub flat_join : (f : ℕ → ℕ → ℕ) (a b : List Entry) (count : ℕ) (ends : List FiberEnd) (inner lefts rights sides words : List ℕ) → AreMerged a b count ends inner lefts rights sides → count ≤ length inner
-    → AreJoined f (take count sides) (take count lefts) (take count rights) words → AreFlat ends (take count inner) words
-flat_join f a b count ends inner lefts rights sides words m room u =
+pub flat_join : (alone : ℕ → ℕ) (f : ℕ → ℕ → ℕ) (a b : List Entry) (count : ℕ) (ends : List FiberEnd) (inner lefts rights sides words : List ℕ) → AreMerged a b count ends inner lefts rights sides → count ≤ length inner
+    → AreJoined alone f (take count sides) (take count lefts) (take count rights) words → AreFlat ends (take count inner) words
+flat_join alone f a b count ends inner lefts rights sides words m room u =
     let i = take count inner in
     let long = lengths a b (outers 0 ends) i (take count lefts) (take count rights) (take count sides) m.merge in
     let cut = length-take count inner in
@@ -28,39 +33,52 @@ flat_join f a b count ends inner lefts rights sides words m room u =
       rises = m.rises;
       whole = omega arith;
       apart = m.apart;
-      order = placed_order f a b (outers 0 ends) i (take count lefts) (take count rights) (take count sides) words m.merge u;
+      order = placed_order alone f a b (outers 0 ends) i (take count lefts) (take count rights) (take count sides) words m.merge u;
     }
 
-pub words_join : (f : ℕ → ℕ → ℕ) (a b : List Entry) (count : ℕ) (ends : List FiberEnd) (inner lefts rights sides words : List ℕ) → AreMerged a b count ends inner lefts rights sides
-    → AreJoined f (take count sides) (take count lefts) (take count rights) words → (i j : ℕ) → word_at (entries_from 0 ends (take count inner) words) i j ≡ joined f (word_at a i j) (word_at b i j)
-words_join f a b count ends inner lefts rights sides words m u = placed_words f a b (outers 0 ends) (take count inner) (take count lefts) (take count rights) (take count sides) words m.merge u
+pub words_join : (alone : ℕ → ℕ) (f : ℕ → ℕ → ℕ) (a b : List Entry) (count : ℕ) (ends : List FiberEnd) (inner lefts rights sides words : List ℕ) → AreMerged a b count ends inner lefts rights sides
+    → AreJoined alone f (take count sides) (take count lefts) (take count rights) words → (i j : ℕ) → word_at (entries_from 0 ends (take count inner) words) i j ≡ of_either alone alone f (word_at a i j) (word_at b i j)
+words_join alone f a b count ends inner lefts rights sides words m u = placed_words alone f a b (outers 0 ends) (take count inner) (take count lefts) (take count rights) (take count sides) words m.merge u
 
--- ---- in some rows of a shape
-
-abbrev turn : Entry → Entry
-turn e = entry_at e.col e.row e.word
-
--- entries in some rows, by their positions as they lie
-abbrev pub LiesIn : Bool → ℕ → ℕ → ℕ → ℕ → ℕ → Type 0
-LiesIn true first past cols o i = ((first ≤ i) × (i < past)) × (o < cols)
-LiesIn false first past cols o i = ((first ≤ o) × (o < past)) × (i < cols)
-
-pub lies_in : (first past cols : ℕ) (es : List Entry) → AreIn first past cols (along cols es) → All (λ e. LiesIn (eqb cols 1) first past cols e.row e.col) es
-lies_in first past cols es inside =
-    elim (cases_Bool (eqb cols 1)) [
-      | inl one ↦ let each : AreIn first past cols (map turn es) = rw (as_column cols es one) at inside in rw one (all_from_map (λ e. ((first ≤ e.row) × (e.row < past)) × (e.col < cols)) turn es each)
-      | inr many ↦ let each : AreIn first past cols es = rw (by_rows cols es many) at inside in rw many each
-    ]
-
-pub are_in : (first past cols : ℕ) (es : List Entry) → All (λ e. LiesIn (eqb cols 1) first past cols e.row e.col) es → AreIn first past cols (along cols es)
-are_in first past cols es lies =
-    elim (cases_Bool (eqb cols 1)) [
-      | inl one ↦ rw (as_column cols es one) (All-map (λ e. ((first ≤ e.row) × (e.row < past)) × (e.col < cols)) turn es (rw one at lies))
-      | inr many ↦ rw (by_rows cols es many) (rw many at lies)
-    ]
-
-pub inside_join : (f : ℕ → ℕ → ℕ) (a b : List Entry) (count : ℕ) (ends : List FiberEnd) (inner lefts rights sides words : List ℕ) → AreMerged a b count ends inner lefts rights sides
-    → AreJoined f (take count sides) (take count lefts) (take count rights) words → (first past cols : ℕ) → AreIn first past cols (along cols a) → AreIn first past cols (along cols b) → AreIn first past cols (along cols (entries_from 0 ends (take count inner) words))
-inside_join f a b count ends inner lefts rights sides words m u first past cols in_a in_b =
+pub inside_join : (alone : ℕ → ℕ) (f : ℕ → ℕ → ℕ) (a b : List Entry) (count : ℕ) (ends : List FiberEnd) (inner lefts rights sides words : List ℕ) → AreMerged a b count ends inner lefts rights sides
+    → AreJoined alone f (take count sides) (take count lefts) (take count rights) words → (first past cols : ℕ) → AreIn first past cols (along cols a) → AreIn first past cols (along cols b) → AreIn first past cols (along cols (entries_from 0 ends (take count inner) words))
+inside_join alone f a b count ends inner lefts rights sides words m u first past cols in_a in_b =
     are_in first past cols (entries_from 0 ends (take count inner) words)
-    (placed_all f (LiesIn (eqb cols 1) first past cols) a b (outers 0 ends) (take count inner) (take count lefts) (take count rights) (take count sides) words m.merge u (lies_in first past cols a in_a) (lies_in first past cols b in_b))
+    (placed_all alone f (LiesIn (eqb cols 1) first past cols) a b (outers 0 ends) (take count inner) (take count lefts) (take count rights) (take count sides) words m.merge u (lies_in first past cols a in_a) (lies_in first past cols b in_b))
+
+-- what stands in front of both sides stands in front of their join
+pub order_join : (alone : ℕ → ℕ) (f : ℕ → ℕ → ℕ) (front a b : List Entry) (count : ℕ) (ends : List FiberEnd) (inner lefts rights sides words : List ℕ) → AreMerged a b count ends inner lefts rights sides
+    → AreJoined alone f (take count sides) (take count lefts) (take count rights) words → All (λ e. All (Precedes e) a) front → All (λ e. All (Precedes e) b) front → All (λ e. All (Precedes e) (entries_from 0 ends (take count inner) words)) front
+order_join alone f front a b count ends inner lefts rights sides words m u before_a before_b n d within =
+    placed_all alone f (λ row col. Precedes (get_or front n d) (entry_at row col 0)) a b (outers 0 ends) (take count inner) (take count lefts) (take count rights) (take count sides) words m.merge u (before_a n d within) (before_b n d within)
+
+pub join_along : (alone : ℕ → ℕ) (f : ℕ → ℕ → ℕ) (cols : ℕ) (a b es : List Entry) → ((i j : ℕ) → word_at es i j ≡ of_either alone alone f (word_at a i j) (word_at b i j))
+    → (i j : ℕ) → word_at (along cols es) i j ≡ of_either alone alone f (word_at (along cols a) i j) (word_at (along cols b) i j)
+join_along alone f cols a b es words i j =
+    elim (cases_Bool (eqb cols 1)) [
+      | inl one ↦ rw (as_column cols es one, as_column cols a one, as_column cols b one) (word_at-turned es i j ∙ words j i ∙ rw (word_at-turned a i j, word_at-turned b i j) refl)
+      | inr many ↦ rw (by_rows cols es many, by_rows cols a many, by_rows cols b many) (words i j)
+    ]
+
+-- ---- joins behind others
+
+pub cut_front : (from : ℕ) (xs ys zs : List ℕ) → from ≡ length xs → zs ≡ xs ++ ys → take from zs ≡ xs
+cut_front from xs ys zs size whole = rw (whole, size) (take-append_seam xs ys)
+
+pub cut_behind : (from : ℕ) (xs ys zs : List ℕ) → from ≡ length xs → zs ≡ xs ++ ys → drop from zs ≡ ys
+cut_behind from xs ys zs size whole = rw (whole, size) (drop-append_seam xs ys)
+
+pub on_ok_both : {T E P Q R : Type 0} (r : Result T E) → (P → Q → R) → OnOk r P → OnOk r Q → OnOk r R
+on_ok_both (Ok x) f p q = f p q
+on_ok_both (Err e) f p q = tt
+
+-- the join of the rows of two sides, from that of their fibers
+pub part_joined : (by : Joining) (first past cols : ℕ) (a b : List Entry) (c d : Content) (old new : FiberLists) → HasJoin by a b old new → AreIn first past cols (along cols a) → AreIn first past cols (along cols b)
+    → ((i j : ℕ) → first ≤ i → i < past → word_at (along cols a) i j ≡ c i j) → ((i j : ℕ) → first ≤ i → i < past → word_at (along cols b) i j ≡ d i j) → HasPart (joined by c d) first past cols old new
+part_joined by first past cols a b c d old new h in_a in_b words_a words_b = record {
+  flat = h.flat;
+  part = h.part;
+  whole = h.whole;
+  inside = h.inside first past cols in_a in_b;
+  words = λ i j low high. join_along (alone_of by) (both_of by) cols a b h.part h.words i j ∙ rw (words_a i j low high, words_b i j low high) refl;
+}

@@ -1,15 +1,14 @@
 -- What a mask keeps of a fiber, entry by entry.
-use Rattle.std.proofs.Common.{◌≡◌, ◌≢◌, ℕ, ◌+◌, ◌<◌, ◌≤◌, Bool, true, false, ◌&&◌, cond, eqb, List, [], ◌∷◌, ◌++◌, length, get_or, set, take, drop, Some, None, refl, sym, ◌∙◌, ap, inl, inr, arith, append_assoc, length-append, length-take, length-drop}
+use Rattle.std.proofs.Common.{◌≡◌, ◌≢◌, ℕ, ◌+◌, ◌<◌, ◌≤◌, Bool, true, false, List, [], ◌∷◌, ◌++◌, length, get_or, set, take, drop, Some, None, refl, sym, ◌∙◌, ap, inl, inr, arith, append_assoc, length-append, length-take, length-drop}
 use Rattle.std.specs.List.{All, AllPairs, filter}
-use Rattle.std.proofs.lemmas.Bool.{cases_Bool, cases_eq, ne_eqb}
+use Rattle.std.proofs.lemmas.Bool.{cases_Bool, cases_eq}
 use Rattle.std.proofs.lemmas.List.{drop-set-lt, drop_more, get_or-drop, get_or-take, take-set-le, take_more_set}
-use Rattle.std.proofs.lemmas.List.Elements.{All-head, All-tail, All-weaker}
 use Rattle.model.specs.declared.entry.Entry.{Entry}
 use Rattle.model.specs.Entries.{entry_at, word_at}
 use Rattle.store.specs.Fibers.{entries_along}
 use Rattle.store.proofs.FlatLaws.{row_in_order}
 use Rattle.store.proofs.Places.{length_row, row_at}
-use Rattle.store.proofs.Positions.{word_at-found, word_at-gap, word_at-none, word_at-skip}
+use Rattle.store.proofs.Positions.{word_at-found, word_at-gap}
 
 -- ---- the word of an index in a fiber
 
@@ -91,20 +90,6 @@ keep_more p outer inner words kept at step keep number all low within same is st
     ]
 
 -- ---- one fiber and those behind it
-
-pub word_behind : (i j : ℕ) (es fs : List Entry) → All (λ e. i ≢ e.row) es → word_at (es ++ fs) i j ≡ word_at fs i j
-word_behind i j [] fs away = refl
-word_behind i j (e ∷ es) fs away =
-    let other : (eqb i e.row && eqb j e.col) ≡ false = rw (ne_eqb i e.row (All-head (λ e. i ≢ e.row) e es away)) refl in
-    word_at-skip i j e (es ++ fs) other ∙ word_behind i j es fs (All-tail (λ e. i ≢ e.row) e es away)
-
-none_there : (i j : ℕ) (fs : List Entry) → All (λ e. i ≢ e.row) fs → word_at fs i j ≡ None
-none_there i j fs away = word_at-none i j fs (All-weaker (λ (e : Entry). i ≢ e.row) (λ (e : Entry). (eqb i e.row && eqb j e.col) ≡ false) (λ e other. rw (ne_eqb i e.row other) refl) fs away)
-
-pub word_before : (i j : ℕ) (es fs : List Entry) → All (λ e. i ≢ e.row) fs → word_at (es ++ fs) i j ≡ word_at es i j
-unfolding word_at
-word_before i j [] fs away = none_there i j fs away
-word_before i j (e ∷ es) fs away = ap (λ rest. cond (eqb i e.row && eqb j e.col) (Some e.word) rest) (word_before i j es fs away)
 
 -- a walk that steps over its first fiber has less left
 pub step_shorter : (o : ℕ) (fs x x' : List Entry) → x ≡ fs ++ x' → (All (λ e. o < e.row) x → length x ≡ 0) → All (λ e. o < e.row) x' → 0 < length x → length x' < length x

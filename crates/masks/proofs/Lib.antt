@@ -1,9 +1,9 @@
 mod BlockLaws
-mod FiberMerges
+pub mod FiberMerges
 mod JoinedWords
-mod Joins
+pub mod Joins
 mod Keeping
-mod Keeps
+pub mod Keeps
 mod KeptFiber
 pub mod MaskLaws
 mod Merges

@@ -1,24 +1,53 @@
--- The join of two maps: where both have a word what a function gives, and where one has, its word.
-use Rattle.std.specs.Prelude.{ℕ, ◌≡◌, ◌<◌, ◌==◌, if◌then◌else◌, List, length, slice_index, Option, Some, None}
-use Rattle.algebra.specs.declared.operator_names.OpName.{OpName}
-use Rattle.algebra.specs.Operators.{eval_of}
+-- The join of two maps: where both have a word what is made of both, and where one has, what is made of it alone.
+use Rattle.std.specs.Prelude.{ℕ, ◌≡◌, ◌<◌, ◌==◌, if◌then◌else◌, List, length, slice_index, Option, ◌++◌}
+use Rattle.algebra.specs.Operators.{answer_domain, eval_of}
+use Rattle.algebra.specs.Value.{cast_of}
+use Rattle.model.specs.declared.entry.Entry.{Entry}
+use Rattle.model.specs.ElementWise.{of_either}
+use Rattle.model.specs.Entries.{word_at}
+use Rattle.model.specs.Object.{Content}
+use Rattle.store.specs.declared.lists.FiberLists.{FiberLists}
+use Rattle.store.specs.Fibers.{AreFlat, entries_in}
+use Rattle.store.specs.Stored.{AreIn, along}
+use Rattle.masks.specs.declared.join.Joining.{Joining}
+use Rattle.masks.specs.declared.join.Joining.TheVariants.{Accumulate, Right, Unite}
 
-abbrev pub joined : (ℕ → ℕ → ℕ) → Option ℕ → Option ℕ → Option ℕ
-joined f None right = right
-joined f (Some left) None = Some left
-joined f (Some left) (Some right) = Some (f left right)
+-- what is made of a word of one side alone
+abbrev pub alone_of : Joining → ℕ → ℕ
+alone_of Right word = word
+alone_of (Accumulate op) word = word
+alone_of (Unite op) word = cast_of op.domain (answer_domain op.kind op.domain) word
 
--- the word of two: an operator's, or without one the right
-abbrev pub combined : Option OpName → ℕ → ℕ → ℕ
-combined None left right = right
-combined (Some op) left right = eval_of op.kind op.domain left right
+-- what is made of the words of both
+abbrev pub both_of : Joining → ℕ → ℕ → ℕ
+both_of Right left right = right
+both_of (Accumulate op) left right = eval_of op.kind op.domain left right
+both_of (Unite op) left right = eval_of op.kind op.domain left right
+
+-- the join of the words at a position
+abbrev pub join_word : Joining → Option ℕ → Option ℕ → Option ℕ
+join_word by left right = of_either (alone_of by) (alone_of by) (both_of by) left right
+
+-- the join of two maps
+abbrev pub joined : Joining → Content → Content → Content
+joined by left right = λ i j. join_word by (left i j) (right i j)
 
 -- the word of a place, of which the side says which words are there: 1 the left alone, 2 the right alone, else both
-abbrev pub joined_word : (ℕ → ℕ → ℕ) → ℕ → ℕ → ℕ → ℕ
-joined_word f side left right = if side == 1 then left else if side == 2 then right else f left right
+abbrev pub joined_word : (ℕ → ℕ) → (ℕ → ℕ → ℕ) → ℕ → ℕ → ℕ → ℕ
+joined_word alone both side left right =
+    if side == 1 then alone left else if side == 2 then alone right else both left right
 
 -- the words of a join, one for each place
-pub record AreJoined (f : ℕ → ℕ → ℕ) (sides lefts rights words : List ℕ) : Type 0 where
+pub record AreJoined (alone : ℕ → ℕ) (both : ℕ → ℕ → ℕ) (sides lefts rights words : List ℕ) : Type 0 where
   pub long : length words ≡ length sides
-  pub each : (k : ℕ) → k < length words
-      → slice_index words k ≡ joined_word f (slice_index sides k) (slice_index lefts k) (slice_index rights k)
+  pub each : (k : ℕ) → k < length words → slice_index words k
+      ≡ joined_word alone both (slice_index sides k) (slice_index lefts k) (slice_index rights k)
+
+-- the new lists have the join of the entries of two sides behind what the old ones have
+pub record HasJoin (by : Joining) (a b : List Entry) (old new : FiberLists) : Type 0 where
+  pub flat : AreFlat new.ends.items new.inner.items new.words.items
+  pub part : List Entry
+  pub whole : entries_in new ≡ entries_in old ++ part
+  pub words : (i j : ℕ) → word_at part i j ≡ joined by (word_at a) (word_at b) i j
+  pub inside : (first past cols : ℕ) → AreIn first past cols (along cols a) → AreIn first past cols (along cols b)
+      → AreIn first past cols (along cols part)

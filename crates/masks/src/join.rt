@@ -1,143 +1,203 @@
-//! The join of fibers: where both sides have a word an operator's, and where one has, its word as it is.
-ghost use Rattle.std.specs.Prelude.{◌≡◌, ℕ, ◌<◌, ◌≤◌, ◌==◌, if◌then◌else◌, length, slice_index, IfOk};
+//! Joins of stores: where both have a word what is made of both, and where one has, its word.
+ghost use Rattle.std.specs.Prelude.{◌≡◌, ℕ, ◌<◌, ◌≤◌, ◌==◌, ◌++◌, if◌then◌else◌, length, slice_index, take, IfOk, OnOk};
+ghost use Rattle.std.specs.List.{All};
 ghost use Rattle.std.specs.Option.{option_map};
-ghost use Rattle.algebra.specs.OperatorNames.{op_named};
-ghost use Rattle.model.specs.Entries.{word_at};
+ghost use Rattle.model.specs.ElementWise.{of_either};
+ghost use Rattle.model.specs.Entries.{Precedes};
 ghost use Rattle.store.specs.Fibers.{AreFlat, entries_in};
-ghost use Rattle.store.specs.Stored.{AreIn, along};
-ghost use Rattle.masks.specs.Joins.{AreJoined, combined, joined};
-ghost use Rattle.masks.specs.Merges.{AreMerged};
+ghost use Rattle.store.specs.Parts.{HasPart, HasRows};
+ghost use Rattle.store.specs.Stored.{AreIn, along, block_content, content_of};
+ghost use Rattle.masks.specs.Joins.{AreJoined, HasJoin, alone_of, both_of, joined};
 
-use crate::merge::merge_fibers;
+use crate::merge::Places;
 use algebra::BinaryOp;
-use lanes::zip_words;
+use lanes::{unite_words, zip_words};
 use model::NoMemory;
 use std::alloc::Global;
-use store::{FiberEnd, FiberLists, Fibers};
+use std::ops::Range;
+use store::{FiberLists, Fibers, RowBlock, Store};
 
-/// The join of two sides' fibers by an operator; without one, where both have a word, it is the right
-/// one's.
-pub(crate) fn join_fibers(
+/// How the words of two stores at a position are joined.
+#[derive(Clone, Copy)]
+pub enum Joining {
+    /// Where both are there the right one.
+    Right,
+    /// Where both are there what the operator gives; one alone as it is (an accumulator).
+    Accumulate(BinaryOp),
+    /// Where both are there what the operator gives; one alone cast from its domain to that of its
+    /// answer (`GrB_eWiseAdd`).
+    Unite(BinaryOp),
+}
+
+// About how many entries of each side are joined at once. What that takes stays in the cache.
+const PART: usize = 2048;
+
+/// The rows in a range of the join of two stores of as many columns. It takes time for the entries of both in
+/// these rows, and beside the result memory for a part of some rows, or for the longest row.
+pub fn join_rows(
     alloc: Global,
-    left: Fibers<'_>,
-    right: Fibers<'_>,
-    op: Option<BinaryOp>,
-) -> Result<FiberLists, NoMemory>
-    ensures flat { IfOk result (λ lists. AreFlat lists.ends.items lists.inner.items lists.words.items) }
-    ensures words { IfOk result (λ lists. (i j : ℕ) → word_at (entries_in lists) i j
-        ≡ joined (combined (option_map op_named op))
-        (word_at left.entry.entries i j) (word_at right.entry.entries i j)) }
-    ensures inside { IfOk result (λ lists. (first past cols : ℕ)
-        → AreIn first past cols (along cols left.entry.entries)
-        → AreIn first past cols (along cols right.entry.entries)
-        → AreIn first past cols (along cols (entries_in lists))) }
+    left: &Store,
+    right: &Store,
+    by: Joining,
+    range: Range<u64>,
+) -> Result<RowBlock, NoMemory>
+    requires cols { left.now.cols ≡ right.now.cols }
+    requires range { range.start ≤ range.end }
+    ensures first { IfOk result (λ block. block.first ≡ range.start) }
+    ensures past { IfOk result (λ block. block.past ≡ range.end) }
+    ensures cols { IfOk result (λ block. block.cols ≡ left.now.cols) }
+    ensures words { IfOk result (λ block. (i j : ℕ) → range.start ≤ i → i < range.end → block_content block i j
+        ≡ of_either (alone_of by) (alone_of by) (both_of by) (content_of left.now i j) (content_of right.now i j)) }
 {
-    let Places {
-        count,
-        ends,
-        mut inner,
-        lefts,
-        rights,
-        sides,
-    } = places_of(alloc, left, right)?;
-    let words = words_of(
+    let (first, past) = (range.start, range.end);
+    let left_count = left.fibers_in(first..past).len();
+    let right_count = right.fibers_in(first..past).len();
+    if right_count == 0 {
+        return copy_alone(alloc, left, by, first..past);
+    }
+    if left_count == 0 {
+        return copy_alone(alloc, right, by, first..past);
+    }
+    let lists = join_parts(
         alloc,
-        op,
-        &sides[..count],
-        &lefts[..count],
-        &rights[..count],
-    )?;
-    inner.truncate(count);
-    Ok(FiberLists { ends, inner, words })
-}
-
-/// The places of two sides: the first of the lists, so many, and the ends of their fibers.
-#[derive(Drop)]
-struct Places {
-    count: usize,
-    ends: Vec<FiberEnd>,
-    inner: Vec<u64>,
-    lefts: Vec<u64>,
-    rights: Vec<u64>,
-    sides: Vec<u64>,
-}
-
-/// Merges two sides' fibers.
-fn places_of(alloc: Global, left: Fibers<'_>, right: Fibers<'_>) -> Result<Places, NoMemory>
-    ensures inner_room { IfOk result (λ m. m.count ≤ length m.inner.items) }
-    ensures lefts_room { IfOk result (λ m. m.count ≤ length m.lefts.items) }
-    ensures rights_room { IfOk result (λ m. m.count ≤ length m.rights.items) }
-    ensures sides_room { IfOk result (λ m. m.count ≤ length m.sides.items) }
-    ensures merged { IfOk result (λ m. AreMerged left.entry.entries right.entry.entries
-        m.count m.ends.items m.inner.items m.lefts.items m.rights.items m.sides.items) }
-{
-    let room = left.len() + right.len();
-    let mut ends = Vec::new(alloc);
-    let mut inner = Vec::from_elem(alloc, 0, room)?;
-    let mut lefts = Vec::from_elem(alloc, 0, room)?;
-    let mut rights = Vec::from_elem(alloc, 0, room)?;
-    let mut sides = Vec::from_elem(alloc, 0, room)?;
-    let count = merge_fibers(
         left,
         right,
-        &mut ends,
-        &mut inner,
-        &mut lefts,
-        &mut rights,
-        &mut sides,
+        by,
+        first..past,
+        left_count + right_count,
     )?;
-    Ok(Places {
-        count,
-        ends,
-        inner,
-        lefts,
-        rights,
-        sides,
-    })
+    Ok(RowBlock::of_fibers(first, past, left.cols(), lists))
 }
 
-/// The words of the places of a merge.
-fn words_of(
+/// The rows in a range of one side that has entries alone.
+fn copy_alone(
     alloc: Global,
-    op: Option<BinaryOp>,
-    sides: &[u64],
-    lefts: &[u64],
-    rights: &[u64],
-) -> Result<Vec<u64>, NoMemory>
-    requires lefts { length lefts.now ≡ length sides.now }
-    requires rights { length rights.now ≡ length sides.now }
-    ensures { IfOk result (λ words.
-        AreJoined (combined (option_map op_named op)) sides.now lefts.now rights.now words.items) }
+    side: &Store,
+    by: Joining,
+    range: Range<u64>,
+) -> Result<RowBlock, NoMemory>
+    ensures first { IfOk result (λ block. block.first ≡ range.start) }
+    ensures past { IfOk result (λ block. block.past ≡ range.end) }
+    ensures cols { IfOk result (λ block. block.cols ≡ side.now.cols) }
+    ensures words { IfOk result (λ block. (i j : ℕ) → range.start ≤ i → i < range.end
+        → block_content block i j ≡ option_map (alone_of by) (content_of side.now i j)) }
 {
-    let mut words = Vec::from_elem(alloc, 0, sides.len())?;
-    join_words(op, sides, lefts, rights, &mut words);
-    Ok(words)
+    let mut rows = side.copy_rows(alloc, range)?;
+    if let Joining::Unite(op) = by {
+        rows.cast(op.domain, op.answer());
+    }
+    Ok(rows)
+}
+
+/// The lists of the join of the rows in a range, part by part. There is room for so many entries from the
+/// start, so that none is moved; what isn't used is let go.
+fn join_parts(
+    alloc: Global,
+    left: &Store,
+    right: &Store,
+    by: Joining,
+    range: Range<u64>,
+    room: usize,
+) -> Result<FiberLists, NoMemory>
+    requires cols { left.now.cols ≡ right.now.cols }
+    requires range { range.start ≤ range.end }
+    ensures { IfOk result (λ lists. HasRows (joined by (content_of left.now) (content_of right.now))
+        range.start range.end left.now.cols lists) }
+{
+    let mut lists = FiberLists::with_capacity(alloc, room)?;
+    let mut places = Places::new(alloc);
+    let (mut row, past) = (range.start, range.end);
+    while row < past {
+        let next = left
+            .part_end(row..past, PART)
+            .min(right.part_end(row..past, PART));
+        join_part(&mut lists, &mut places, left, right, by, row..next)?;
+        row = next;
+    }
+    lists.shrink_to_fit();
+    Ok(lists)
+}
+
+/// Puts the join of the rows in a range behind those in the lists.
+fn join_part(
+    lists: &mut FiberLists,
+    places: &mut Places,
+    left: &Store,
+    right: &Store,
+    by: Joining,
+    range: Range<u64>,
+) -> Result<(), NoMemory>
+    requires cols { left.now.cols ≡ right.now.cols }
+    requires flat { AreFlat lists.old.ends.items lists.old.inner.items lists.old.words.items }
+    requires front { AreIn 0 range.start left.now.cols (along left.now.cols (entries_in lists.old)) }
+    ensures { OnOk result (HasPart (joined by (content_of left.now) (content_of right.now))
+        range.start range.end left.now.cols lists.old lists.new) }
+{
+    let (first, past) = (range.start, range.end);
+    join_fibers(
+        lists,
+        places,
+        left.fibers_in(first..past),
+        right.fibers_in(first..past),
+        by,
+    )
+}
+
+/// Puts the join of two sides' fibers behind those in the lists.
+fn join_fibers(
+    lists: &mut FiberLists,
+    places: &mut Places,
+    left: Fibers<'_>,
+    right: Fibers<'_>,
+    by: Joining,
+) -> Result<(), NoMemory>
+    requires flat { AreFlat lists.old.ends.items lists.old.inner.items lists.old.words.items }
+    requires left { All (λ e. All (Precedes e) left.entries) (entries_in lists.old) }
+    requires right { All (λ e. All (Precedes e) right.entries) (entries_in lists.old) }
+    ensures { OnOk result (HasJoin by left.entry.entries right.entry.entries lists.old lists.new) }
+{
+    let from = lists.inner.len();
+    let count = places.merge(left, right)?;
+    lists.inner.extend_from_slice(&places.inner[..count])?;
+    join_places(places, count, by)?;
+    lists.words.extend_from_slice(&places.words)?;
+    lists.attach(&places.ends, from)
+}
+
+/// Makes the words of the first places by a joining.
+fn join_places(places: &mut Places, count: usize, by: Joining) -> Result<(), NoMemory>
+    requires lefts { count ≤ length places.old.lefts.items }
+    requires rights { count ≤ length places.old.rights.items }
+    requires sides { count ≤ length places.old.sides.items }
+    ensures ends { places.new.ends.items ≡ places.old.ends.items }
+    ensures words { OnOk result (AreJoined (alone_of by) (both_of by) (take count places.old.sides.items)
+        (take count places.old.lefts.items) (take count places.old.rights.items) places.new.words.items) }
+{
+    places.words.resize(count, 0)?;
+    join_words(
+        by,
+        &places.sides[..count],
+        &places.lefts[..count],
+        &places.rights[..count],
+        &mut places.words,
+    );
+    Ok(())
 }
 
 /// Makes each word that of the place of a merge.
-fn join_words(op: Option<BinaryOp>, sides: &[u64], lefts: &[u64], rights: &[u64], words: &mut [u64])
+fn join_words(by: Joining, sides: &[u64], lefts: &[u64], rights: &[u64], words: &mut [u64])
     requires sides { length sides.now ≡ length words.old }
     requires lefts { length lefts.now ≡ length words.old }
     requires rights { length rights.now ≡ length words.old }
     ensures length { length words.new ≡ length words.old }
-    ensures joined { AreJoined (combined (option_map op_named op)) sides.now lefts.now rights.now words.new }
+    ensures joined { AreJoined (alone_of by) (both_of by) sides.now lefts.now rights.now words.new }
 {
-    combine_words(op, lefts, rights, words);
-    put_alone(sides, lefts, rights, words);
-}
-
-/// Makes each word that of two words.
-fn combine_words(op: Option<BinaryOp>, lefts: &[u64], rights: &[u64], words: &mut [u64])
-    requires lefts { length lefts.now ≡ length words.old }
-    requires rights { length rights.now ≡ length words.old }
-    ensures length { length words.new ≡ length words.old }
-    ensures words { (k : ℕ) → k < length words.old → slice_index words.new k
-        ≡ combined (option_map op_named op) (slice_index lefts.now k) (slice_index rights.now k) }
-{
-    match op {
-        Some(op) => zip_words(op, lefts, rights, words),
-        None => words.copy_from_slice(rights),
+    match by {
+        Joining::Right => words.copy_from_slice(rights),
+        Joining::Accumulate(op) => zip_words(op, lefts, rights, words),
+        Joining::Unite(op) => return unite_words(op, sides, lefts, rights, words),
     }
+    put_alone(sides, lefts, rights, words);
 }
 
 /// Puts the word of each place that one side alone has in place of that of both.

@@ -9,5 +9,6 @@ mod merge;
 mod view;
 mod write;
 
+pub use join::{Joining, join_rows};
 pub use view::MaskView;
 pub use write::write_back;

@@ -1,12 +1,76 @@
 //! Fibers merged: at each place of two sides the inner index, the word of each side, and which sides are
 //! there.
-ghost use Rattle.std.specs.Prelude.{◌≡◌, ℕ, ◌<◌, ◌≤◌, ◌+◌, length, take, replicate, [], IfOk};
+ghost use Rattle.std.specs.Prelude.{◌≡◌, ℕ, ◌<◌, ◌≤◌, ◌+◌, length, take, replicate, [], IfOk, OnOk};
 ghost use Rattle.std.specs.List.{All, AllPairs};
 ghost use Rattle.store.specs.Fibers.{entries_along};
 ghost use Rattle.masks.specs.Merges.{AreMerged, IsMerge};
 
 use model::NoMemory;
+use std::alloc::Global;
 use store::{FiberEnd, Fibers};
+
+/// Places of a merge, in memory that one merge after another uses: where their fibers end, and of each its
+/// inner index, the word of each side, which sides are there, and the word that is made of these.
+#[derive(Drop)]
+pub(crate) struct Places {
+    pub(crate) ends: Vec<FiberEnd>,
+    pub(crate) inner: Vec<u64>,
+    pub(crate) lefts: Vec<u64>,
+    pub(crate) rights: Vec<u64>,
+    pub(crate) sides: Vec<u64>,
+    pub(crate) words: Vec<u64>,
+}
+
+impl Places {
+    /// No places. They take no memory.
+    pub(crate) fn new(alloc: Global) -> Places {
+        Places {
+            ends: Vec::new(alloc),
+            inner: Vec::new(alloc),
+            lefts: Vec::new(alloc),
+            rights: Vec::new(alloc),
+            sides: Vec::new(alloc),
+            words: Vec::new(alloc),
+        }
+    }
+
+    /// Merges fibers, and answers how many places there are: the first of the lists.
+    pub(crate) fn merge(&mut self, left: Fibers<'_>, right: Fibers<'_>) -> Result<usize, NoMemory>
+        ensures inner_room { IfOk result (λ count. count ≤ length self.new.inner.items) }
+        ensures lefts_room { IfOk result (λ count. count ≤ length self.new.lefts.items) }
+        ensures rights_room { IfOk result (λ count. count ≤ length self.new.rights.items) }
+        ensures sides_room { IfOk result (λ count. count ≤ length self.new.sides.items) }
+        ensures merged { IfOk result (λ count. AreMerged left.entry.entries right.entry.entries count
+            self.new.ends.items self.new.inner.items self.new.lefts.items self.new.rights.items self.new.sides.items) }
+    {
+        self.make_room(left.len() + right.len())?;
+        merge_fibers(
+            left,
+            right,
+            &mut self.ends,
+            &mut self.inner,
+            &mut self.lefts,
+            &mut self.rights,
+            &mut self.sides,
+        )
+    }
+
+    /// Makes room for so many places, and forgets where fibers end.
+    fn make_room(&mut self, count: usize) -> Result<(), NoMemory>
+        ensures ends { self.new.ends.items ≡ [] }
+        ensures inner { OnOk result (length self.new.inner.items ≡ count) }
+        ensures lefts { OnOk result (length self.new.lefts.items ≡ count) }
+        ensures rights { OnOk result (length self.new.rights.items ≡ count) }
+        ensures sides { OnOk result (length self.new.sides.items ≡ count) }
+    {
+        self.ends.clear();
+        self.inner.resize(count, 0)?;
+        self.lefts.resize(count, 0)?;
+        self.rights.resize(count, 0)?;
+        self.sides.resize(count, 0)?;
+        Ok(())
+    }
+}
 
 /// Merges two fibers, and answers how many places there are. The side of a place is 1 where the left is
 /// there alone, 2 where the right is, and 3 where both are.
@@ -76,7 +140,7 @@ fn merge_fiber(
 }
 
 /// Merges fibers, one outer index after another, and answers how many places there are.
-pub(crate) fn merge_fibers<'a>(
+fn merge_fibers<'a>(
     mut left: Fibers<'a>,
     mut right: Fibers<'a>,
     ends: &mut Vec<FiberEnd>,
@@ -100,7 +164,7 @@ pub(crate) fn merge_fibers<'a>(
 {
     let mut count = 0;
     while left.len() > 0 || right.len() > 0 {
-        let outer = least(&left, &right);
+        let outer = left.least(&right);
         let (a, a_words, left_rest) = left.split(outer);
         let (b, b_words, right_rest) = right.split(outer);
         left = left_rest;
@@ -118,15 +182,4 @@ pub(crate) fn merge_fibers<'a>(
         ends.push(FiberEnd { outer, end: count })?;
     }
     Ok(count)
-}
-
-/// The least outer index that is left on either side.
-#[inline(always)]
-fn least(left: &Fibers<'_>, right: &Fibers<'_>) -> u64
-    requires { 0 < length left.now.entries + length right.now.entries }
-    ensures left { All (λ e. result ≤ e.row) left.now.entries }
-    ensures right { All (λ e. result ≤ e.row) right.now.entries }
-    ensures there { All (λ e. result < e.row) left.now.entries → All (λ e. result < e.row) right.now.entries → ⊥ }
-{
-    left.outer().min(right.outer())
 }

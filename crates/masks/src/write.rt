@@ -8,8 +8,8 @@ ghost use Rattle.store.specs.Stored.{block_content, content_of};
 ghost use Rattle.masks.specs.Keeps.{lets_word};
 ghost use Rattle.masks.specs.Writes.{written_at, written_by};
 
-use crate::MaskView;
-use crate::blocks::{join_block, join_blocks, keep_block};
+use crate::blocks::{join_blocks, keep_block};
+use crate::{Joining, MaskView, join_rows};
 use algebra::BinaryOp;
 use model::NoMemory;
 use std::alloc::Global;
@@ -115,11 +115,11 @@ fn write_under(
                 ..*mask
             };
             let rest = old_rows(alloc, old, &inside, &others, stored)?;
-            join_blocks(alloc, rest, inside, None)
+            join_blocks(alloc, rest, inside, Joining::Right)
         }
         (Some(op), true) => {
             let kept = old_rows(alloc, old, &inside, mask, stored)?;
-            join_blocks(alloc, kept, inside, Some(op))
+            join_blocks(alloc, kept, inside, Joining::Accumulate(op))
         }
         (Some(op), false) => accumulate(alloc, old, inside, op),
     }
@@ -154,8 +154,12 @@ fn accumulate(alloc: Global, old: &Store, t: RowBlock, op: BinaryOp) -> Result<R
         ≡ accumulated (op_named op) (content_of old.now i j) (block_content t i j)) }
 {
     let (first, past) = (t.first(), t.past());
-    if t.is_empty() {
+    if t.fibers().len() == 0 {
         return old.copy_rows(alloc, first..past);
     }
-    join_block(alloc, old.fibers_in(first..past), t, Some(op))
+    if old.fibers_in(first..past).len() == 0 {
+        return Ok(t);
+    }
+    let t = Store::from_block(past, t);
+    join_rows(alloc, old, &t, Joining::Accumulate(op), first..past)
 }

@@ -1,15 +1,13 @@
 //! Stores: what an object holds.
 ghost use Rattle.std.specs.Prelude.{◌≡◌, ℕ, ◌<◌, ◌≤◌, None, length, OnOk, OnErr, IfOk};
 ghost use Rattle.model.specs.Entries.{InOrder, IsInside, entries_between, entries_of, row_entries, word_at};
-ghost use Rattle.model.specs.Object.{cast_content, with_entry, without_entry, IsWithin};
+ghost use Rattle.model.specs.Object.{with_entry, without_entry, IsWithin};
 ghost use Rattle.model.specs.Reductions.{all_words};
 
 use crate::edits::{put, take_out};
 use crate::finding::{fiber, find, row_of_column};
-use crate::ranges::{column_between, fibers_between};
+use crate::ranges::{column_between, fibers_between, outer_past, row_past};
 use crate::{FiberLists, Fibers, RowBlock, Rows};
-use algebra::Domain;
-use lanes::cast_words;
 use model::NoMemory;
 use std::alloc::Global;
 use std::marker::Model;
@@ -71,18 +69,6 @@ impl Store {
     {
         let lists = self.lists.try_clone()?;
         Ok(Store { lists, ..*self })
-    }
-
-    /// A store with the same shape, and each word cast from one domain to another, in memory of its
-    /// own. Every word is cast, also one that no value of its domain has.
-    pub fn cast(&self, from: Domain, to: Domain) -> Result<Store, NoMemory>
-        ensures shape { IfOk result (λ store. (store.rows ≡ self.now.rows) × (store.cols ≡ self.now.cols)) }
-        ensures content { IfOk result (λ store. (i j : ℕ)
-            → content_of store i j ≡ cast_content from to (content_of self.now) i j) }
-    {
-        let mut store = self.try_clone()?;
-        cast_words(from, to, &mut store.lists.words);
-        Ok(store)
     }
 
     /// The number of rows.
@@ -150,6 +136,7 @@ impl Store {
     pub fn fibers_in(&self, range: Range<u64>) -> Fibers<'_>
         ensures entries { along self.now.cols result.entries
             ≡ entries_between range.start range.end self.now.cols (content_of self.now) }
+        ensures order { InOrder (along self.now.cols result.entries) }
         ensures inside { IsInside self.now.rows self.now.cols (along self.now.cols result.entries) }
         ensures words { (i j : ℕ) → range.start ≤ i → i < range.end
             → word_at (along self.now.cols result.entries) i j ≡ content_of self.now i j }
@@ -175,6 +162,25 @@ impl Store {
         let (first, past) = (range.start, range.end);
         let lists = self.fibers_in(first..past).try_copy(alloc)?;
         Ok(RowBlock::of_fibers(first, past, self.cols, lists))
+    }
+
+    /// A row up to which, from the range's first on, there are about so many entries, or that is behind the
+    /// first where this alone has more. It serves to cut work into parts. Its time grows with the logarithm
+    /// of the number of entries.
+    pub fn part_end(&self, range: Range<u64>, entries: usize) -> u64
+        requires { range.start < range.end }
+        ensures low { range.start < result }
+        ensures high { result ≤ range.end }
+    {
+        let past = if self.cols == 1 {
+            row_past(&self.lists.inner, range.start, entries)
+        } else {
+            outer_past(&self.lists.ends, range.start, entries)
+        };
+        match past {
+            Some(row) => row.max(range.start + 1).min(range.end),
+            None => range.end,
+        }
     }
 
     /// The rows in a range. The range may be empty or reach beyond the rows. Its time grows with the

@@ -6,7 +6,8 @@ use Rattle.model.specs.declared.entry.Entry.{Entry}
 use Rattle.model.specs.Entries.{word_at}
 use Rattle.store.specs.Fibers.{entries_along}
 use Rattle.store.proofs.FlatLaws.{all_rows}
-use Rattle.masks.proofs.Keeps.{step_shorter, word_before, word_behind}
+use Rattle.store.proofs.PartLaws.{word_before, word_behind}
+use Rattle.masks.proofs.Keeps.{step_shorter}
 use Rattle.masks.proofs.keep.seek.Goals as goal
 
 pub loop-first-preserved : goal.loop-first-preserved
