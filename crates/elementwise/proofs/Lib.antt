@@ -1,0 +1,11 @@
+mod Answered
+mod FiberPairs
+mod Filled
+mod KeptFibers
+mod MappedLaws
+mod Meets
+mod Pairing
+mod Passed
+mod RowSums
+mod SelectLaws
+mod SumLaws

@@ -1,0 +1,138 @@
+//! Intersections of stores.
+ghost use Rattle.std.specs.Prelude.{◌≡◌, ℕ, ◌<◌, ◌≤◌, length, take, IfOk, OnOk};
+ghost use Rattle.std.specs.List.{All};
+ghost use Rattle.algebra.specs.Operators.{eval_of};
+ghost use Rattle.lanes.specs.Lists.{zip_with};
+ghost use Rattle.model.specs.ElementWise.{of_both};
+ghost use Rattle.model.specs.Entries.{Precedes};
+ghost use Rattle.store.specs.Fibers.{AreFlat, entries_in};
+ghost use Rattle.store.specs.Parts.{HasPart, HasRows};
+ghost use Rattle.store.specs.Stored.{AreIn, along, block_content, content_of};
+ghost use Rattle.elementwise.specs.Meets.{HasMeet, met_content};
+
+use crate::pairs::Pairs;
+use algebra::BinaryOp;
+use lanes::zip_words;
+use model::NoMemory;
+use std::alloc::Global;
+use std::ops::Range;
+use store::{FiberLists, Fibers, RowBlock, Store};
+
+// About how many entries of each side are looked at together. What that takes stays in the cache.
+const PART: usize = 2048;
+
+/// The rows in a range of the intersection of two stores of as many columns (`GrB_eWiseMult`): what the
+/// operator gives at each position that both have. It takes time for the entries of both in these rows, and
+/// beside the result memory for a part of some rows, or for the longest row.
+pub fn intersect_rows(
+    alloc: Global,
+    a: &Store,
+    b: &Store,
+    op: BinaryOp,
+    range: Range<u64>,
+) -> Result<RowBlock, NoMemory>
+    requires cols { a.now.cols ≡ b.now.cols }
+    requires range { range.start ≤ range.end }
+    ensures first { IfOk result (λ block. block.first ≡ range.start) }
+    ensures past { IfOk result (λ block. block.past ≡ range.end) }
+    ensures cols { IfOk result (λ block. block.cols ≡ a.now.cols) }
+    ensures words { IfOk result (λ block. (i j : ℕ) → range.start ≤ i → i < range.end → block_content block i j
+        ≡ of_both (eval_of op.kind op.domain) (content_of a.now i j) (content_of b.now i j)) }
+{
+    let (first, past) = (range.start, range.end);
+    let left_count = a.fibers_in(first..past).len();
+    let right_count = b.fibers_in(first..past).len();
+    let room = left_count.min(right_count);
+    let lists = intersect_parts(alloc, a, b, op, first..past, room)?;
+    Ok(RowBlock::of_fibers(first, past, a.cols(), lists))
+}
+
+/// The lists of the intersection of the rows in a range, part by part. There is room for so many entries from
+/// the start, so that none is moved; what isn't used is let go.
+fn intersect_parts(
+    alloc: Global,
+    a: &Store,
+    b: &Store,
+    op: BinaryOp,
+    range: Range<u64>,
+    room: usize,
+) -> Result<FiberLists, NoMemory>
+    requires cols { a.now.cols ≡ b.now.cols }
+    requires range { range.start ≤ range.end }
+    ensures { IfOk result (λ lists. HasRows (met_content op (content_of a.now) (content_of b.now))
+        range.start range.end a.now.cols lists) }
+{
+    let mut lists = FiberLists::with_capacity(alloc, room)?;
+    let mut pairs = Pairs::new(alloc);
+    let (mut row, past) = (range.start, range.end);
+    while row < past {
+        let next = a.part_end(row..past, PART).min(b.part_end(row..past, PART));
+        intersect_part(&mut lists, &mut pairs, a, b, op, row..next)?;
+        row = next;
+    }
+    lists.shrink_to_fit();
+    Ok(lists)
+}
+
+/// Puts the intersection of the rows in a range behind those in the lists.
+fn intersect_part(
+    lists: &mut FiberLists,
+    pairs: &mut Pairs,
+    a: &Store,
+    b: &Store,
+    op: BinaryOp,
+    range: Range<u64>,
+) -> Result<(), NoMemory>
+    requires cols { a.now.cols ≡ b.now.cols }
+    requires flat { AreFlat lists.old.ends.items lists.old.inner.items lists.old.words.items }
+    requires front { AreIn 0 range.start a.now.cols (along a.now.cols (entries_in lists.old)) }
+    ensures { OnOk result (HasPart (met_content op (content_of a.now) (content_of b.now))
+        range.start range.end a.now.cols lists.old lists.new) }
+{
+    let (first, past) = (range.start, range.end);
+    intersect_fibers(
+        lists,
+        pairs,
+        a.fibers_in(first..past),
+        b.fibers_in(first..past),
+        op,
+    )
+}
+
+/// Puts the intersection of two sides' fibers behind those in the lists.
+fn intersect_fibers(
+    lists: &mut FiberLists,
+    pairs: &mut Pairs,
+    left: Fibers<'_>,
+    right: Fibers<'_>,
+    op: BinaryOp,
+) -> Result<(), NoMemory>
+    requires flat { AreFlat lists.old.ends.items lists.old.inner.items lists.old.words.items }
+    requires before { All (λ e. All (Precedes e) left.entries) (entries_in lists.old) }
+    ensures { OnOk result (HasMeet op left.entry.entries right.entry.entries lists.old lists.new) }
+{
+    let from = lists.inner.len();
+    let count = pairs.find(left, right)?;
+    lists.inner.extend_from_slice(&pairs.inner[..count])?;
+    combine_pairs(pairs, count, op)?;
+    lists.words.extend_from_slice(&pairs.words)?;
+    lists.attach(&pairs.ends, from)
+}
+
+/// Makes the words of the first pairs by an operator.
+fn combine_pairs(pairs: &mut Pairs, count: usize, op: BinaryOp) -> Result<(), NoMemory>
+    requires lefts { count ≤ length pairs.old.lefts.items }
+    requires rights { count ≤ length pairs.old.rights.items }
+    ensures ends { pairs.new.ends.items ≡ pairs.old.ends.items }
+    ensures words { OnOk result (pairs.new.words.items ≡ zip_with (eval_of op.kind op.domain)
+        (take count pairs.old.lefts.items) (take count pairs.old.rights.items)) }
+{
+    pairs.words.resize(count, 0)?;
+    zip_words(
+        op,
+        &pairs.lefts[..count],
+        &pairs.rights[..count],
+        &mut pairs.words,
+    );
+    Ok(())
+}

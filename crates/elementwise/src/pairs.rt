@@ -1,0 +1,156 @@
+//! Positions that two sides have both, with the words of each side by side.
+ghost use Rattle.std.specs.Prelude.{◌≡◌, ℕ, ◌<◌, ◌≤◌, length, take, [], IfOk, OnOk};
+ghost use Rattle.std.specs.List.{AllPairs};
+ghost use Rattle.lanes.specs.Lists.{zip_with};
+ghost use Rattle.model.specs.Entries.{InOrder};
+ghost use Rattle.store.specs.Fibers.{entries_along};
+ghost use Rattle.elementwise.specs.Meets.{AreMet, met};
+
+use model::NoMemory;
+use std::alloc::Global;
+use store::{FiberEnd, Fibers};
+
+/// Positions that two sides have both, in memory that one search after another uses: where their fibers end,
+/// and of each its inner index, the word of each side, and the word that is made of these.
+#[derive(Drop)]
+pub(crate) struct Pairs {
+    pub(crate) ends: Vec<FiberEnd>,
+    pub(crate) inner: Vec<u64>,
+    pub(crate) lefts: Vec<u64>,
+    pub(crate) rights: Vec<u64>,
+    pub(crate) words: Vec<u64>,
+}
+
+impl Pairs {
+    /// No positions. They take no memory.
+    pub(crate) fn new(alloc: Global) -> Pairs {
+        Pairs {
+            ends: Vec::new(alloc),
+            inner: Vec::new(alloc),
+            lefts: Vec::new(alloc),
+            rights: Vec::new(alloc),
+            words: Vec::new(alloc),
+        }
+    }
+
+    /// Finds the positions that both sides have, and answers how many there are: the first of the lists.
+    pub(crate) fn find(&mut self, left: Fibers<'_>, right: Fibers<'_>) -> Result<usize, NoMemory>
+        ensures order { InOrder left.entry.entries }
+        ensures inner_room { IfOk result (λ count. count ≤ length self.new.inner.items) }
+        ensures lefts_room { IfOk result (λ count. count ≤ length self.new.lefts.items) }
+        ensures rights_room { IfOk result (λ count. count ≤ length self.new.rights.items) }
+        ensures met { IfOk result (λ count. AreMet left.entry.entries right.entry.entries count
+            self.new.ends.items self.new.inner.items self.new.lefts.items self.new.rights.items) }
+    {
+        self.make_room(left.len())?;
+        pair_fibers(
+            left,
+            right,
+            &mut self.ends,
+            &mut self.inner,
+            &mut self.lefts,
+            &mut self.rights,
+        )
+    }
+
+    /// Makes room for so many positions, and forgets where fibers end.
+    fn make_room(&mut self, count: usize) -> Result<(), NoMemory>
+        ensures ends { self.new.ends.items ≡ [] }
+        ensures inner { OnOk result (length self.new.inner.items ≡ count) }
+        ensures lefts { OnOk result (length self.new.lefts.items ≡ count) }
+        ensures rights { OnOk result (length self.new.rights.items ≡ count) }
+    {
+        self.ends.clear();
+        self.inner.resize(count, 0)?;
+        self.lefts.resize(count, 0)?;
+        self.rights.resize(count, 0)?;
+        Ok(())
+    }
+}
+
+/// Finds the positions that fibers have on both sides, one outer index after another, and answers how many
+/// there are.
+fn pair_fibers<'a>(
+    mut left: Fibers<'a>,
+    mut right: Fibers<'a>,
+    ends: &mut Vec<FiberEnd>,
+    inner: &mut [u64],
+    lefts: &mut [u64],
+    rights: &mut [u64],
+) -> Result<usize, NoMemory>
+    requires none { ends.old.items ≡ [] }
+    requires inner_room { length left.entries ≤ length inner.old }
+    requires lefts_room { length lefts.old ≡ length inner.old }
+    requires rights_room { length rights.old ≡ length inner.old }
+    ensures bound { IfOk result (λ count. count ≤ length inner.old) }
+    ensures inner_length { length inner.new ≡ length inner.old }
+    ensures lefts_length { length lefts.new ≡ length inner.old }
+    ensures rights_length { length rights.new ≡ length inner.old }
+    ensures met { IfOk result (λ count. AreMet
+        left.entry.entries right.entry.entries count ends.new.items inner.new lefts.new rights.new) }
+{
+    let mut count = 0;
+    while left.len() > 0 && right.len() > 0 {
+        let outer = left.least(&right);
+        let (a, a_words, left_rest) = left.split(outer);
+        let (b, b_words, right_rest) = right.split(outer);
+        left = left_rest;
+        right = right_rest;
+        let found = pair_fiber(
+            a,
+            a_words,
+            b,
+            b_words,
+            &mut inner[count..],
+            &mut lefts[count..],
+            &mut rights[count..],
+        );
+        count += found;
+        if found > 0 {
+            ends.push(FiberEnd { outer, end: count })?;
+        }
+    }
+    Ok(count)
+}
+
+/// Finds the inner indices that two fibers have both, and answers how many there are.
+#[inline(never)]
+fn pair_fiber(
+    left: &[u64],
+    left_words: &[u64],
+    right: &[u64],
+    right_words: &[u64],
+    inner: &mut [u64],
+    lefts: &mut [u64],
+    rights: &mut [u64],
+) -> usize
+    requires left_rises { AllPairs (λ x y. x < y) left.now }
+    requires right_rises { AllPairs (λ x y. x < y) right.now }
+    requires left_words { length left_words.now ≡ length left.now }
+    requires right_words { length right_words.now ≡ length right.now }
+    requires inner_room { length left.now ≤ length inner.old }
+    requires lefts_room { length lefts.old ≡ length inner.old }
+    requires rights_room { length rights.old ≡ length inner.old }
+    ensures bound { result ≤ length left.now }
+    ensures inner_length { length inner.new ≡ length inner.old }
+    ensures lefts_length { length lefts.new ≡ length inner.old }
+    ensures rights_length { length rights.new ≡ length inner.old }
+    ensures met { (outer : ℕ) (f : ℕ → ℕ → ℕ)
+        → entries_along outer (take result inner.new) (zip_with f (take result lefts.new) (take result rights.new))
+        ≡ met f (entries_along outer left.now left_words.now) (entries_along outer right.now right_words.now) }
+{
+    let mut i = 0;
+    let mut j = 0;
+    let mut k = 0;
+    while i < left.len() && j < right.len() {
+        // Without a branch: a place is written in any case, and kept where both indices are equal.
+        let (p, q) = (left[i], right[j]);
+        inner[k] = p;
+        lefts[k] = left_words[i];
+        rights[k] = right_words[j];
+        k += usize::from(p == q);
+        i += usize::from(p <= q);
+        j += usize::from(q <= p);
+    }
+    k
+}
