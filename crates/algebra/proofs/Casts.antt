@@ -1,5 +1,5 @@
 -- Words cast from one domain to another.
-use Rattle.std.proofs.Common.{◌≡◌, ℕ, zero, suc, ◌^◌, ◌<◌, true, refl, ap, arith}
+use Rattle.std.proofs.Common.{◌≡◌, ◌∙◌, ℕ, zero, suc, ◌^◌, ◌<◌, true, refl, sym, ap, arith}
 use Rattle.std.proofs.Math.Nat.{mod-eq_of_lt}
 use Rattle.std.proofs.lemmas.Bool.Decides.{nat_tests}
 use Rattle.std.proofs.lemmas.Int.{int_wrap_fits}
@@ -7,7 +7,7 @@ use Rattle.std.specs.Int.{cast_signed, w64, int_wrap}
 use Rattle.std.specs.Int.RustNames.{FitsSigned}
 use Rattle.std.specs.Prelude.{ℤ, pos, negsuc}
 use Rattle.algebra.proofs.Residues.{residue-lt, residue-signed, signed-residue}
-use Rattle.algebra.specs.Value.{cast_of, is_built_in, is_value_of, residue, value_of, word_of, IsWordOf}
+use Rattle.algebra.specs.Value.{are_compatible, cast_of, is_value_of, residue, value_of, word_of, IsWordOf}
 use Rattle.algebra.specs.declared.domain.Domain.{Domain}
 use Rattle.algebra.specs.declared.domain.Domain.TheVariants.{Bool, Int64, Uint64, User}
 
@@ -72,20 +72,41 @@ value_of-word_of (User k) z h = unsigned z h
 signed_zero : (word : ℕ) → word < 2 ^ 64 → value_of Bool (cast_of Int64 Bool word) ≡ value_of Bool word
 signed_zero word small = grind (arith, nat_tests)
 
--- a word stands for the same value in a built-in domain, whether it is cast there or not
-pub value_of-cast : (from to : Domain) (word : ℕ) → is_built_in from ≡ true → is_built_in to ≡ true → IsWordOf from word
+signed_truth : (word : ℕ) → word < 2 ^ 64 → cast_of Int64 Bool word ≡ cast_of Uint64 Bool word
+signed_truth word small = grind (arith, nat_tests)
+
+-- a word stands for the same value in a domain, whether it is cast there or not: an operator needs no cast before it
+pub value_of-cast : (from to : Domain) (word : ℕ) → are_compatible from to ≡ true → IsWordOf from word
     → value_of to (cast_of from to word) ≡ value_of to word
-value_of-cast Bool Bool word h g p = each_truth (λ w. value_of Bool (cast_of Bool Bool w) ≡ value_of Bool w) refl refl word p
-value_of-cast Bool Int64 word h g p = each_truth (λ w. value_of Int64 (cast_of Bool Int64 w) ≡ value_of Int64 w) refl refl word p
-value_of-cast Bool Uint64 word h g p = each_truth (λ w. value_of Uint64 (cast_of Bool Uint64 w) ≡ value_of Uint64 w) refl refl word p
-value_of-cast Int64 Bool word h g p = signed_zero word p
-value_of-cast Int64 Int64 word h g p = signed-residue word
-value_of-cast Int64 Uint64 word h g p = ap pos (residue-signed word p)
-value_of-cast Uint64 Bool word h g p = grind (arith, nat_tests)
-value_of-cast Uint64 Int64 word h g p = ap (cast_signed w64) (mod-eq_of_lt p)
-value_of-cast Uint64 Uint64 word h g p = ap pos (mod-eq_of_lt p)
-value_of-cast (User k) to word h g p = absurd (cc)
-value_of-cast _ (User k) word h g p = absurd (cc)
+value_of-cast Bool Bool word h p = each_truth (λ w. value_of Bool (cast_of Bool Bool w) ≡ value_of Bool w) refl refl word p
+value_of-cast Bool Int64 word h p = each_truth (λ w. value_of Int64 (cast_of Bool Int64 w) ≡ value_of Int64 w) refl refl word p
+value_of-cast Bool Uint64 word h p = each_truth (λ w. value_of Uint64 (cast_of Bool Uint64 w) ≡ value_of Uint64 w) refl refl word p
+value_of-cast Int64 Bool word h p = signed_zero word p
+value_of-cast Int64 Int64 word h p = signed-residue word
+value_of-cast Int64 Uint64 word h p = ap pos (residue-signed word p)
+value_of-cast Uint64 Bool word h p = grind (arith, nat_tests)
+value_of-cast Uint64 Int64 word h p = ap (cast_signed w64) (mod-eq_of_lt p)
+value_of-cast Uint64 Uint64 word h p = ap pos (mod-eq_of_lt p)
+value_of-cast (User k) (User m) word h p = ap pos (mod-eq_of_lt p)
+value_of-cast (User k) _ word h p = absurd (cc)
+value_of-cast _ (User k) word h p = absurd (cc)
+
+-- a cast to BOOL tells whether the word is 0, from whatever domain
+truth-word : (d : Domain) (word : ℕ) → word < 2 ^ 64 → cast_of d Bool word ≡ cast_of Uint64 Bool word
+truth-word Bool word small = grind (arith, nat_tests)
+truth-word Int64 word small = signed_truth word small
+truth-word Uint64 word small = refl
+truth-word (User k) word small = refl
+
+-- a cast to BOOL by way of another domain is the cast to BOOL
+pub truth-cast : (from to : Domain) (word : ℕ) → IsWordOf from word → cast_of from Bool word ≡ cast_of to Bool word
+truth-cast from to word p =
+    let small = IsWordOf-lt from word p in truth-word from word small ∙ sym (truth-word to word small)
+
+-- a cast to a domain is the same, whatever domain it was held to be of
+pub own-cast : (from to : Domain) (word : ℕ) → are_compatible from to ≡ true → IsWordOf from word → cast_of from to word ≡ cast_of to to word
+own-cast from to word h p =
+    sym (cast_own to (cast_of from to word) (IsWordOf-cast from to word)) ∙ ap (word_of to) (value_of-cast from to word h p)
 
 -- a word of 64 bits stands for the same value after a cast to its own domain
 pub value_of-cast_own : (d : Domain) (word : ℕ) → word < 2 ^ 64 → value_of d (cast_of d d word) ≡ value_of d word

@@ -1,6 +1,6 @@
 //! Functions of one value and its position (the operators that `GrB_apply` takes).
 ghost use Rattle.std.specs.Prelude.{◌≡◌, MatchOption, true, false};
-ghost use Rattle.algebra.specs.Functions.{function_answer, function_named, function_of, has_value};
+ghost use Rattle.algebra.specs.Functions.{function_answer, function_domain, function_named, function_of, has_value};
 ghost use Rattle.algebra.specs.Functions.{offers_function, takes};
 
 use crate::{BinaryOp, Domain, IndexName, IndexOp, OpName, UnaryName, UnaryOp, compatible};
@@ -28,6 +28,18 @@ impl FunctionName {
             FunctionName::First { op, .. } => op.is_offered(),
             FunctionName::Second { op, .. } => op.is_offered(),
             FunctionName::Index { op, .. } => op.is_offered(),
+        }
+    }
+
+    /// The domain of the values that it takes.
+    pub const fn domain(self) -> Domain
+        ensures { result ≡ function_domain self }
+    {
+        match self {
+            FunctionName::Unary(op) => op.domain,
+            FunctionName::First { op, .. } => op.domain,
+            FunctionName::Second { op, .. } => op.domain,
+            FunctionName::Index { op, .. } => op.domain,
         }
     }
 
@@ -104,6 +116,18 @@ pub enum Function {
 }
 
 impl Function {
+    /// The domain of its answers.
+    pub const fn answer(self) -> Domain
+        ensures { result ≡ function_answer (function_named self) }
+    {
+        match self {
+            Function::Unary(op) => op.domain,
+            Function::First { op, .. } => op.answer(),
+            Function::Second { op, .. } => op.answer(),
+            Function::Index { op, .. } => op.answer(),
+        }
+    }
+
     /// What it gives for a word of its domain at row `i` and column `j`.
     pub fn eval(self, word: u64, i: u64, j: u64) -> u64
         ensures { result ≡ function_of (function_named self) i j word }

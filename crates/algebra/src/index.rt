@@ -39,7 +39,11 @@ impl IndexKind {
     pub const fn scalar(self, domain: Domain) -> Domain
         ensures { result ≡ scalar_domain self domain }
     {
-        if self.is_by_position() { Domain::Int64 } else { domain }
+        if self.is_by_position() {
+            Domain::Int64
+        } else {
+            domain
+        }
     }
 
     /// The domain of the answer: INT64 for ROWINDEX, COLINDEX and DIAGINDEX, else BOOL.

@@ -4,7 +4,7 @@ use Rattle.std.specs.List.{list_all}
 use Rattle.std.proofs.lemmas.Bool.{true≢false}
 use Rattle.model.specs.declared.call.Call.TheVariants.{Operate}
 use Rattle.model.specs.declared.call.Operation.{Operation}
-use Rattle.model.specs.declared.call.Operation.TheVariants.{Multiply}
+use Rattle.model.specs.declared.call.Operation.TheVariants.{OfOne, OfTwo}
 use Rattle.model.specs.declared.call.Out.{Out}
 use Rattle.model.specs.declared.shape.Signature.{Signature}
 use Rattle.model.specs.declared.status.Status.TheVariants as status
@@ -39,10 +39,13 @@ fault-no_input count out operation h = missing count out operation (nor {L = Sig
 fault-some : (count : ℕ) (out : Out Signature) (operation : Operation Signature)
     → early_fault count (Operate (renamed_out Some out) (renamed_operation Some operation)) ≡ operation_fault out operation
 unfolding early_fault operation_fault
-fault-some count out (Multiply form ring a b) =
-    elim out.mask as (λ (mask : Option Signature). let o : Out Signature = record out { mask = mask } in
-    early_fault count (Operate (renamed_out Some o) (renamed_operation Some (Multiply form ring a b))) ≡ operation_fault o (Multiply form ring a b))
-    [ None ↦ refl | Some m ↦ refl ]
+fault-some count out operation =
+    let P : Option Signature → Operation Signature → Type 0 = λ mask operation. let o : Out Signature = record out { mask = mask } in
+    early_fault count (Operate (renamed_out Some o) (renamed_operation Some operation)) ≡ operation_fault o operation in
+    elim operation as (P out.mask) [
+      | OfOne computes a ↦ elim out.mask as (λ mask. P mask (OfOne computes a)) [ None ↦ refl | Some m ↦ refl ]
+      | OfTwo computes a b ↦ elim out.mask as (λ mask. P mask (OfTwo computes a b)) [ None ↦ refl | Some m ↦ refl ]
+    ]
 
 pub fault-known : (count : ℕ) (known_out : Out Signature) (known : Operation Signature) (out : Out (Option Signature)) (operation : Operation (Option Signature))
     → renamed_out Some known_out ≡ out → renamed_operation Some known ≡ operation

@@ -9,7 +9,7 @@ use Rattle.calls.specs.Recipes.{IsRecipeOf, meaning}
 use Rattle.calls.specs.Roles.{operation_by_role, out_by_role, role_of, roles_of}
 use Rattle.calls.specs.Steps.{called}
 use Rattle.model.specs.declared.call.Operation.{Operation}
-use Rattle.model.specs.declared.call.Operation.TheVariants.{Multiply}
+use Rattle.model.specs.declared.call.Operation.TheVariants.{OfOne, OfTwo}
 use Rattle.model.specs.declared.call.Out.{Out}
 use Rattle.model.specs.declared.shape.Signature.{Signature}
 use Rattle.model.specs.declared.status.Status.{Status}
@@ -23,12 +23,16 @@ mask_by_role c None = refl
 mask_by_role c (Some m) = refl
 
 pub out_taken : {K : Type 0} (out : Out K) (operation : Operation K) → renamed_out (role_of (roles_of out operation)) (out_by_role out) ≡ out
-out_taken {K = K} out (Multiply form ring a b) =
-    elim out.mask as (λ (mask : Option K). let o : Out K = record out { mask = mask } in renamed_out (role_of (roles_of o (Multiply form ring a b))) (out_by_role o) ≡ o)
+out_taken {K = K} out (OfOne computes a) =
+    elim out.mask as (λ (mask : Option K). let o : Out K = record out { mask = mask } in renamed_out (role_of (roles_of o (OfOne computes a))) (out_by_role o) ≡ o)
+    [ None ↦ refl | Some m ↦ refl ]
+out_taken {K = K} out (OfTwo computes a b) =
+    elim out.mask as (λ (mask : Option K). let o : Out K = record out { mask = mask } in renamed_out (role_of (roles_of o (OfTwo computes a b))) (out_by_role o) ≡ o)
     [ None ↦ refl | Some m ↦ refl ]
 
 pub operation_taken : {K : Type 0} (out : Out K) (operation : Operation K) → renamed_operation (role_of (roles_of out operation)) (operation_by_role operation) ≡ operation
-operation_taken out (Multiply form ring a b) = refl
+operation_taken out (OfOne computes a) = refl
+operation_taken out (OfTwo computes a b) = refl
 
 -- what is known of the object of a role, along a way from one kind of name to another
 taken_mask : {K L : Type 0} (f : K → L) (c : K) (mask : Option K) → unwrap_or (option_map f mask) (f c) ≡ f (unwrap_or mask c)
@@ -36,10 +40,14 @@ taken_mask f c None = refl
 taken_mask f c (Some m) = refl
 
 role_renamed : {K L : Type 0} (f : K → L) (out : Out K) (operation : Operation K) (role : Role) → role_of (roles_of (renamed_out f out) (renamed_operation f operation)) role ≡ f (role_of (roles_of out operation) role)
-role_renamed f out (Multiply form ring a b) Old = refl
-role_renamed f out (Multiply form ring a b) Mask = taken_mask f out.c out.mask
-role_renamed f out (Multiply form ring a b) First = refl
-role_renamed f out (Multiply form ring a b) Second = refl
+role_renamed f out (OfOne computes a) Old = refl
+role_renamed f out (OfOne computes a) Mask = taken_mask f out.c out.mask
+role_renamed f out (OfOne computes a) First = refl
+role_renamed f out (OfOne computes a) Second = refl
+role_renamed f out (OfTwo computes a b) Old = refl
+role_renamed f out (OfTwo computes a b) Mask = taken_mask f out.c out.mask
+role_renamed f out (OfTwo computes a b) First = refl
+role_renamed f out (OfTwo computes a b) Second = refl
 
 pub role_known : {K L : Type 0} (known : K → Option L) (out : Out K) (operation : Operation K) (known_out : Out L) (known_operation : Operation L)
     → renamed_out Some known_out ≡ renamed_out known out → renamed_operation Some known_operation ≡ renamed_operation known operation
@@ -60,7 +68,8 @@ out_by_role-renamed : {K L : Type 0} (f : K → L) (out : Out K) → out_by_role
 out_by_role-renamed f out = ap (λ (mask : Option Role). let o : Out Role = record { c = Old; mask = mask; accum = out.accum; desc = out.desc } in o) (mask_roles f out.mask)
 
 operation_by_role-renamed : {K L : Type 0} (f : K → L) (operation : Operation K) → operation_by_role (renamed_operation f operation) ≡ operation_by_role operation
-operation_by_role-renamed f (Multiply form ring a b) = refl
+operation_by_role-renamed f (OfOne computes a) = refl
+operation_by_role-renamed f (OfTwo computes a b) = refl
 
 -- the recipe of what is known of an operation's objects is the operation's
 pub recipe_along : {K : Type 0} (known : K → Option Signature) (out : Out K) (operation : Operation K) (known_out : Out Signature) (known_operation : Operation Signature) (recipe : Recipe)
@@ -83,12 +92,16 @@ if_recipe (Err status) fault known out operation known_out known_operation same_
 -- ---- what recipes mean
 
 out_along : {K M : Type 0} (g : K → M) (out : Out K) (operation : Operation K) → renamed_out (λ role. g (role_of (roles_of out operation) role)) (out_by_role out) ≡ renamed_out g out
-out_along {K = K} g out (Multiply form ring a b) =
-    elim out.mask as (λ (mask : Option K). let o : Out K = record out { mask = mask } in renamed_out (λ role. g (role_of (roles_of o (Multiply form ring a b)) role)) (out_by_role o) ≡ renamed_out g o)
+out_along {K = K} g out (OfOne computes a) =
+    elim out.mask as (λ (mask : Option K). let o : Out K = record out { mask = mask } in renamed_out (λ role. g (role_of (roles_of o (OfOne computes a)) role)) (out_by_role o) ≡ renamed_out g o)
+    [ None ↦ refl | Some m ↦ refl ]
+out_along {K = K} g out (OfTwo computes a b) =
+    elim out.mask as (λ (mask : Option K). let o : Out K = record out { mask = mask } in renamed_out (λ role. g (role_of (roles_of o (OfTwo computes a b)) role)) (out_by_role o) ≡ renamed_out g o)
     [ None ↦ refl | Some m ↦ refl ]
 
 operation_along : {K M : Type 0} (g : K → M) (out : Out K) (operation : Operation K) → renamed_operation (λ role. g (role_of (roles_of out operation) role)) (operation_by_role operation) ≡ renamed_operation g operation
-operation_along g out (Multiply form ring a b) = refl
+operation_along g out (OfOne computes a) = refl
+operation_along g out (OfTwo computes a b) = refl
 
 -- a recipe means of an operation's objects what the operation leaves
 pub meaning_along : {K : Type 0} (known : K → Option Signature) (out : Out K) (operation : Operation K) (recipe : Recipe) (taken : Role → Object) (object : K → Object)

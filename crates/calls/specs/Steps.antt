@@ -1,9 +1,28 @@
 -- Operations with their operators, by their names.
-use Rattle.algebra.specs.OperatorNames.{ring_named}
+use Rattle.algebra.specs.Functions.{function_named}
+use Rattle.algebra.specs.OperatorNames.{index_named, monoid_named, op_named, ring_named}
+use Rattle.calls.specs.declared.role.Role.{Role}
+use Rattle.calls.specs.declared.role.Role.TheVariants as role
 use Rattle.calls.specs.declared.step.Step.{Step}
+use Rattle.calls.specs.declared.step.Step.TheVariants.{Multiply, Combine, Apply, Select, ReduceRows}
+use Rattle.model.specs.declared.call.OneInput.{OneInput}
+use Rattle.model.specs.declared.call.OneInput.TheVariants as one
 use Rattle.model.specs.declared.call.Operation.{Operation}
-use Rattle.model.specs.declared.call.Operation.TheVariants as operation
+use Rattle.model.specs.declared.call.Operation.TheVariants.{OfOne, OfTwo}
+use Rattle.model.specs.declared.call.TwoInputs.{TwoInputs}
+use Rattle.model.specs.declared.call.TwoInputs.TheVariants as two
+
+-- an operation of the objects in the roles of its inputs
+abbrev pub called_of_one : OneInput → Operation Role
+called_of_one computes = OfOne computes role.First
+
+abbrev pub called_of_two : TwoInputs → Operation Role
+called_of_two computes = OfTwo computes role.First role.Second
 
 -- the operation whose operators were found
-abbrev pub called : {K : Type 0} → Step K → Operation K
-called step = operation.Multiply step.form (ring_named step.ring) step.a step.b
+abbrev pub called : Step → Operation Role
+called (Multiply form ring) = called_of_two (two.Multiply form (ring_named ring))
+called (Combine positions op) = called_of_two (two.Combine positions (op_named op))
+called (Apply function) = called_of_one (one.Apply (function_named function))
+called (Select op scalar) = called_of_one (one.Select (index_named op) scalar)
+called (ReduceRows monoid) = called_of_one (one.ReduceRows (monoid_named monoid))

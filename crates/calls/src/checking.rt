@@ -8,7 +8,7 @@ ghost use Rattle.model.specs.Renamed.{inputs_of, outputs_of, renamed_operation, 
 use crate::obj::{Obj, Shapes};
 use crate::operation::recipe_of;
 use crate::recipe::Recipe;
-use algebra::Domain;
+use algebra::{Domain, MonoidName, compatible};
 use model::{Call, MOST_OBJECTS, Operation, Out, Place, Shape, Signature, Status};
 
 /// What was found of an accepted call.
@@ -38,6 +38,7 @@ pub fn check<N, S: Shapes>(call: &Call<Obj, N>, shapes: &S) -> Result<Checked, S
         Call::Remove { object, place } | Call::Get { object, place } => {
             check_place(shapes, *object, *place)?;
         }
+        Call::Reduce { object, monoid } => check_reduce(shapes, *object, *monoid)?,
         Call::Free { object }
         | Call::Clear { object }
         | Call::Nvals { object }
@@ -121,6 +122,22 @@ fn check_there<S: Shapes>(shapes: &S, object: Obj) -> Result<(), Status>
     }
 }
 
+#[tactic(auto, unfolding(model::specs::Fault::early_fault))]
+fn check_reduce<S: Shapes>(shapes: &S, object: Obj, monoid: MonoidName) -> Result<(), Status>
+    ensures { Decides (early_fault (S.count shapes.now) (Call.Reduce (S.known shapes.now object) monoid)) result }
+{
+    let Some(Signature { domain, .. }) = signature(shapes, object) else {
+        return Err(Status::UninitializedObject);
+    };
+    if !monoid.is_offered() {
+        return Err(Status::NotImplemented);
+    }
+    if !compatible(domain, monoid.domain) {
+        return Err(Status::DomainMismatch);
+    }
+    Ok(())
+}
+
 /// The recipe of an operation on objects by number.
 #[tactic(auto, using(crate::proofs::Founds::founds))]
 fn check_operate<S: Shapes>(
@@ -169,10 +186,14 @@ fn known_operation<S: Shapes>(
         MatchOption result (IsMissing (inputs_of found)) (λ known. renamed_operation Some known ≡ found) }
 {
     match *operation {
-        Operation::Multiply { form, ring, a, b } => {
+        Operation::OfOne { computes, a } => {
+            let a = signature(shapes, a)?;
+            Some(Operation::OfOne { computes, a })
+        }
+        Operation::OfTwo { computes, a, b } => {
             let a = signature(shapes, a)?;
             let b = signature(shapes, b)?;
-            Some(Operation::Multiply { form, ring, a, b })
+            Some(Operation::OfTwo { computes, a, b })
         }
     }
 }

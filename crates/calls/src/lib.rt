@@ -10,7 +10,9 @@ mod role;
 mod step;
 
 pub use checking::{Checked, check};
-pub use model::{Call, Desc, Form, Operation, Out, Place, Shape, Signature};
+pub use model::{
+    Call, Desc, Form, OneInput, Operation, Out, Place, Positions, Shape, Signature, TwoInputs,
+};
 pub use obj::{Obj, Shapes};
 pub use recipe::Recipe;
 pub use role::{Role, Roles, by_role};

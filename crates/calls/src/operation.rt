@@ -9,7 +9,7 @@ ghost use Rattle.model.specs.Object.{same_kind, same_shape};
 
 use crate::plan::plan;
 use crate::recipe::Recipe;
-use crate::role::{Role, by_role, out_by_role};
+use crate::role::{by_role, out_by_role};
 use crate::step::{Step, resolved};
 use algebra::{Domain, OpName, compatible};
 use model::{Operation, Out, Signature, Status};
@@ -62,7 +62,7 @@ fn mask_serves(out: &Out<Signature>) -> bool
 pub(crate) fn check_operation(
     out: &Out<Signature>,
     operation: &Operation<Signature>,
-) -> Result<Step<Role>, Status>
+) -> Result<Step, Status>
     ensures { MatchResult result
         (λ step. (operation_fault out.now operation.now ≡ None) × (called step ≡ operation_by_role operation.now))
         (λ status. operation_fault out.now operation.now ≡ Some status) }
@@ -86,7 +86,7 @@ pub(crate) fn check_operation(
 }
 
 /// An operation by roles, where its operators and its accumulator are offered, and its flags have come.
-fn implemented(out: &Out<Signature>, operation: &Operation<Signature>) -> Option<Step<Role>>
+fn implemented(out: &Out<Signature>, operation: &Operation<Signature>) -> Option<Step>
     ensures { MatchOption result (is_implemented out.now operation.now ≡ false)
         (λ step. (is_implemented out.now operation.now ≡ true) × (called step ≡ operation_by_role operation.now)) }
 {

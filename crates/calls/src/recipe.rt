@@ -14,7 +14,7 @@ use model::{Out, Signature};
 #[derive(Clone, Copy)]
 pub struct Recipe {
     pub out: Out<Role>,
-    pub step: Step<Role>,
+    pub step: Step,
     pub signatures: Roles<Signature>,
     pub ghost accepted: { operation_fault (renamed_out (role_of signatures) out)
         (renamed_operation (role_of signatures) (called step)) ≡ None },

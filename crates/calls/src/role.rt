@@ -45,7 +45,13 @@ pub fn by_role<K: Copy>(out: &Out<K>, operation: &Operation<K>) -> Roles<K>
     let old = out.c;
     let mask = out.mask.unwrap_or(old);
     match *operation {
-        Operation::Multiply { a, b, .. } => Roles {
+        Operation::OfOne { a, .. } => Roles {
+            old,
+            mask,
+            first: a,
+            second: a,
+        },
+        Operation::OfTwo { a, b, .. } => Roles {
             old,
             mask,
             first: a,

@@ -1,25 +1,15 @@
--- Factors whose shapes fit, and products of stores in other domains.
-use Rattle.std.proofs.Common.{◌≡◌, ◌∙◌, ℕ, not, true, Some, refl, sym}
+-- Factors whose shapes fit.
+use Rattle.std.proofs.Common.{◌≡◌, ◌∙◌, not, true, sym}
 use Rattle.std.proofs.lemmas.Bool.{and_parts}
-use Rattle.algebra.specs.declared.domain.Domain.{Domain}
-use Rattle.algebra.specs.declared.operator_names.RingName.{RingName}
-use Rattle.algebra.specs.declared.semiring.Semiring.{Semiring}
-use Rattle.algebra.specs.OperatorNames.{ring_named}
-use Rattle.algebra.specs.Operators.{combines_by, offers}
-use Rattle.algebra.specs.Value.{IsWordOf}
-use Rattle.kernel.specs.Casts.{IsCastOf}
 use Rattle.kernel.specs.Factors.{AreFactors, cols_of_product, inner_of, rows_of_product}
 use Rattle.model.specs.declared.call.Form.{Form}
 use Rattle.model.specs.declared.call.Form.TheVariants.{MatrixMatrix, MatrixVector, VectorMatrix}
 use Rattle.model.specs.declared.shape.Shape.{Shape}
 use Rattle.model.specs.declared.shape.Shape.TheVariants.{One, Two}
-use Rattle.model.specs.Object.{Content, cast_content, cols_of, is_matrix, rows_of, same_shape, turned_content}
-use Rattle.model.specs.Operations.{multiplied}
-use Rattle.model.specs.Product.{product, sum_domain}
+use Rattle.model.specs.Object.{cols_of, is_matrix, rows_of, same_shape}
 use Rattle.model.specs.Table.{are_factors, inner_size, product_shape}
 use Rattle.model.proofs.ObjectLaws.{same_shape-rows, vector-column}
-use Rattle.model.proofs.ProductLaws.{product-words}
-use Rattle.store.specs.Stored.{Stored, content_of}
+use Rattle.store.specs.Stored.{Stored}
 
 -- ---- shapes
 
@@ -62,38 +52,3 @@ pub inner-shaped : (form : Form) (a : Stored) (shape : Shape) → IsShaped a sha
 inner-shaped MatrixMatrix a shape is = is.cols
 inner-shaped MatrixVector a shape is = is.cols
 inner-shaped VectorMatrix a shape is = is.rows
-
--- ---- stores that were cast
-
-pub multiplied-cast : (form : Form) (ring : RingName) (first second to : Domain) (a b cast_a cast_b : Stored) → IsCastOf first to a cast_a → IsCastOf second to b cast_b
-    → (i j : ℕ) → multiplied form ring (inner_of form cast_a) (content_of cast_a) (content_of cast_b) i j
-    ≡ multiplied form ring (inner_of form a) (cast_content first to (content_of a)) (cast_content second to (content_of b)) i j
-multiplied-cast MatrixMatrix ring first second to a b cast_a cast_b is_a is_b i j =
-    λ t. product ring (is_a.cols t) (λ p q. is_a.content p q t) (λ p q. is_b.content p q t) i j
-multiplied-cast MatrixVector ring first second to a b cast_a cast_b is_a is_b i j =
-    λ t. product ring (is_a.cols t) (λ p q. is_a.content p q t) (λ p q. is_b.content p q t) i j
-multiplied-cast VectorMatrix ring first second to a b cast_a cast_b is_a is_b i j =
-    λ t. product ring (is_a.rows t) (λ p q. is_a.content q p t) (λ p q. is_b.content p q t) j i
-
-cast-factors : (form : Form) (first second to : Domain) (a b cast_a cast_b : Stored) → IsCastOf first to a cast_a → IsCastOf second to b cast_b → AreFactors form a b → AreFactors form cast_a cast_b
-cast-factors MatrixMatrix first second to a b cast_a cast_b is_a is_b are = record { first = tt; inner = is_a.cols ∙ are.inner ∙ sym is_b.rows }
-cast-factors MatrixVector first second to a b cast_a cast_b is_a is_b are = record { first = tt; inner = is_a.cols ∙ are.inner ∙ sym is_b.rows }
-cast-factors VectorMatrix first second to a b cast_a cast_b is_a is_b are = record { first = is_a.cols ∙ are.first; inner = is_a.rows ∙ are.inner ∙ sym is_b.rows }
-
-pub cols-cast : (form : Form) (second to : Domain) (b cast_b : Stored) → IsCastOf second to b cast_b → cols_of_product form cast_b ≡ cols_of_product form b
-cols-cast MatrixMatrix second to b cast_b is = is.cols
-cols-cast MatrixVector second to b cast_b is = is.cols
-cols-cast VectorMatrix second to b cast_b is = refl
-
--- ---- sums
-
--- the sums of a semiring's products are words of its monoid's domain
-sums_are_words : (ring : Semiring) (n : ℕ) (a b : Content) (i j word : ℕ) → product (ring_named ring) n a b i j ≡ Some word → IsWordOf ring.add.op.domain word
-sums_are_words ring n a b i j word is =
-    let offered : offers (combines_by ring.add.kind) (sum_domain (ring_named ring)) ≡ true = rw (← ring.add.combines, ← ring.adds_answers) ring.add.op.offered in
-    rw ring.adds_answers (product-words (ring_named ring) n a b offered i j word is)
-
-pub multiplied-words : (form : Form) (ring : Semiring) (n : ℕ) (a b : Content) (i j word : ℕ) → multiplied form (ring_named ring) n a b i j ≡ Some word → IsWordOf ring.add.op.domain word
-multiplied-words MatrixMatrix ring n a b i j word is = sums_are_words ring n a b i j word is
-multiplied-words MatrixVector ring n a b i j word is = sums_are_words ring n a b i j word is
-multiplied-words VectorMatrix ring n a b i j word is = sums_are_words ring n (turned_content a) b j i word is

@@ -1,6 +1,7 @@
--- Blocks of rows of products.
-use Rattle.std.specs.Prelude.{ℕ, ◌≡◌, ◌<◌, ◌≤◌, IfSome}
+-- Blocks of rows of what operations compute.
+use Rattle.std.specs.Prelude.{ℕ, ◌≡◌, ◌<◌, ◌≤◌, IfSome, true}
 use Rattle.masks.specs.declared.view.MaskView.{MaskView}
+use Rattle.masks.specs.Masks.{lets_through}
 use Rattle.model.specs.Object.{Content}
 use Rattle.store.specs.Stored.{Block, block_content}
 
@@ -14,3 +15,10 @@ pub record HasRows (first past cols : ℕ) (c : Content) (block : Block) : Type 
   pub past_is : block.past ≡ past
   pub cols_are : block.cols ≡ cols
   pub words : (i j : ℕ) → first ≤ i → i < past → block_content block i j ≡ c i j
+
+-- ..of which only the positions count that a mask lets through
+pub record AgreesUnder (mask : MaskView) (first past cols : ℕ) (c : Content) (block : Block) : Type 0 where
+  pub first_is : block.first ≡ first
+  pub past_is : block.past ≡ past
+  pub cols_are : block.cols ≡ cols
+  pub words : (i j : ℕ) → first ≤ i → i < past → lets_through mask i j ≡ true → block_content block i j ≡ c i j

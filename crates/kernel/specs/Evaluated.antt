@@ -1,14 +1,15 @@
 -- What a recipe is evaluated on.
 use Rattle.std.specs.Prelude.{◌≡◌}
-use Rattle.algebra.specs.OperatorNames.{ring_named}
 use Rattle.calls.specs.declared.recipe.Recipe.{Recipe}
 use Rattle.calls.specs.declared.role.Role.{Role}
 use Rattle.calls.specs.Roles.{role_of}
+use Rattle.calls.specs.Steps.{called}
+use Rattle.model.specs.declared.call.Plan.{Plan}
 use Rattle.model.specs.declared.shape.Signature.{Signature}
-use Rattle.model.specs.Object.{Content, IsObject, Object, cast_content, cols_of, in_domain, rows_of}
-use Rattle.model.specs.Operations.{multiplied}
-use Rattle.model.specs.Product.{sum_domain}
-use Rattle.model.specs.Table.{inner_size}
+use Rattle.model.specs.Object.{Content, IsObject, Object, cast_content, cols_of, rows_of}
+use Rattle.model.specs.Operations.{operation}
+use Rattle.model.specs.Renamed.{renamed_operation}
+use Rattle.model.specs.Table.{plan_of}
 use Rattle.store.specs.Stored.{Stored, content_of}
 
 -- what the recipe names of its output
@@ -29,11 +30,14 @@ pub record AreInputs (recipe : Recipe) (stored : Role → Stored) : Type 0 where
   pub cols : (role : Role) → (stored role).cols ≡ cols_of (role_of recipe.signatures role).shape
   pub objects : (role : Role) → IsObject (object_in recipe stored role)
 
--- what a recipe's operation computes of its objects, in the output's domain
+-- what the table says of a recipe's operation
+abbrev pub plan_in : Recipe → Plan
+plan_in recipe = plan_of (renamed_operation (role_of recipe.signatures) (called recipe.step))
+
+-- what a recipe's operation computes of its objects
 abbrev pub computed : Recipe → (Role → Object) → Content
-computed recipe object =
-    let ring = ring_named recipe.step.ring in
-    let a = object recipe.step.a in
-    cast_content (sum_domain ring) (output_of recipe).domain
-    (multiplied recipe.step.form ring (inner_size recipe.step.form a.shape) (in_domain ring.domain a)
-    (in_domain ring.domain (object recipe.step.b)))
+computed recipe object = operation (renamed_operation object (called recipe.step))
+
+-- ..in the output's domain
+abbrev pub computed_in : Recipe → (Role → Object) → Content
+computed_in recipe object = cast_content (plan_in recipe).domain (output_of recipe).domain (computed recipe object)

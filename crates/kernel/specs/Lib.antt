@@ -1,4 +1,3 @@
 pub mod Blocks
-pub mod Casts
 pub mod Evaluated
 pub mod Factors

@@ -1,7 +1,7 @@
 //! What recipes give: blocks of rows of an operation's result, and the store that they join to.
 #![tactic(auto)]
 
-mod casts;
+mod computing;
 mod output;
 mod piece;
 mod product;

@@ -2,57 +2,18 @@
 ghost use Rattle.std.specs.Prelude.{◌≡◌, ℕ, ◌<◌, ◌≤◌, IfOk};
 ghost use Rattle.calls.specs.Recipes.{meaning};
 ghost use Rattle.calls.specs.Roles.{role_of};
-ghost use Rattle.kernel.specs.Blocks.{HasRows, HasShape};
-ghost use Rattle.kernel.specs.Evaluated.{AreInputs, computed, object_in, output_of};
-ghost use Rattle.masks.specs.Writes.{inside_of};
+ghost use Rattle.kernel.specs.Evaluated.{AreInputs, object_in, output_of};
 ghost use Rattle.model.specs.Object.{IsWithin, cols_of, rows_of};
 ghost use Rattle.store.specs.Stored.{block_content, content_of};
 
+use crate::computing::computed_rows;
 use crate::output::{accumulator_of, mask_of};
-use crate::product::{Factors, Input, product_rows};
-use calls::{Recipe, Role, Roles};
-use masks::{MaskView, write_back};
+use calls::{Recipe, Roles};
+use masks::write_back;
 use model::NoMemory;
 use std::alloc::Global;
 use std::ops::Range;
 use store::{RowBlock, Store};
-
-/// The store of a role, with the domain that the recipe names for it.
-fn input<'a>(recipe: &Recipe, stores: &Roles<&'a Store>, role: Role) -> Input<'a>
-    ensures store { result.store.now ≡ (role_of stores.now role).now }
-    ensures domain { result.domain ≡ (role_of recipe.now.signatures role).domain }
-{
-    Input {
-        store: stores.of(role),
-        domain: recipe.signatures.of(role).domain,
-    }
-}
-
-/// The rows in a range of what a recipe's operation computes, in the output's domain, at the positions
-/// that a mask lets through.
-fn computed_rows(
-    alloc: Global,
-    recipe: &Recipe,
-    stores: &Roles<&Store>,
-    mask: MaskView<'_>,
-    range: Range<u64>,
-) -> Result<RowBlock, NoMemory>
-    requires inputs { AreInputs recipe.now (λ role. (role_of stores.now role).now) }
-    requires range { range.start ≤ range.end }
-    requires rows { range.end ≤ rows_of (output_of recipe.now).shape }
-    requires mask { HasShape (rows_of (output_of recipe.now).shape) (cols_of (output_of recipe.now).shape) mask }
-    ensures { IfOk result (HasRows range.start range.end (cols_of (output_of recipe.now).shape)
-        (inside_of mask.entry (computed recipe.now (object_in recipe.now (λ role. (role_of stores.now role).now))))) }
-{
-    let to = recipe.signatures.of(recipe.out.c).domain;
-    let factors = Factors {
-        form: recipe.step.form,
-        ring: recipe.step.ring,
-        a: input(recipe, stores, recipe.step.a),
-        b: input(recipe, stores, recipe.step.b),
-    };
-    product_rows(alloc, factors, mask, to, range)
-}
 
 /// The rows in a range of what a recipe gives of the stores that take its roles: its operation's
 /// result, accumulated, masked and written back. Its time and memory are those of the operation on

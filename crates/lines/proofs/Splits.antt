@@ -2,7 +2,7 @@
 use Rattle.std.proofs.Common.{◌≡◌, ℕ, ◌+◌, ◌≤◌, Bool, List, [], ◌∷◌, length, take, drop, Some, None, arith, nat_lt, ◌==◌, false, refl, inl, inr, ltb-false}
 use Rattle.std.proofs.lemmas.Bool.Decides.{nat_tests}
 use Rattle.std.specs.List.{position, position_or_len, slice_split, count_by}
-use Rattle.model.specs.Grammar.{ring_name_of, op_name_of}
+use Rattle.model.specs.Grammar.{ring_name_of, dotted_of}
 use Rattle.std.proofs.lemmas.Bool.{ltb-true, cases_Bool}
 use Rattle.std.proofs.lemmas.Option.{cond_some}
 use Rattle.std.proofs.lemmas.List.Splits.{slice_split_first, slice_split_none, length-slice_split}
@@ -33,13 +33,13 @@ ring_name_of-four_parts word rest last others first second third e f g =
     let four : (length (slice_split (λ b. b == 46) word) == 3) ≡ false = rw (e, f, g) (grind (arith, nat_tests)) in
     rw four refl
 
--- a word of three parts or more names no operator
-pub op_name_of-three_parts : (word rest others first second : List ℕ)
+-- a word of three parts or more is no name and domain
+pub dotted_of-three_parts : (word rest others first second : List ℕ)
     → slice_split (λ b. b == 46) word ≡ first ∷ slice_split (λ b. b == 46) rest
     → slice_split (λ b. b == 46) rest ≡ second ∷ slice_split (λ b. b == 46) others
-    → op_name_of word ≡ None
-unfolding op_name_of
-op_name_of-three_parts word rest others first second e f =
+    → dotted_of word ≡ None
+unfolding dotted_of
+dotted_of-three_parts word rest others first second e f =
     let count : length (slice_split (λ b. b == 46) others) ≡ count_by (λ b. b == 46) others + 1 = length-slice_split (λ b. b == 46) others in
     let three : (length (slice_split (λ b. b == 46) word) == 2) ≡ false = rw (e, f) (grind (arith, nat_tests)) in
     rw three refl

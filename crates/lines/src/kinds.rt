@@ -1,10 +1,15 @@
 //! Words with parts: the names of operators and semirings, and flags.
 ghost use Rattle.std.specs.Prelude.{◌≡◌, ◌==◌, ◌∷◌, [], ◌<◌, length, IfSome, MatchOption};
 ghost use Rattle.std.specs.List.{position, slice_split};
-ghost use Rattle.model.specs.Grammar.{desc_of, flag_added, flags_added, flags_of, op_name_of, ring_name_of};
+ghost use Rattle.std.specs.Option.{option_map};
+ghost use Rattle.model.specs.Grammar.{by_position_of, by_value_of, desc_of, dotted_of, flag_added, flags_added};
+ghost use Rattle.model.specs.Grammar.{flags_of, index_name_of, monoid_name_of, op_name_of, ring_name_of, unary_name_of};
 
 use crate::words;
-use algebra::{BinaryKind, MonoidKind, OpName, RingName};
+use algebra::{
+    BinaryKind, Domain, IndexKind, IndexName, MonoidKind, MonoidName, OpName, RingName, UnaryKind,
+    UnaryName,
+};
 use model::Desc;
 
 /// Where a byte first is in a word.
@@ -46,18 +51,84 @@ pub fn ring_name(word: &[u8]) -> Option<RingName>
     })
 }
 
-/// A word that names an operator: a kind and a domain, with a point between them.
+/// A name and a domain, with a point between them.
+#[tactic(auto, unfolding(model::specs::Grammar::dotted_of))]
+fn dotted(word: &[u8]) -> Option<(&[u8], Domain)>
+    ensures { option_map (λ parts. (parts.0.now, parts.1)) result ≡ dotted_of word.now }
+{
+    let (name, domain) = cut(b'.', word)?;
+    if let Some(_) = cut(b'.', domain) {
+        return None;
+    }
+    Some((name, words::domain(domain)?))
+}
+
+/// A word that names a binary operator.
 #[tactic(auto, unfolding(model::specs::Grammar::op_name_of))]
 pub fn op_name(word: &[u8]) -> Option<OpName>
     ensures { result ≡ op_name_of word.now }
 {
-    let (kind, domain) = cut(b'.', word)?;
-    if let Some(_) = cut(b'.', domain) {
+    let (name, domain) = dotted(word)?;
+    let kind = BinaryKind::from_name(name)?;
+    Some(OpName { kind, domain })
+}
+
+/// A word that names a unary operator.
+#[tactic(auto, unfolding(model::specs::Grammar::unary_name_of))]
+pub fn unary_name(word: &[u8]) -> Option<UnaryName>
+    ensures { result ≡ unary_name_of word.now }
+{
+    let (name, domain) = dotted(word)?;
+    let kind = UnaryKind::from_name(name)?;
+    Some(UnaryName { kind, domain })
+}
+
+/// A word that names a monoid.
+#[tactic(auto, unfolding(model::specs::Grammar::monoid_name_of))]
+pub fn monoid_name(word: &[u8]) -> Option<MonoidName>
+    ensures { result ≡ monoid_name_of word.now }
+{
+    let (name, domain) = dotted(word)?;
+    let kind = MonoidKind::from_name(name)?;
+    Some(MonoidName { kind, domain })
+}
+
+/// A word that names an index operator: a bare name for one by position, else a name and a domain.
+#[tactic(auto, unfolding(model::specs::Grammar::index_name_of))]
+pub fn index_name(word: &[u8]) -> Option<IndexName>
+    ensures { result ≡ index_name_of word.now }
+{
+    match by_position(word) {
+        Some(name) => Some(name),
+        None => by_value(word),
+    }
+}
+
+/// A word that names an index operator by position.
+#[tactic(auto, unfolding(model::specs::Grammar::by_position_of))]
+fn by_position(word: &[u8]) -> Option<IndexName>
+    ensures { result ≡ by_position_of word.now }
+{
+    let kind = IndexKind::from_name(word)?;
+    if !kind.is_by_position() {
         return None;
     }
-    let kind = BinaryKind::from_name(kind)?;
-    let domain = words::domain(domain)?;
-    Some(OpName { kind, domain })
+    // It has no domain of its own, since it doesn't look at the value.
+    let domain = Domain::Int64;
+    Some(IndexName { kind, domain })
+}
+
+/// A word that names an operator that compares values, and their domain.
+#[tactic(auto, unfolding(model::specs::Grammar::by_value_of))]
+fn by_value(word: &[u8]) -> Option<IndexName>
+    ensures { result ≡ by_value_of word.now }
+{
+    let (name, domain) = dotted(word)?;
+    let kind = IndexKind::from_name(name)?;
+    if kind.is_by_position() {
+        return None;
+    }
+    Some(IndexName { kind, domain })
 }
 
 /// A descriptor with one flag more, which it didn't have.

@@ -1,13 +1,14 @@
 //! The calls of operations: C, MASK, ACCUM and DESC are read here for all of them.
-ghost use Rattle.std.specs.Prelude.{◌≡◌, map};
+ghost use Rattle.std.specs.Prelude.{◌≡◌, ◌<◌, length, map};
 ghost use Rattle.std.specs.Option.{option_map};
-ghost use Rattle.model.specs.Grammar.{is_none_word, multiply_of, name_of, op_name_of, operate_of, operation_of};
-ghost use Rattle.model.specs.Grammar.{out_of_words, perhaps};
+ghost use Rattle.model.specs.Grammar.{apply_first_of, apply_index_of, apply_of, apply_second_of, combine_of};
+ghost use Rattle.model.specs.Grammar.{is_none_word, multiply_of, name_of, one_input_of, op_name_of, operate_of};
+ghost use Rattle.model.specs.Grammar.{operation_of, out_of_words, perhaps, reduce_rows_of, select_of};
 ghost use Rattle.model.specs.Renamed.{renamed, renamed_operation, renamed_out};
 
 use crate::{kinds, words};
-use algebra::OpName;
-use model::{Call, Form, Operation, Out};
+use algebra::{FunctionName, OpName};
+use model::{Call, Form, OneInput, Operation, Out, Positions, TwoInputs};
 
 /// Whether a word stands for no mask, no accumulator or no flags.
 fn is_none(word: &[u8]) -> bool
@@ -68,30 +69,170 @@ fn multiply<'a>(form: Form, words: &[&'a [u8]]) -> Option<Operation<&'a str>>
     let ring = kinds::ring_name(words[4])?;
     let a = words::name(words[5])?;
     let b = words::name(words[6])?;
-    Some(Operation::Multiply { form, ring, a, b })
+    let computes = TwoInputs::Multiply { form, ring };
+    Some(Operation::OfTwo { computes, a, b })
+}
+
+/// `OP A B`
+#[tactic(auto, unfolding(model::specs::Grammar::combine_of))]
+fn combine<'a>(positions: Positions, words: &[&'a [u8]]) -> Option<Operation<&'a str>>
+    ensures { option_map (renamed_operation (λ name. name.now)) result
+        ≡ combine_of positions (map (λ word. word.now) words.now) }
+{
+    if words.len() != 8 {
+        return None;
+    }
+    let op = kinds::op_name(words[4])?;
+    let a = words::name(words[5])?;
+    let b = words::name(words[6])?;
+    let computes = TwoInputs::Combine { positions, op };
+    Some(Operation::OfTwo { computes, a, b })
+}
+
+/// `UNARY A`
+#[tactic(auto, unfolding(model::specs::Grammar::apply_of))]
+fn apply<'a>(words: &[&'a [u8]]) -> Option<Operation<&'a str>>
+    ensures { option_map (renamed_operation (λ name. name.now)) result ≡ apply_of (map (λ word. word.now) words.now) }
+{
+    if words.len() != 7 {
+        return None;
+    }
+    let op = kinds::unary_name(words[4])?;
+    let a = words::name(words[5])?;
+    let computes = OneInput::Apply(FunctionName::Unary(op));
+    Some(Operation::OfOne { computes, a })
+}
+
+/// `OP VALUE A`
+#[tactic(auto, unfolding(model::specs::Grammar::apply_first_of))]
+fn apply_first<'a>(words: &[&'a [u8]]) -> Option<Operation<&'a str>>
+    ensures { option_map (renamed_operation (λ name. name.now)) result
+        ≡ apply_first_of (map (λ word. word.now) words.now) }
+{
+    if words.len() != 8 {
+        return None;
+    }
+    let op = kinds::op_name(words[4])?;
+    let value = words::value(words[5])?;
+    let a = words::name(words[6])?;
+    let computes = OneInput::Apply(FunctionName::First { op, value });
+    Some(Operation::OfOne { computes, a })
+}
+
+/// `OP A VALUE`
+#[tactic(auto, unfolding(model::specs::Grammar::apply_second_of))]
+fn apply_second<'a>(words: &[&'a [u8]]) -> Option<Operation<&'a str>>
+    ensures { option_map (renamed_operation (λ name. name.now)) result
+        ≡ apply_second_of (map (λ word. word.now) words.now) }
+{
+    if words.len() != 8 {
+        return None;
+    }
+    let op = kinds::op_name(words[4])?;
+    let a = words::name(words[5])?;
+    let value = words::value(words[6])?;
+    let computes = OneInput::Apply(FunctionName::Second { op, value });
+    Some(Operation::OfOne { computes, a })
+}
+
+/// `INDEXOP A VALUE`
+#[tactic(auto, unfolding(model::specs::Grammar::apply_index_of))]
+fn apply_index<'a>(words: &[&'a [u8]]) -> Option<Operation<&'a str>>
+    ensures { option_map (renamed_operation (λ name. name.now)) result
+        ≡ apply_index_of (map (λ word. word.now) words.now) }
+{
+    if words.len() != 8 {
+        return None;
+    }
+    let op = kinds::index_name(words[4])?;
+    let a = words::name(words[5])?;
+    let scalar = words::value(words[6])?;
+    let computes = OneInput::Apply(FunctionName::Index { op, scalar });
+    Some(Operation::OfOne { computes, a })
+}
+
+/// `INDEXOP A VALUE`
+#[tactic(auto, unfolding(model::specs::Grammar::select_of))]
+fn select<'a>(words: &[&'a [u8]]) -> Option<Operation<&'a str>>
+    ensures { option_map (renamed_operation (λ name. name.now)) result ≡ select_of (map (λ word. word.now) words.now) }
+{
+    if words.len() != 8 {
+        return None;
+    }
+    let op = kinds::index_name(words[4])?;
+    let a = words::name(words[5])?;
+    let scalar = words::value(words[6])?;
+    let computes = OneInput::Select { op, scalar };
+    Some(Operation::OfOne { computes, a })
+}
+
+/// `MONOID A`
+#[tactic(auto, unfolding(model::specs::Grammar::reduce_rows_of))]
+fn reduce_rows<'a>(words: &[&'a [u8]]) -> Option<Operation<&'a str>>
+    ensures { option_map (renamed_operation (λ name. name.now)) result
+        ≡ reduce_rows_of (map (λ word. word.now) words.now) }
+{
+    if words.len() != 7 {
+        return None;
+    }
+    let monoid = kinds::monoid_name(words[4])?;
+    let a = words::name(words[5])?;
+    let computes = OneInput::ReduceRows(monoid);
+    Some(Operation::OfOne { computes, a })
+}
+
+/// The words between ACCUM and DESC of an operation on one input, by the first word.
+#[tactic(auto, unfolding(model::specs::Grammar::one_input_of))]
+fn one_input<'a>(words: &[&'a [u8]]) -> Option<Operation<&'a str>>
+    requires { 0 < length words.now }
+    ensures { option_map (renamed_operation (λ name. name.now)) result
+        ≡ one_input_of (map (λ word. word.now) words.now) }
+{
+    let called = words[0];
+    if called == b"apply".as_slice() {
+        apply(words)
+    } else if called == b"applyindex".as_slice() {
+        apply_index(words)
+    } else if called == b"applyfirst".as_slice() {
+        apply_first(words)
+    } else if called == b"applysecond".as_slice() {
+        apply_second(words)
+    } else if called == b"select".as_slice() {
+        select(words)
+    } else if called == b"reducerows".as_slice() {
+        reduce_rows(words)
+    } else {
+        None
+    }
 }
 
 /// The words between ACCUM and DESC, by the first word.
 #[tactic(auto, unfolding(model::specs::Grammar::operation_of))]
 fn operation<'a>(words: &[&'a [u8]]) -> Option<Operation<&'a str>>
+    requires { 0 < length words.now }
     ensures { option_map (renamed_operation (λ name. name.now)) result
         ≡ operation_of (map (λ word. word.now) words.now) }
 {
-    let called = *words.first()?;
+    let called = words[0];
     if called == b"mxm".as_slice() {
         multiply(Form::MatrixMatrix, words)
     } else if called == b"mxv".as_slice() {
         multiply(Form::MatrixVector, words)
     } else if called == b"vxm".as_slice() {
         multiply(Form::VectorMatrix, words)
+    } else if called == b"ewiseadd".as_slice() {
+        combine(Positions::Union, words)
+    } else if called == b"ewisemult".as_slice() {
+        combine(Positions::Intersection, words)
     } else {
-        None
+        one_input(words)
     }
 }
 
 /// An operation's call.
 #[tactic(auto, unfolding(model::specs::Grammar::operate_of))]
 pub fn operate<'a>(words: &[&'a [u8]]) -> Option<Call<&'a str, &'a str>>
+    requires { 0 < length words.now }
     ensures { option_map (renamed (λ name. name.now) (λ name. name.now)) result
         ≡ operate_of (map (λ word. word.now) words.now) }
 {

@@ -5,11 +5,11 @@ ghost use Rattle.std.specs.Option.{option_map, option_map_or};
 ghost use Rattle.lines.specs.Meaning.{Reads};
 ghost use Rattle.model.specs.Grammar.{call_of, clear_of, free_of, get_of, is_blank, is_plain, is_silent};
 ghost use Rattle.model.specs.Grammar.{is_well_formed, matrix_of, nvals_of, only_name_of, place_of, print_of};
-ghost use Rattle.model.specs.Grammar.{reading_of, remove_of, set_of, vector_of, words_of};
+ghost use Rattle.model.specs.Grammar.{reading_of, reduce_of, remove_of, set_of, vector_of, words_of};
 ghost use Rattle.model.specs.Renamed.{renamed};
 
 use crate::operations::operate;
-use crate::{Line, LineFault, words};
+use crate::{Line, LineFault, kinds, words};
 use model::{Call, LONGEST_LINE, Place, Shape};
 use std::alloc::Global;
 
@@ -94,6 +94,8 @@ fn call<'a>(words: &[&'a [u8]]) -> Option<Call<&'a str, &'a str>>
         nvals(words)
     } else if called == b"print".as_slice() {
         print(words)
+    } else if called == b"reduce".as_slice() {
+        reduce(words)
     } else {
         operate(words)
     }
@@ -239,4 +241,18 @@ fn print<'a>(words: &[&'a [u8]]) -> Option<Call<&'a str, &'a str>>
 {
     let object = only_name(words)?;
     Some(Call::Print { object })
+}
+
+/// `reduce NAME MONOID`
+#[tactic(auto, unfolding(model::specs::Grammar::reduce_of))]
+fn reduce<'a>(words: &[&'a [u8]]) -> Option<Call<&'a str, &'a str>>
+    ensures { option_map (renamed (λ name. name.now) (λ name. name.now)) result
+        ≡ reduce_of (map (λ word. word.now) words.now) }
+{
+    if words.len() != 3 {
+        return None;
+    }
+    let object = words::name(words[1])?;
+    let monoid = kinds::monoid_name(words[2])?;
+    Some(Call::Reduce { object, monoid })
 }

@@ -1,9 +1,12 @@
+pub mod ElementWiseLaws
 pub mod EnvironmentLaws
 pub mod ObjectLaws
+pub mod OperationLaws
 pub mod ProductLaws
 pub mod RenamedLaws
 pub mod ResultLaws
 pub mod Rows
 pub mod RunLaws
 pub mod StepLaws
+pub mod StoredLaws
 pub mod WriteBackLaws

@@ -28,7 +28,7 @@ same_domain-true _ _ h = absurd (cc)
 -- ---- casts
 
 -- casting a map to the domain of its words changes nothing
-own_word : (domain : Domain) (o : Option ℕ) → ((word : ℕ) → o ≡ Some word → IsWordOf domain word) → option_map (cast_of domain domain) o ≡ o
+pub own_word : (domain : Domain) (o : Option ℕ) → ((word : ℕ) → o ≡ Some word → IsWordOf domain word) → option_map (cast_of domain domain) o ≡ o
 own_word domain None words = refl
 own_word domain (Some word) words = ap Some (cast_own domain word (words word refl))
 

@@ -1,30 +1,40 @@
 -- What an accepted operation leaves in its output is an object again.
-use Rattle.std.proofs.Common.{◌≡◌, ℕ, ◌&&◌, not, Bool, true, false, cond, List, [], ◌∷◌, Option, Some, None, refl, subst, inl, inr}
+use Rattle.std.proofs.Common.{◌≡◌, ℕ, ◌==◌, ◌&&◌, not, Bool, true, false, cond, List, [], ◌∷◌, Option, Some, None, refl, subst, inl, inr, arith}
 use Rattle.std.specs.Prelude.{nat_lt}
-use Rattle.std.specs.List.{All}
+use Rattle.std.specs.List.{All, filter_map}
 use Rattle.std.specs.Option.{option_map_or}
 use Rattle.std.proofs.lemmas.Bool.{and_parts, cases_Bool}
+use Rattle.std.proofs.lemmas.Bool.Decides.{nat_tests}
 use Rattle.std.proofs.lemmas.List.Elements.{All-cons, All-head, All-nil, All-tail}
 use Rattle.algebra.proofs.Words.{IsWordOf-eval}
 use Rattle.algebra.specs.declared.domain.Domain.{Domain}
+use Rattle.algebra.specs.declared.operator_names.MonoidName.{MonoidName}
 use Rattle.algebra.specs.declared.operator_names.OpName.{OpName}
 use Rattle.algebra.specs.declared.operator_names.RingName.{RingName}
 use Rattle.algebra.specs.Operators.{answer_domain, eval_of, offers}
 use Rattle.algebra.specs.Value.{IsWordOf, same_domain}
 use Rattle.model.specs.declared.call.Desc.{Desc}
+use Rattle.model.specs.declared.call.Form.{Form}
 use Rattle.model.specs.declared.call.Form.TheVariants.{MatrixMatrix, MatrixVector, VectorMatrix}
+use Rattle.model.specs.declared.call.OneInput.{OneInput}
+use Rattle.model.specs.declared.call.OneInput.TheVariants.{Apply, Select, ReduceRows}
 use Rattle.model.specs.declared.call.Operation.{Operation}
-use Rattle.model.specs.declared.call.Operation.TheVariants.{Multiply}
+use Rattle.model.specs.declared.call.Operation.TheVariants.{OfOne, OfTwo}
 use Rattle.model.specs.declared.call.Out.{Out}
+use Rattle.model.specs.declared.call.Positions.{Positions}
+use Rattle.model.specs.declared.call.Positions.TheVariants.{Union, Intersection}
+use Rattle.model.specs.declared.call.TwoInputs.TheVariants.{Combine, Multiply}
 use Rattle.model.specs.declared.shape.Shape.{Shape}
 use Rattle.model.specs.declared.shape.Shape.TheVariants.{One, Two}
 use Rattle.model.specs.Fault.{accumulates, operation_fault, plan_in}
-use Rattle.model.specs.Object.{AreWordsOf, Content, IsObject, IsWithin, Object, cast_content, cols_of, in_domain, is_matrix, rows_of}
+use Rattle.model.specs.Object.{AreWordsOf, Content, IsObject, IsWithin, Object, cast_content, cols_of, in_domain, is_matrix, rows_of, same_shape}
 use Rattle.model.specs.Object.{signature_of, turned_content, turned_object, turned_signature}
-use Rattle.model.specs.Operations.{operation}
+use Rattle.model.specs.Entries.{below}
+use Rattle.model.specs.Operations.{combined, computed_of_one, multiplied, operation}
 use Rattle.model.specs.Product.{product}
+use Rattle.model.specs.Reductions.{row_sums}
 use Rattle.model.specs.Renamed.{inputs_of, renamed_operation, renamed_out}
-use Rattle.model.specs.Table.{plan_of, turned, turned_if}
+use Rattle.model.specs.Table.{are_factors, inner_size, plan_of, plan_of_one, product_shape, turned, turned_if, turns_one}
 use Rattle.model.specs.WriteBack.{accumulated, accumulated_by, mask_set, result_of, written}
 use Rattle.model.proofs.ObjectLaws.{cast_content-within, cast_content-words, same_domain-true, same_shape-rows, vector-column}
 use Rattle.model.proofs.ProductLaws.{product-no_col, product-no_row}
@@ -63,27 +73,61 @@ and_turned true false h = refl
 and_turned false true h = refl
 and_turned false false h = refl
 
-pub operation-within : (op : Operation Object) → (plan_of (renamed_operation signature_of op)).kinds ≡ true → All KeepsInside (inputs_of op)
-    → let shape = (plan_of (renamed_operation signature_of op)).shape in IsWithin (rows_of shape) (cols_of shape) (operation op)
-unfolding operation
-operation-within (Multiply MatrixMatrix ring a b) kinds inside =
-    let first = All-head KeepsInside a (b ∷ []) inside in
-    let second = All-head KeepsInside b [] (All-tail KeepsInside a (b ∷ []) inside) in
+-- a product of objects that are of the kinds of its form
+multiplied-within : (form : Form) (ring : RingName) (a b : Object) → are_factors form a.shape b.shape ≡ true → KeepsInside a → KeepsInside b
+    → let shape = product_shape form a.shape b.shape in IsWithin (rows_of shape) (cols_of shape)
+    (multiplied form ring (inner_size form a.shape) (in_domain ring.domain a) (in_domain ring.domain b))
+multiplied-within MatrixMatrix ring a b kinds first second =
     product-within ring (cols_of a.shape) (rows_of a.shape) (cols_of b.shape) (in_domain ring.domain a) (in_domain ring.domain b)
     (no_row ring.domain a first) (no_col ring.domain b second)
-operation-within (Multiply MatrixVector ring a b) kinds inside =
-    let first = All-head KeepsInside a (b ∷ []) inside in
-    let second = All-head KeepsInside b [] (All-tail KeepsInside a (b ∷ []) inside) in
+multiplied-within MatrixVector ring a b kinds first second =
     let one = vector-column b.shape (and_parts (is_matrix a.shape) (not (is_matrix b.shape)) kinds).1 in
     product-within ring (cols_of a.shape) (rows_of a.shape) 1 (in_domain ring.domain a) (in_domain ring.domain b)
     (no_row ring.domain a first) (rw one at (no_col ring.domain b second))
-operation-within (Multiply VectorMatrix ring a b) kinds inside =
-    let first = All-head KeepsInside a (b ∷ []) inside in
-    let second = All-head KeepsInside b [] (All-tail KeepsInside a (b ∷ []) inside) in
+multiplied-within VectorMatrix ring a b kinds first second =
     let one = vector-column a.shape (and_parts (not (is_matrix a.shape)) (is_matrix b.shape) kinds).0 in
     λ i j outside. product-within ring (rows_of a.shape) 1 (cols_of b.shape) (turned_content (in_domain ring.domain a)) (in_domain ring.domain b)
     (λ i k past. no_col ring.domain a first k i (rw one past)) (no_col ring.domain b second) j i
     (and_turned (nat_lt i (cols_of b.shape)) (nat_lt j 1) outside)
+
+-- where neither has a value, their union and their intersection have none
+combined-within : (positions : Positions) (op : OpName) (a b : Object) → same_shape a.shape b.shape ≡ true → KeepsInside a → KeepsInside b
+    → IsWithin (rows_of a.shape) (cols_of a.shape) (combined positions op a b)
+combined-within Union op a b same first second i j outside =
+    let shapes = same_shape-rows a.shape b.shape same in
+    let none : b.content i j ≡ None = second i j (rw (← shapes.0, ← shapes.1) outside) in
+    rw (first i j outside, none) refl
+combined-within Intersection op a b same first second i j outside = rw (first i j outside) refl
+
+-- a row without values has no sum
+row_words-none : (c : Content) (i : ℕ) (ks : List ℕ) → ((k : ℕ) → c i k ≡ None) → filter_map (λ k. c i k) ks ≡ []
+row_words-none c i [] none = refl
+row_words-none c i (k ∷ ks) none = rw (none k) (row_words-none c i ks none)
+
+row_sums-within : (monoid : MonoidName) (cols m : ℕ) (c : Content) → ((i k : ℕ) → nat_lt i m ≡ false → c i k ≡ None) → IsWithin m 1 (row_sums monoid cols c)
+row_sums-within monoid cols m c none i j outside =
+    elim (cases_Bool (j == 0)) [
+      | inl first ↦
+          let past : nat_lt i m ≡ false = grind (arith, nat_tests) in
+          rw (first, row_words-none c i (below cols) (λ k. none i k past)) refl
+      | inr other ↦ rw other refl
+    ]
+
+one-within : (computes : OneInput) (a : Object) → KeepsInside a
+    → let shape = (plan_of_one computes (signature_of a)).shape in IsWithin (rows_of shape) (cols_of shape) (computed_of_one computes a)
+one-within (Apply function) a inside i j outside = rw (inside i j outside) refl
+one-within (Select op scalar) a inside i j outside = rw (inside i j outside) refl
+one-within (ReduceRows monoid) a inside i j outside = row_sums-within monoid (cols_of a.shape) (rows_of a.shape) (in_domain monoid.domain a) (no_row monoid.domain a inside) i j outside
+
+pub operation-within : (op : Operation Object) → (let plan = plan_of (renamed_operation signature_of op) in plan.kinds ≡ true)
+    → (let plan = plan_of (renamed_operation signature_of op) in plan.fits ≡ true) → All KeepsInside (inputs_of op)
+    → let shape = (plan_of (renamed_operation signature_of op)).shape in IsWithin (rows_of shape) (cols_of shape) (operation op)
+unfolding operation
+operation-within (OfOne computes a) kinds fits inside = one-within computes a (All-head KeepsInside a [] inside)
+operation-within (OfTwo (Multiply form ring) a b) kinds fits inside =
+    multiplied-within form ring a b kinds (All-head KeepsInside a (b ∷ []) inside) (All-head KeepsInside b [] (All-tail KeepsInside a (b ∷ []) inside))
+operation-within (OfTwo (Combine positions op) a b) kinds fits inside =
+    combined-within positions op a b fits (All-head KeepsInside a (b ∷ []) inside) (All-head KeepsInside b [] (All-tail KeepsInside a (b ∷ []) inside))
 
 -- ---- transposed inputs
 
@@ -97,7 +141,10 @@ turned_if-within true o inside = turned_as-within o.domain o.shape o.content ins
 turned_if-within false o inside = inside
 
 turned-within : (desc : Desc) (op : Operation Object) → All KeepsInside (inputs_of op) → All KeepsInside (inputs_of (turned turned_object desc op))
-turned-within desc (Multiply form ring a b) inside =
+turned-within desc (OfOne computes a) inside =
+    All-cons KeepsInside (turned_if turned_object (turns_one computes desc) a) []
+    (turned_if-within (turns_one computes desc) a (All-head KeepsInside a [] inside)) (All-nil KeepsInside)
+turned-within desc (OfTwo computes a b) inside =
     let first = All-head KeepsInside a (b ∷ []) inside in
     let second = All-head KeepsInside b [] (All-tail KeepsInside a (b ∷ []) inside) in
     let a' = turned_if turned_object desc.turn_first a in
@@ -110,7 +157,8 @@ turned_if-signature true o = refl
 turned_if-signature false o = refl
 
 turned-signature : (desc : Desc) (op : Operation Object) → renamed_operation signature_of (turned turned_object desc op) ≡ turned turned_signature desc (renamed_operation signature_of op)
-turned-signature desc (Multiply form ring a b) = rw (turned_if-signature desc.turn_first a, turned_if-signature desc.turn_second b) refl
+turned-signature desc (OfOne computes a) = rw (turned_if-signature (turns_one computes desc) a) refl
+turned-signature desc (OfTwo computes a b) = rw (turned_if-signature desc.turn_first a, turned_if-signature desc.turn_second b) refl
 
 -- ---- write-back
 
@@ -177,7 +225,9 @@ result-within out op accepted old inputs =
     let shapes = same_shape-rows plan.shape out.c.shape (accepted-shapes (renamed_out signature_of out) sig accepted).0 in
     let kinds : (plan_of (renamed_operation signature_of moved)).kinds ≡ true =
     rw (turned-signature out.desc op) (accepted-kinds (renamed_out signature_of out) sig accepted) in
-    let inside = operation-within moved kinds (turned-within out.desc op inputs) in
+    let fits : (plan_of (renamed_operation signature_of moved)).fits ≡ true =
+    rw (turned-signature out.desc op) (accepted-shapes (renamed_out signature_of out) sig accepted).1 in
+    let inside = operation-within moved kinds fits (turned-within out.desc op inputs) in
     let inside' : IsWithin (rows_of out.c.shape) (cols_of out.c.shape) (operation moved) =
     rw (← shapes.0, ← shapes.1) (rw (turned-signature out.desc op) at inside) in
     written-within out (cast_content plan.domain out.c.domain (operation moved)) (rows_of out.c.shape) (cols_of out.c.shape) old

@@ -1,10 +1,10 @@
 -- The worked scripts, from their bytes to what they write, as the definitions compute them.
 use Rattle.std.proofs.Common.{◌≡◌, ℕ, List, [], ◌∷◌, refl, codes, map}
 use Rattle.std.specs.Fmt.{digits}
-use Rattle.algebra.specs.Names.{binary_from_name, domain_from_name, monoid_from_name}
+use Rattle.algebra.specs.Names.{binary_from_name, domain_from_name, index_from_name, monoid_from_name, unary_from_name}
 use Rattle.model.specs.Entries.{count_from, entries_of}
 use Rattle.model.specs.Fault.{early_fault}
-use Rattle.model.specs.Grammar.{lines_of, name_of, number_of, value_of_word, domain_of, op_name_of, ring_name_of, matrix_of, vector_of, only_name_of, place_of, set_of, remove_of, get_of, flag_added, desc_of, out_of_words, multiply_of, operation_of, operate_of, call_of, reading_of, readings_of}
+use Rattle.model.specs.Grammar.{lines_of, name_of, number_of, value_of_word, domain_of, dotted_of, op_name_of, unary_name_of, monoid_name_of, by_position_of, by_value_of, index_name_of, ring_name_of, matrix_of, vector_of, only_name_of, place_of, set_of, remove_of, get_of, reduce_of, flag_added, desc_of, out_of_words, multiply_of, combine_of, apply_of, apply_first_of, apply_second_of, apply_index_of, select_of, reduce_rows_of, one_input_of, operation_of, operate_of, call_of, reading_of, readings_of}
 use Rattle.model.specs.Operations.{operation}
 use Rattle.model.specs.Product.{product}
 use Rattle.model.specs.Run.{effect, data_lines_of, step, turn, answers_from, out_of_readings, out_of}
@@ -58,13 +58,50 @@ products_with_vectors = record {
   written = codes "1 OK\n2 OK\n3 OK\n4 OK\n5 OK\n6 OK\n7 OK\n8 OK\n9 OK\n10 OK\n%%MatrixMarket matrix coordinate integer general\n2 1 2\n1 1 20\n2 1 35\n11 OK\n12 OK\n%%MatrixMarket matrix coordinate integer general\n3 1 2\n2 1 50\n3 1 30\n13 OK\n14 OK\n1\n15 OK\n16 OK\n%%MatrixMarket matrix coordinate integer general\n3 1 1\n2 1 35\n17 OK\n18 OK\n0\n19 OK\n20 UNINITIALIZED_OBJECT\n";
 }
 
+search_by_levels : Row
+search_by_levels = record {
+  script = codes "matrix A BOOL 3 3\nvector V INT64 3\nvector Q BOOL 3\nset A 0 1 1\nset A 1 0 1\nset A 1 2 1\nset Q 0 1\napplysecond V Q - SECOND.INT64 Q 1 S\nvxm Q V - LOR.LAND.BOOL Q A R,S,C\napplysecond V Q - SECOND.INT64 Q 2 S\nvxm Q V - LOR.LAND.BOOL Q A R,S,C\nnvals Q\nget Q 2\nprint V\n";
+  written = codes "1 OK\n2 OK\n3 OK\n4 OK\n5 OK\n6 OK\n7 OK\n8 OK\n9 OK\n10 OK\n11 OK\n12 OK\n1\n13 OK\n1\n14 OK\n%%MatrixMarket matrix coordinate integer general\n3 1 2\n1 1 1\n2 1 2\n";
+}
+
+complement_of_no_mask : Row
+complement_of_no_mask = record {
+  script = codes "matrix A INT64 1 1\nmatrix C INT64 1 1\nset A 0 0 4\nset C 0 0 9\napply C - - IDENTITY.INT64 A C\nget C 0 0\napply C - - IDENTITY.INT64 A R,C\nget C 0 0\n";
+  written = codes "1 OK\n2 OK\n3 OK\n4 OK\n5 OK\n6 OK\n9\n7 OK\n8 NO_VALUE\n";
+}
+
+reader_keeps_the_old_value : Row
+reader_keeps_the_old_value = record {
+  script = codes "matrix A INT64 1 1\nmatrix B INT64 1 1\nset A 0 0 1\napply B - - IDENTITY.INT64 A -\nset A 0 0 2\nprint B\nprint A\n";
+  written = codes "1 OK\n2 OK\n3 OK\n4 OK\n5 OK\n6 OK\n%%MatrixMarket matrix coordinate integer general\n1 1 1\n1 1 1\n7 OK\n%%MatrixMarket matrix coordinate integer general\n1 1 1\n1 1 2\n";
+}
+
+empty_reductions : Row
+empty_reductions = record {
+  script = codes "matrix A INT64 2 2\nvector W INT64 2\nreduce A MIN.INT64\nreducerows W - - PLUS.INT64 A -\nnvals W\n";
+  written = codes "1 OK\n2 OK\n3 OK\n9223372036854775807\n4 OK\n5 OK\n0\n";
+}
+
+order_of_checks : Row
+order_of_checks = record {
+  script = codes "vector W INT64 2\nvector U BOOL 3\napply W - PLUS.UINT64 IDENTITY.INT64 U -\napply W - - IDENTITY.INT64 U -\napply W - - IDENTITY.INT64 W T0,Q\newiseadd W - - LOR.INT64 W W -\n";
+  written = codes "1 OK\n2 OK\n3 NOT_IMPLEMENTED\n4 DIMENSION_MISMATCH\n5 SYNTAX\n6 NOT_IMPLEMENTED\n";
+}
+
+replace : Row
+replace = record {
+  script = codes "vector W INT64 2\nvector U INT64 2\nvector M BOOL 2\nset W 0 1\nset W 1 2\nset M 0 1\napply W M - IDENTITY.INT64 U -\nprint W\napply W M - IDENTITY.INT64 U R\nnvals W\n";
+  written = codes "1 OK\n2 OK\n3 OK\n4 OK\n5 OK\n6 OK\n7 OK\n8 OK\n%%MatrixMarket matrix coordinate integer general\n2 1 1\n2 1 2\n9 OK\n10 OK\n0\n";
+}
+
 empty_script : Row
 empty_script = record { script = codes ""; written = codes "" }
 
 abbrev worked : List Row
 worked = zero_sum_is_an_entry ∷ empty_product ∷ wrap_before_minimum ∷ refusals_and_greatest_indices ∷ valued_and_structural_mask
-    ∷ one_object_in_all_places ∷ products_with_vectors ∷ empty_script ∷ []
+    ∷ one_object_in_all_places ∷ products_with_vectors
+    ∷ search_by_levels ∷ complement_of_no_mask ∷ reader_keeps_the_old_value ∷ empty_reductions ∷ order_of_checks ∷ replace ∷ empty_script ∷ []
 
 each_writes_its_row : map (λ (row : Row). out_of row.script) worked ≡ map (λ (row : Row). row.written) worked
-unfolding zero_sum_is_an_entry empty_product wrap_before_minimum refusals_and_greatest_indices valued_and_structural_mask one_object_in_all_places products_with_vectors empty_script digits binary_from_name domain_from_name monoid_from_name count_from entries_of early_fault lines_of name_of number_of value_of_word domain_of op_name_of ring_name_of matrix_of vector_of only_name_of place_of set_of remove_of get_of flag_added desc_of out_of_words multiply_of operation_of operate_of call_of reading_of readings_of operation product effect data_lines_of step turn answers_from out_of_readings out_of answer_text canonical_lines result_of
+unfolding zero_sum_is_an_entry empty_product wrap_before_minimum refusals_and_greatest_indices valued_and_structural_mask one_object_in_all_places products_with_vectors search_by_levels complement_of_no_mask reader_keeps_the_old_value empty_reductions order_of_checks replace empty_script digits binary_from_name index_from_name unary_from_name domain_from_name monoid_from_name count_from entries_of early_fault lines_of name_of number_of value_of_word domain_of dotted_of op_name_of unary_name_of monoid_name_of by_position_of by_value_of index_name_of ring_name_of matrix_of vector_of only_name_of place_of set_of remove_of get_of reduce_of flag_added desc_of out_of_words multiply_of combine_of apply_of apply_first_of apply_second_of apply_index_of select_of reduce_rows_of one_input_of operation_of operate_of call_of reading_of readings_of operation product effect data_lines_of step turn answers_from out_of_readings out_of answer_text canonical_lines result_of
 each_writes_its_row = refl

@@ -7,9 +7,9 @@ use Rattle.std.specs.Str.{bytes_eq}
 use Rattle.std.proofs.lemmas.List.Elements.{All-cons, All-nil}
 use Rattle.algebra.specs.Value.{is_value_of}
 use Rattle.model.specs.declared.call.Call.{Call}
-use Rattle.model.specs.declared.call.Call.TheVariants.{Create, Free, Clear, Set, Remove, Get, Nvals, Print, Operate}
+use Rattle.model.specs.declared.call.Call.TheVariants.{Create, Free, Clear, Set, Remove, Get, Nvals, Print, Reduce, Operate}
 use Rattle.model.specs.declared.call.Operation.{Operation}
-use Rattle.model.specs.declared.call.Operation.TheVariants.{Multiply}
+use Rattle.model.specs.declared.call.Operation.TheVariants.{OfOne, OfTwo}
 use Rattle.model.specs.declared.call.Out.{Out}
 use Rattle.model.specs.declared.shape.Place.{Place}
 use Rattle.model.specs.declared.shape.Signature.{Signature}
@@ -49,7 +49,9 @@ object_at-is_object env are name = found-is_object (env.find_object name) (are n
 -- the inputs of an operation on what names stand for are objects
 inputs-are_objects : {K : Type 0} (env : Environment K) (op : Operation K) → AreObjects env
     → All IsObject (inputs_of (renamed_operation (object_at env) op))
-inputs-are_objects env (Multiply form ring a b) are =
+inputs-are_objects env (OfOne computes a) are =
+    All-cons IsObject (object_at env a) [] (object_at-is_object env are a) (All-nil IsObject)
+inputs-are_objects env (OfTwo computes a b) are =
     let first = object_at env a in
     let second = object_at env b in
     All-cons IsObject first (second ∷ []) (object_at-is_object env are a)
@@ -147,8 +149,9 @@ operation_found : {K : Type 0} (find_object : K → Option Object) (op : Operati
     → renamed_operation found_signature
     (renamed_operation (option_map signature_of) (renamed_operation find_object op))
     ≡ renamed_operation signature_of (renamed_operation (λ name. found_object (find_object name)) op)
-operation_found find_object (Multiply form ring a b) =
-    λ i. Multiply form ring (signature_found (find_object a) i) (signature_found (find_object b) i)
+operation_found find_object (OfOne computes a) = λ i. OfOne computes (signature_found (find_object a) i)
+operation_found find_object (OfTwo computes a b) =
+    λ i. OfTwo computes (signature_found (find_object a) i) (signature_found (find_object b) i)
 
 -- an accepted call of an operation passes its tests on the objects that its names stand for
 accepted-operation : {K : Type 0} (env : Environment K) (out : Out K) (op : Operation K)
@@ -194,6 +197,7 @@ effect-are_objects {K = K} same env (Remove name place) are accepted =
 effect-are_objects same env (Get name place) are accepted = are
 effect-are_objects same env (Nvals name) are accepted = are
 effect-are_objects same env (Print name) are accepted = are
+effect-are_objects same env (Reduce name monoid) are accepted = are
 effect-are_objects same env (Operate out op) are accepted =
     let out' = renamed_out (object_at env) out in
     let op' = renamed_operation (object_at env) op in

@@ -3,19 +3,23 @@ use Rattle.std.proofs.Common.{◌≡◌, ◌∙◌, ℕ, ◌&&◌, Bool, true, f
 use Rattle.std.specs.List.{find}
 use Rattle.std.specs.Option.{option_map_or}
 use Rattle.std.proofs.lemmas.Bool.{and_parts}
+use Rattle.algebra.specs.declared.functions.FunctionName.TheVariants as function
+use Rattle.model.specs.declared.call.OneInput.{OneInput}
+use Rattle.model.specs.declared.call.OneInput.TheVariants.{Apply, Select, ReduceRows}
 use Rattle.model.specs.declared.call.Operation.{Operation}
-use Rattle.model.specs.declared.call.Operation.TheVariants.{Multiply}
+use Rattle.model.specs.declared.call.Operation.TheVariants.{OfOne, OfTwo}
 use Rattle.model.specs.declared.call.Out.{Out}
 use Rattle.model.specs.declared.shape.Signature.{Signature}
 use Rattle.model.specs.declared.status.Status.{Status}
 use Rattle.model.specs.declared.status.Status.TheVariants as status
 use Rattle.model.specs.declared.call.Desc.{Desc}
 use Rattle.model.specs.Come.{desc_has_come}
-use Rattle.model.specs.Fault.{accumulates, is_implemented, mask_passes, operation_fails, operation_fault, plan_in}
+use Rattle.algebra.specs.Value.{are_compatible}
+use Rattle.model.specs.Fault.{accumulates, is_implemented, mask_passes, operation_fails, operation_fault, plan_in, serves_as_mask}
 use Rattle.model.specs.Object.{Object, cast_content, same_kind, same_shape, signature_of, turned_object, turned_signature}
 use Rattle.model.specs.Operations.{operation}
 use Rattle.model.specs.Renamed.{renamed_operation}
-use Rattle.model.specs.Table.{is_offered, plan_of, turned}
+use Rattle.model.specs.Table.{is_offered, plan_of, turned, turned_if, turns_one}
 use Rattle.model.specs.WriteBack.{result_of, written}
 
 -- ---- what passed the checks
@@ -78,15 +82,36 @@ accepted-kinds out op h =
     (status.NoFile ∷ status.BadFile ∷ status.NotImplemented ∷ status.DomainMismatch ∷ status.DimensionMismatch ∷ status.InvalidIndex ∷ status.IndexOutOfBounds ∷ status.InvalidValue ∷ []) h) in
     (and_parts plan.kinds (same_kind plan.shape out.c.shape) (and_parts (plan.kinds && same_kind plan.shape out.c.shape) masked all).0).0
 
+-- the domains of the inputs can be cast to those that are asked for
+pub accepted-compatible : (out : Out Signature) (op : Operation Signature) → operation_fault out op ≡ None → (plan_in out.desc op).compatible ≡ true
+unfolding operation_fault
+accepted-compatible out op h =
+    let plan = plan_in out.desc op in
+    let masked = mask_passes (serves_as_mask out.desc) out in
+    let to = are_compatible plan.domain out.c.domain in
+    let all = not_false (masked && plan.compatible && to) (passed (operation_fails out op) status.DomainMismatch
+    (status.NameTaken ∷ status.UninitializedObject ∷ status.WrongKind ∷ status.NoFile ∷ status.BadFile ∷ status.NotImplemented ∷ [])
+    (status.DimensionMismatch ∷ status.InvalidIndex ∷ status.IndexOutOfBounds ∷ status.InvalidValue ∷ []) h) in
+    (and_parts masked plan.compatible (and_parts (masked && plan.compatible) to all).0).1
+
 -- ---- inputs as they are
 
 off : (b : Bool) → not b ≡ true → b ≡ false
 off true h = absurd (cc)
 off false h = refl
 
+turns_none : (computes : OneInput) (desc : Desc) → desc_has_come desc ≡ true → turns_one computes desc ≡ false
+turns_none (Apply (function.Unary op)) desc come = off desc.turn_first (and_parts (not desc.turn_first) (not desc.turn_second) come).0
+turns_none (Apply (function.First op value)) desc come = off desc.turn_second (and_parts (not desc.turn_first) (not desc.turn_second) come).1
+turns_none (Apply (function.Second op value)) desc come = off desc.turn_first (and_parts (not desc.turn_first) (not desc.turn_second) come).0
+turns_none (Apply (function.Index op scalar)) desc come = off desc.turn_first (and_parts (not desc.turn_first) (not desc.turn_second) come).0
+turns_none (Select op scalar) desc come = off desc.turn_first (and_parts (not desc.turn_first) (not desc.turn_second) come).0
+turns_none (ReduceRows monoid) desc come = off desc.turn_first (and_parts (not desc.turn_first) (not desc.turn_second) come).0
+
 -- what has come so far turns no input
 pub turned-none : {K : Type 0} (turn : K → K) (desc : Desc) (op : Operation K) → desc_has_come desc ≡ true → turned turn desc op ≡ op
-turned-none turn desc (Multiply form ring a b) come =
+turned-none turn desc (OfOne computes a) come = ap (λ flag. OfOne computes (turned_if turn flag a)) (turns_none computes desc come)
+turned-none turn desc (OfTwo computes a b) come =
     let parts = and_parts (not desc.turn_first) (not desc.turn_second) come in
     rw (off desc.turn_first parts.0, off desc.turn_second parts.1) refl
 

@@ -7,10 +7,10 @@ use Rattle.std.specs.Option.{option_map, option_map_or}
 use Rattle.algebra.specs.declared.domain.Domain.{Domain}
 use Rattle.algebra.specs.declared.domain.Domain.TheVariants as domains
 use Rattle.algebra.specs.declared.operator_names.OpName.{OpName}
-use Rattle.algebra.specs.Operators.{answer_domain, offers}
+use Rattle.algebra.specs.Operators.{answer_domain, combines_by, offers}
 use Rattle.algebra.specs.Value.{are_compatible, is_built_in, is_value_of, same_domain}
 use Rattle.model.specs.declared.call.Call.{Call}
-use Rattle.model.specs.declared.call.Call.TheVariants.{Create, Set, Remove, Get, Operate}
+use Rattle.model.specs.declared.call.Call.TheVariants.{Create, Set, Remove, Get, Reduce, Operate}
 use Rattle.model.specs.declared.call.Desc.{Desc}
 use Rattle.model.specs.declared.call.Operation.{Operation}
 use Rattle.model.specs.declared.call.Out.{Out}
@@ -105,6 +105,8 @@ test_fails count (Remove o place) status.WrongKind = not (is_of_kind place o.sha
 test_fails count (Remove o place) status.InvalidIndex = not (is_inside place o.shape)
 test_fails count (Get o place) status.WrongKind = not (is_of_kind place o.shape)
 test_fails count (Get o place) status.InvalidIndex = not (is_inside place o.shape)
+test_fails count (Reduce o monoid) status.NotImplemented = not (offers (combines_by monoid.kind) monoid.domain)
+test_fails count (Reduce o monoid) status.DomainMismatch = not (are_compatible o.domain monoid.domain)
 test_fails count (Operate out operation) s = operation_fails out operation s
 test_fails count _ _ = false
 

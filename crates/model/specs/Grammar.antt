@@ -7,18 +7,28 @@ use Rattle.std.specs.Option.{option_and_then, option_map_or}
 use Rattle.std.specs.Str.{bytes_eq}
 use Rattle.std.specs.Str.Lines.{strip_carriage_return}
 use Rattle.algebra.specs.declared.domain.Domain.{Domain}
+use Rattle.algebra.specs.declared.domain.Domain.TheVariants as domains
+use Rattle.algebra.specs.declared.functions.FunctionName.TheVariants as function
+use Rattle.algebra.specs.declared.operator_names.IndexName.{IndexName}
+use Rattle.algebra.specs.declared.operator_names.MonoidName.{MonoidName}
 use Rattle.algebra.specs.declared.operator_names.OpName.{OpName}
 use Rattle.algebra.specs.declared.operator_names.RingName.{RingName}
-use Rattle.algebra.specs.Names.{binary_from_name, domain_from_name, monoid_from_name}
+use Rattle.algebra.specs.declared.operator_names.UnaryName.{UnaryName}
+use Rattle.algebra.specs.IndexOperators.{is_by_position}
+use Rattle.algebra.specs.Names.{binary_from_name, domain_from_name, index_from_name, monoid_from_name, unary_from_name}
 use Rattle.model.specs.declared.call.Call.{Call}
 use Rattle.model.specs.declared.call.Call.TheVariants.{Create, Free, Clear, Set, Remove, Get, Nvals, Print}
-use Rattle.model.specs.declared.call.Call.TheVariants.{Operate}
+use Rattle.model.specs.declared.call.Call.TheVariants.{Reduce, Operate}
 use Rattle.model.specs.declared.call.Desc.{Desc}
 use Rattle.model.specs.declared.call.Form.{Form}
 use Rattle.model.specs.declared.call.Form.TheVariants.{MatrixMatrix, MatrixVector, VectorMatrix}
+use Rattle.model.specs.declared.call.OneInput.TheVariants.{Apply, Select, ReduceRows}
 use Rattle.model.specs.declared.call.Operation.{Operation}
-use Rattle.model.specs.declared.call.Operation.TheVariants.{Multiply}
+use Rattle.model.specs.declared.call.Operation.TheVariants.{OfOne, OfTwo}
 use Rattle.model.specs.declared.call.Out.{Out}
+use Rattle.model.specs.declared.call.Positions.{Positions}
+use Rattle.model.specs.declared.call.Positions.TheVariants.{Union, Intersection}
+use Rattle.model.specs.declared.call.TwoInputs.TheVariants.{Combine, Multiply}
 use Rattle.model.specs.declared.limits.TheConstants.{LONGEST_LINE, LONGEST_NAME}
 use Rattle.model.specs.declared.shape.Place.{Place}
 use Rattle.model.specs.declared.shape.Place.TheVariants.{One, Two}
@@ -112,14 +122,38 @@ nth_word words k = slice_index_or words k []
 abbrev pub parts_of : List ℕ → List (List ℕ)
 parts_of word = slice_split (λ b. b == 46) word
 
+-- a name and a domain
+unfoldable pub dotted_of : List ℕ → Option (List ℕ × Domain)
+dotted_of word =
+    let parts = parts_of word in
+    if length parts == 2 then (domain_of (nth_word parts 1) >>= λ domain. Some (nth_word parts 0, domain)) else None
+
 -- the names of an operator and a domain
 unfoldable pub op_name_of : List ℕ → Option OpName
-op_name_of word =
-    let parts = parts_of word in
-    if length parts == 2
-    then (binary_from_name (nth_word parts 0) >>= λ kind. domain_of (nth_word parts 1) >>= λ domain.
-    Some (record { kind = kind; domain = domain }))
-    else None
+op_name_of word = dotted_of word >>= λ parts. binary_from_name parts.0 >>= λ kind.
+    Some (record { kind = kind; domain = parts.1 })
+
+unfoldable pub unary_name_of : List ℕ → Option UnaryName
+unary_name_of word = dotted_of word >>= λ parts. unary_from_name parts.0 >>= λ kind.
+    Some (record { kind = kind; domain = parts.1 })
+
+unfoldable pub monoid_name_of : List ℕ → Option MonoidName
+monoid_name_of word = dotted_of word >>= λ parts. monoid_from_name parts.0 >>= λ kind.
+    Some (record { kind = kind; domain = parts.1 })
+
+-- the name of an operator by position, which has no domain of its own
+unfoldable pub by_position_of : List ℕ → Option IndexName
+by_position_of word = where_it is_by_position (index_from_name word) >>= λ kind.
+    Some (record { kind = kind; domain = domains.Int64 })
+
+-- the names of a VALUE operator and a domain
+unfoldable pub by_value_of : List ℕ → Option IndexName
+by_value_of word = dotted_of word >>= λ parts.
+    where_it (λ kind. not (is_by_position kind)) (index_from_name parts.0) >>= λ kind.
+    Some (record { kind = kind; domain = parts.1 })
+
+unfoldable pub index_name_of : List ℕ → Option IndexName
+index_name_of word = option_map_or Some (by_position_of word) (by_value_of word)
 
 -- the names of a monoid, an operator and a domain
 unfoldable pub ring_name_of : List ℕ → Option RingName
@@ -198,6 +232,14 @@ nvals_of words = only_name_of words >>= λ name. Some (Nvals name)
 abbrev pub print_of : List (List ℕ) → Option (Call Name Name)
 print_of words = only_name_of words >>= λ name. Some (Print name)
 
+-- reduce NAME MONOID
+unfoldable pub reduce_of : List (List ℕ) → Option (Call Name Name)
+reduce_of words =
+    if length words == 3
+    then (name_of (nth_word words 1) >>= λ name. monoid_name_of (nth_word words 2) >>= λ monoid.
+    Some (Reduce name monoid))
+    else None
+
 -- ---- operations: C MASK ACCUM .. DESC
 
 -- `-`: no mask, no accumulator, no flags
@@ -246,20 +288,89 @@ unfoldable pub multiply_of : Form → List (List ℕ) → Option (Operation Name
 multiply_of form words =
     if length words == 8
     then (ring_name_of (nth_word words 4) >>= λ ring. name_of (nth_word words 5) >>= λ a.
-    name_of (nth_word words 6) >>= λ b. Some (Multiply form ring a b))
+    name_of (nth_word words 6) >>= λ b. Some (OfTwo (Multiply form ring) a b))
+    else None
+
+-- OP A B
+unfoldable pub combine_of : Positions → List (List ℕ) → Option (Operation Name)
+combine_of positions words =
+    if length words == 8
+    then (op_name_of (nth_word words 4) >>= λ op. name_of (nth_word words 5) >>= λ a.
+    name_of (nth_word words 6) >>= λ b. Some (OfTwo (Combine positions op) a b))
+    else None
+
+-- UNARY A
+unfoldable pub apply_of : List (List ℕ) → Option (Operation Name)
+apply_of words =
+    if length words == 7
+    then (unary_name_of (nth_word words 4) >>= λ op. name_of (nth_word words 5) >>= λ a.
+    Some (OfOne (Apply (function.Unary op)) a))
+    else None
+
+-- OP VALUE A
+unfoldable pub apply_first_of : List (List ℕ) → Option (Operation Name)
+apply_first_of words =
+    if length words == 8
+    then (op_name_of (nth_word words 4) >>= λ op. value_of_word (nth_word words 5) >>= λ value.
+    name_of (nth_word words 6) >>= λ a. Some (OfOne (Apply (function.First op value)) a))
+    else None
+
+-- OP A VALUE
+unfoldable pub apply_second_of : List (List ℕ) → Option (Operation Name)
+apply_second_of words =
+    if length words == 8
+    then (op_name_of (nth_word words 4) >>= λ op. name_of (nth_word words 5) >>= λ a.
+    value_of_word (nth_word words 6) >>= λ value. Some (OfOne (Apply (function.Second op value)) a))
+    else None
+
+-- INDEXOP A VALUE
+unfoldable pub apply_index_of : List (List ℕ) → Option (Operation Name)
+apply_index_of words =
+    if length words == 8
+    then (index_name_of (nth_word words 4) >>= λ op. name_of (nth_word words 5) >>= λ a.
+    value_of_word (nth_word words 6) >>= λ scalar. Some (OfOne (Apply (function.Index op scalar)) a))
+    else None
+
+-- INDEXOP A VALUE
+unfoldable pub select_of : List (List ℕ) → Option (Operation Name)
+select_of words =
+    if length words == 8
+    then (index_name_of (nth_word words 4) >>= λ op. name_of (nth_word words 5) >>= λ a.
+    value_of_word (nth_word words 6) >>= λ scalar. Some (OfOne (Select op scalar) a))
+    else None
+
+-- MONOID A
+unfoldable pub reduce_rows_of : List (List ℕ) → Option (Operation Name)
+reduce_rows_of words =
+    if length words == 7
+    then (monoid_name_of (nth_word words 4) >>= λ monoid. name_of (nth_word words 5) >>= λ a.
+    Some (OfOne (ReduceRows monoid) a))
     else None
 
 -- whether the first word is a name
 abbrev pub is_called : List (List ℕ) → List ℕ → Bool
 is_called words name = bytes_eq (nth_word words 0) name
 
--- the words between ACCUM and DESC, by the first word
+-- the words between ACCUM and DESC, by the first word: of an operation on one input
+unfoldable pub one_input_of : List (List ℕ) → Option (Operation Name)
+one_input_of words =
+    if is_called words (codes "apply") then apply_of words
+    else if is_called words (codes "applyindex") then apply_index_of words
+    else if is_called words (codes "applyfirst") then apply_first_of words
+    else if is_called words (codes "applysecond") then apply_second_of words
+    else if is_called words (codes "select") then select_of words
+    else if is_called words (codes "reducerows") then reduce_rows_of words
+    else None
+
+-- ..and of any operation
 unfoldable pub operation_of : List (List ℕ) → Option (Operation Name)
 operation_of words =
     if is_called words (codes "mxm") then multiply_of MatrixMatrix words
     else if is_called words (codes "mxv") then multiply_of MatrixVector words
     else if is_called words (codes "vxm") then multiply_of VectorMatrix words
-    else None
+    else if is_called words (codes "ewiseadd") then combine_of Union words
+    else if is_called words (codes "ewisemult") then combine_of Intersection words
+    else one_input_of words
 
 unfoldable pub operate_of : List (List ℕ) → Option (Call Name Name)
 operate_of words = operation_of words >>= λ operation. out_of_words words >>= λ out.
@@ -277,6 +388,7 @@ call_of words =
     else if is_called words (codes "get") then get_of words
     else if is_called words (codes "nvals") then nvals_of words
     else if is_called words (codes "print") then print_of words
+    else if is_called words (codes "reduce") then reduce_of words
     else operate_of words
 
 -- ---- one line

@@ -1,10 +1,12 @@
 pub mod Come
+pub mod ElementWise
 pub mod Entries
 pub mod Fault
 pub mod Grammar
 pub mod Object
 pub mod Operations
 pub mod Product
+pub mod Reductions
 pub mod Renamed
 pub mod Run
 pub mod Runs

@@ -2,16 +2,18 @@
 use Rattle.std.specs.Prelude.{List, [], ◌∷◌, ◌++◌, Option, Some, None}
 use Rattle.std.specs.Option.{option_map, option_to_list}
 use Rattle.model.specs.declared.call.Call.{Call}
-use Rattle.model.specs.declared.call.Call.TheVariants.{Create, Free, Clear, Set, Remove, Get, Nvals, Print, Operate}
+use Rattle.model.specs.declared.call.Call.TheVariants.{Create, Free, Clear, Set, Remove, Get, Nvals, Print, Reduce}
+use Rattle.model.specs.declared.call.Call.TheVariants.{Operate}
 use Rattle.model.specs.declared.call.Operation.{Operation}
-use Rattle.model.specs.declared.call.Operation.TheVariants.{Multiply}
+use Rattle.model.specs.declared.call.Operation.TheVariants.{OfOne, OfTwo}
 use Rattle.model.specs.declared.call.Out.{Out}
 
 abbrev pub renamed_out : {K L : Type 0} → (K → L) → Out K → Out L
 renamed_out f out = record { c = f out.c; mask = option_map f out.mask; accum = out.accum; desc = out.desc }
 
 abbrev pub renamed_operation : {K L : Type 0} → (K → L) → Operation K → Operation L
-renamed_operation f (Multiply form ring a b) = Multiply form ring (f a) (f b)
+renamed_operation f (OfOne computes a) = OfOne computes (f a)
+renamed_operation f (OfTwo computes a b) = OfTwo computes (f a) (f b)
 
 -- f leads from each object's name to another, and g from each new name
 abbrev pub renamed : {K L M N : Type 0} → (K → L) → (M → N) → Call K M → Call L N
@@ -23,12 +25,14 @@ renamed f g (Remove object place) = Remove (f object) place
 renamed f g (Get object place) = Get (f object) place
 renamed f g (Nvals object) = Nvals (f object)
 renamed f g (Print object) = Print (f object)
+renamed f g (Reduce object monoid) = Reduce (f object) monoid
 renamed f g (Operate out operation) = Operate (renamed_out f out) (renamed_operation f operation)
 
 -- ---- the objects that must be there
 
 abbrev pub inputs_of : {K : Type 0} → Operation K → List K
-inputs_of (Multiply form ring a b) = a ∷ b ∷ []
+inputs_of (OfOne computes a) = a ∷ []
+inputs_of (OfTwo computes a b) = a ∷ b ∷ []
 
 abbrev pub outputs_of : {K : Type 0} → Out K → List K
 outputs_of out = out.c ∷ option_to_list out.mask
@@ -42,6 +46,7 @@ objects_of (Remove object place) = object ∷ []
 objects_of (Get object place) = object ∷ []
 objects_of (Nvals object) = object ∷ []
 objects_of (Print object) = object ∷ []
+objects_of (Reduce object monoid) = object ∷ []
 objects_of (Operate out operation) = outputs_of out ++ inputs_of operation
 
 -- the object whose entries a call changes

@@ -5,12 +5,13 @@ use Rattle.std.specs.List.{flat_map}
 use Rattle.std.specs.Option.{option_map_or}
 use Rattle.std.specs.Str.{bytes_eq}
 use Rattle.model.specs.declared.call.Call.{Call}
-use Rattle.model.specs.declared.call.Call.TheVariants.{Create, Free, Get, Nvals, Print}
+use Rattle.model.specs.declared.call.Call.TheVariants.{Create, Free, Get, Nvals, Print, Reduce}
 use Rattle.model.specs.declared.status.Status.TheVariants as status
 use Rattle.model.specs.Entries.{entries_of}
 use Rattle.model.specs.Fault.{fault_of, found_object}
 use Rattle.model.specs.Grammar.{Name, Reading, Silent, Malformed, Called, readings_of}
 use Rattle.model.specs.Object.{Content, Object, col_of, cols_of, empty_object, row_of, rows_of}
+use Rattle.model.specs.Reductions.{sum_in}
 use Rattle.model.specs.Renamed.{output_of, renamed}
 use Rattle.model.specs.Text.{Answer, answer_text, canonical_lines, value_text}
 use Rattle.model.specs.WriteBack.{left_by}
@@ -70,6 +71,7 @@ data_lines_of (Get o place) =
     option_map_or (λ word. value_text o.domain word ∷ []) (o.content (row_of place) (col_of place)) []
 data_lines_of (Nvals o) = decimal (length (entries_of (rows_of o.shape) (cols_of o.shape) o.content)) ∷ []
 data_lines_of (Print o) = canonical_lines o
+data_lines_of (Reduce o monoid) = value_text monoid.domain (sum_in monoid o) ∷ []
 data_lines_of _ = []
 
 -- the answer to the call on a line, and what it leaves

@@ -1,18 +1,25 @@
 -- The table of operations: the kinds of their inputs, what must be compatible and what must fit, and the
 -- shape and the domain of what each computes.
 use Rattle.std.specs.Prelude.{ℕ, ◌==◌, ◌&&◌, not, Bool, true, if◌then◌else◌}
-use Rattle.algebra.specs.Operators.{answer_domain, offers_semiring}
-use Rattle.algebra.specs.Value.{are_compatible}
+use Rattle.algebra.specs.declared.functions.FunctionName.TheVariants.{First}
+use Rattle.algebra.specs.Functions.{function_answer, has_value, offers_function, takes}
+use Rattle.algebra.specs.IndexOperators.{offers_index, scalar_domain, takes_index}
+use Rattle.algebra.specs.Operators.{answer_domain, combines_by, offers, offers_semiring}
+use Rattle.algebra.specs.Value.{are_compatible, is_value_of}
 use Rattle.model.specs.declared.call.Desc.{Desc}
 use Rattle.model.specs.declared.call.Form.{Form}
 use Rattle.model.specs.declared.call.Form.TheVariants.{MatrixMatrix, MatrixVector, VectorMatrix}
+use Rattle.model.specs.declared.call.OneInput.{OneInput}
+use Rattle.model.specs.declared.call.OneInput.TheVariants.{Apply, Select, ReduceRows}
 use Rattle.model.specs.declared.call.Operation.{Operation}
-use Rattle.model.specs.declared.call.Operation.TheVariants.{Multiply}
+use Rattle.model.specs.declared.call.Operation.TheVariants.{OfOne, OfTwo}
 use Rattle.model.specs.declared.call.Plan.{Plan}
+use Rattle.model.specs.declared.call.TwoInputs.{TwoInputs}
+use Rattle.model.specs.declared.call.TwoInputs.TheVariants.{Combine, Multiply}
 use Rattle.model.specs.declared.shape.Shape.{Shape}
 use Rattle.model.specs.declared.shape.Shape.TheVariants.{One, Two}
 use Rattle.model.specs.declared.shape.Signature.{Signature}
-use Rattle.model.specs.Object.{cols_of, is_matrix, rows_of}
+use Rattle.model.specs.Object.{cols_of, is_matrix, rows_of, same_kind, same_shape}
 
 -- whether factors are of the kinds that a product's form says
 abbrev pub are_factors : Form → Shape → Shape → Bool
@@ -31,9 +38,36 @@ product_shape MatrixMatrix a b = Two (rows_of a) (cols_of b)
 product_shape MatrixVector a b = One (rows_of a)
 product_shape VectorMatrix a b = One (cols_of b)
 
--- what an operation says of its inputs
-abbrev pub plan_of : Operation Signature → Plan
-plan_of (Multiply form ring a b) = record {
+-- what an operation says of its one input
+abbrev pub plan_of_one : OneInput → Signature → Plan
+plan_of_one (Apply function) a = record {
+  kinds = true;
+  compatible = takes function a.domain;
+  fits = true;
+  values = has_value function;
+  shape = a.shape;
+  domain = function_answer function;
+}
+plan_of_one (Select op scalar) a = record {
+  kinds = true;
+  compatible = takes_index op.kind op.domain a.domain;
+  fits = true;
+  values = is_value_of (scalar_domain op.kind op.domain) scalar;
+  shape = a.shape;
+  domain = a.domain;
+}
+plan_of_one (ReduceRows monoid) a = record {
+  kinds = is_matrix a.shape;
+  compatible = are_compatible a.domain monoid.domain;
+  fits = true;
+  values = true;
+  shape = One (rows_of a.shape);
+  domain = monoid.domain;
+}
+
+-- ..and of its two inputs
+abbrev pub plan_of_two : TwoInputs → Signature → Signature → Plan
+plan_of_two (Multiply form ring) a b = record {
   kinds = are_factors form a.shape b.shape;
   compatible = are_compatible a.domain ring.domain && are_compatible b.domain ring.domain;
   fits = inner_size form a.shape == rows_of b.shape;
@@ -41,17 +75,45 @@ plan_of (Multiply form ring a b) = record {
   shape = product_shape form a.shape b.shape;
   domain = answer_domain ring.multiply ring.domain;
 }
+plan_of_two (Combine positions op) a b = record {
+  kinds = same_kind a.shape b.shape;
+  compatible = are_compatible a.domain op.domain && are_compatible b.domain op.domain;
+  fits = same_shape a.shape b.shape;
+  values = true;
+  shape = a.shape;
+  domain = answer_domain op.kind op.domain;
+}
+
+abbrev pub plan_of : Operation Signature → Plan
+plan_of (OfOne computes a) = plan_of_one computes a
+plan_of (OfTwo computes a b) = plan_of_two computes a b
 
 -- whether there is the operator that an operation names
+abbrev pub offers_one : OneInput → Bool
+offers_one (Apply function) = offers_function function
+offers_one (Select op scalar) = offers_index op.kind op.domain
+offers_one (ReduceRows monoid) = offers (combines_by monoid.kind) monoid.domain
+
+abbrev pub offers_two : TwoInputs → Bool
+offers_two (Multiply form ring) = offers_semiring ring.add ring.multiply ring.domain
+offers_two (Combine positions op) = offers op.kind op.domain
+
 abbrev pub is_offered : {K : Type 0} → Operation K → Bool
-is_offered (Multiply form ring a b) = offers_semiring ring.add ring.multiply ring.domain
+is_offered (OfOne computes a) = offers_one computes
+is_offered (OfTwo computes a b) = offers_two computes
 
 -- ---- transposed inputs (GrB_INP0, GrB_INP1)
 
 abbrev pub turned_if : {K : Type 0} → (K → K) → Bool → K → K
 turned_if turn flag a = if flag then turn a else a
 
+-- the flag that turns the one input; where the first operand is a plain value, it is the second operand
+abbrev pub turns_one : OneInput → Desc → Bool
+turns_one (Apply (First op value)) desc = desc.turn_second
+turns_one _ desc = desc.turn_first
+
 -- an operation whose inputs are turned as the flags say
 abbrev pub turned : {K : Type 0} → (K → K) → Desc → Operation K → Operation K
-turned turn desc (Multiply form ring a b) =
-    Multiply form ring (turned_if turn desc.turn_first a) (turned_if turn desc.turn_second b)
+turned turn desc (OfOne computes a) = OfOne computes (turned_if turn (turns_one computes desc) a)
+turned turn desc (OfTwo computes a b) =
+    OfTwo computes (turned_if turn desc.turn_first a) (turned_if turn desc.turn_second b)

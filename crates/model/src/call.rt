@@ -1,7 +1,7 @@
 //! The calls, generic in how they name objects.
 
 use crate::{Place, Shape};
-use algebra::{Domain, OpName, RingName};
+use algebra::{Domain, FunctionName, IndexName, MonoidName, OpName, RingName};
 
 /// The flags of a descriptor (`GrB_Descriptor`).
 #[derive(Clone, Copy)]
@@ -39,16 +39,41 @@ pub enum Form {
     VectorMatrix,
 }
 
-/// An operation on its inputs.
+/// The positions at which two inputs are combined.
+#[derive(Clone, Copy)]
+pub enum Positions {
+    /// Those that either has (`GrB_eWiseAdd`).
+    Union,
+    /// Those that both have (`GrB_eWiseMult`).
+    Intersection,
+}
+
+/// What an operation computes of one input.
+#[derive(Clone, Copy)]
+pub enum OneInput {
+    /// A function of each entry (`GrB_apply`).
+    Apply(FunctionName),
+    /// The entries for which an index operator's answer is true (`GrB_select`).
+    Select { op: IndexName, scalar: i128 },
+    /// The sum of each row (`GrB_reduce` to a vector).
+    ReduceRows(MonoidName),
+}
+
+/// What an operation computes of two inputs.
+#[derive(Clone, Copy)]
+pub enum TwoInputs {
+    /// The product of two factors over a semiring.
+    Multiply { form: Form, ring: RingName },
+    /// An operator's answers, position by position.
+    Combine { positions: Positions, op: OpName },
+}
+
+/// An operation on its inputs. How many they are is all that looks up, checks and renames objects, so
+/// that these have a case for each number and not for each operation.
 #[derive(Clone, Copy)]
 pub enum Operation<K> {
-    /// The product of two factors over a semiring.
-    Multiply {
-        form: Form,
-        ring: RingName,
-        a: K,
-        b: K,
-    },
+    OfOne { computes: OneInput, a: K },
+    OfTwo { computes: TwoInputs, a: K, b: K },
 }
 
 /// A call. `K` is how it names objects, and `N` how it names one that it makes: in a script both are
@@ -93,6 +118,11 @@ pub enum Call<K, N> {
     /// Asks for the object's canonical text.
     Print {
         object: K,
+    },
+    /// Asks for the sum of all values (`GrB_reduce` to a scalar).
+    Reduce {
+        object: K,
+        monoid: MonoidName,
     },
     /// Computes an operation, and writes it into its output.
     Operate {

@@ -10,7 +10,7 @@ mod memory;
 mod shape;
 mod status;
 
-pub use call::{Call, Desc, Form, Operation, Out, Plan};
+pub use call::{Call, Desc, Form, OneInput, Operation, Out, Plan, Positions, TwoInputs};
 pub use come::domain_has_come;
 pub use entry::Entry;
 pub use limits::{GREATEST_DIMENSION, LONGEST_LINE, LONGEST_NAME, MOST_OBJECTS};

@@ -15,7 +15,7 @@ use Rattle.std.proofs.lemmas.Slice.Eq.{bytes_eq-Decides}
 use Rattle.algebra.specs.Value.{word_of}
 use Rattle.model.specs.declared.call.Call.TheVariants.{Clear, Create, Free, Operate, Remove, Set}
 use Rattle.model.specs.declared.call.Operation.{Operation}
-use Rattle.model.specs.declared.call.Operation.TheVariants.{Multiply}
+use Rattle.model.specs.declared.call.Operation.TheVariants.{OfOne, OfTwo}
 use Rattle.model.specs.declared.call.Out.{Out}
 use Rattle.model.specs.declared.shape.Place.{Place}
 use Rattle.model.specs.Entries.{entries_of, word_at}
@@ -272,7 +272,8 @@ keeps_inside : (env : PlainEnvironment) (name : Name) → KeepsInside (object_at
 keeps_inside env name = inside_found (find_in env.objects.items name)
 
 inputs_inside : (env : PlainEnvironment) (operation : Operation Name) → All KeepsInside (inputs_of (renamed_operation (object_at (environment_of env)) operation))
-inputs_inside env (Multiply form ring a b) =
+inputs_inside env (OfOne computes a) = All-cons KeepsInside (object_at (environment_of env) a) [] (keeps_inside env a) (All-nil KeepsInside)
+inputs_inside env (OfTwo computes a b) =
     let object = object_at (environment_of env) in
     All-cons KeepsInside (object a) (object b ∷ []) (keeps_inside env a) (All-cons KeepsInside (object b) [] (keeps_inside env b) (All-nil KeepsInside))
 

@@ -5,12 +5,13 @@ use Rattle.std.specs.List.{list_all}
 use Rattle.std.specs.Option.{option_map, option_map_or}
 use Rattle.std.proofs.lemmas.Bool.{and_parts, cases_Bool, true≢false}
 use Rattle.algebra.specs.declared.domain.Domain.{Domain}
+use Rattle.algebra.specs.declared.operator_names.MonoidName.{MonoidName}
 use Rattle.algebra.specs.declared.operator_names.OpName.{OpName}
-use Rattle.algebra.specs.Operators.{answer_domain, offers}
-use Rattle.algebra.specs.Value.{is_value_of, same_domain}
-use Rattle.model.specs.declared.call.Call.TheVariants.{Clear, Create, Nvals, Operate, Print, Remove, Set}
+use Rattle.algebra.specs.Operators.{answer_domain, combines_by, offers}
+use Rattle.algebra.specs.Value.{are_compatible, is_value_of, same_domain}
+use Rattle.model.specs.declared.call.Call.TheVariants.{Clear, Create, Nvals, Operate, Print, Reduce, Remove, Set}
 use Rattle.model.specs.declared.call.Operation.{Operation}
-use Rattle.model.specs.declared.call.Operation.TheVariants.{Multiply}
+use Rattle.model.specs.declared.call.Operation.TheVariants.{OfOne, OfTwo}
 use Rattle.model.specs.declared.call.Out.{Out}
 use Rattle.model.specs.declared.limits.TheConstants.{MOST_OBJECTS}
 use Rattle.model.specs.declared.shape.Place.{Place}
@@ -36,7 +37,8 @@ pub out-composed : {K L M : Type 0} (f : K → L) (g : L → M) (out : Out K) �
 out-composed {M = M} f g out = ap (λ (mask : Option M). let o : Out M = record { c = g (f out.c); mask = mask; accum = out.accum; desc = out.desc } in o) (mask_composed f g out.mask)
 
 pub operation-composed : {K L M : Type 0} (f : K → L) (g : L → M) (operation : Operation K) → renamed_operation g (renamed_operation f operation) ≡ renamed_operation (λ k. g (f k)) operation
-operation-composed f g (Multiply form ring a b) = refl
+operation-composed f g (OfOne computes a) = refl
+operation-composed f g (OfTwo computes a b) = refl
 
 mask_same : {K L : Type 0} (f g : K → L) (mask : Option K) → ((k : K) → f k ≡ g k) → option_map f mask ≡ option_map g mask
 mask_same f g None same = refl
@@ -46,7 +48,8 @@ out-same : {K L : Type 0} (f g : K → L) (out : Out K) → ((k : K) → f k ≡
 out-same f g out same = λ i. record { c = same out.c i; mask = mask_same f g out.mask same i; accum = out.accum; desc = out.desc }
 
 operation-same : {K L : Type 0} (f g : K → L) (operation : Operation K) → ((k : K) → f k ≡ g k) → renamed_operation f operation ≡ renamed_operation g operation
-operation-same f g (Multiply form ring a b) same = λ i. Multiply form ring (same a i) (same b i)
+operation-same f g (OfOne computes a) same = λ i. OfOne computes (same a i)
+operation-same f g (OfTwo computes a b) same = λ i. OfTwo computes (same a i) (same b i)
 
 mask_itself : {K : Type 0} (mask : Option K) → option_map (λ k. k) mask ≡ mask
 mask_itself None = refl
@@ -56,7 +59,8 @@ out-itself : {K : Type 0} (out : Out K) → renamed_out (λ k. k) out ≡ out
 out-itself {K = K} out = ap (λ (mask : Option K). let o : Out K = record out { mask = mask } in o) (mask_itself out.mask)
 
 operation-itself : {K : Type 0} (operation : Operation K) → renamed_operation (λ k. k) operation ≡ operation
-operation-itself (Multiply form ring a b) = refl
+operation-itself (OfOne computes a) = refl
+operation-itself (OfTwo computes a b) = refl
 
 -- the objects that names stand for
 pub out-found : {K : Type 0} (find_object : K → Option Object) (names : Out K) (out : Out Object) → renamed_out Some out ≡ renamed_out find_object names → out ≡ renamed_out (λ name. found_object (find_object name)) names
@@ -91,8 +95,11 @@ abbrev pub all_there : {X : Type 0} → Out (Option X) → Operation (Option X) 
 all_there out operation = list_all is_some (outputs_of out ++ inputs_of operation)
 
 there-known : {X Y : Type 0} (f : X → Y) (out : Out (Option X)) (operation : Operation (Option X)) → all_there (renamed_out (option_map f) out) (renamed_operation (option_map f) operation) ≡ all_there out operation
-there-known {X = X} f out (Multiply form ring a b) =
-    elim out.mask as (λ (mask : Option (Option X)). let o : Out (Option X) = record out { mask = mask } in all_there (renamed_out (option_map f) o) (renamed_operation (option_map f) (Multiply form ring a b)) ≡ all_there o (Multiply form ring a b))
+there-known {X = X} f out (OfOne computes a) =
+    elim out.mask as (λ (mask : Option (Option X)). let o : Out (Option X) = record out { mask = mask } in all_there (renamed_out (option_map f) o) (renamed_operation (option_map f) (OfOne computes a)) ≡ all_there o (OfOne computes a))
+    [ None ↦ rw (known_there f out.c, known_there f a) refl | Some m ↦ rw (known_there f out.c, known_there f m, known_there f a) refl ]
+there-known {X = X} f out (OfTwo computes a b) =
+    elim out.mask as (λ (mask : Option (Option X)). let o : Out (Option X) = record out { mask = mask } in all_there (renamed_out (option_map f) o) (renamed_operation (option_map f) (OfTwo computes a b)) ≡ all_there o (OfTwo computes a b))
     [ None ↦ rw (known_there f out.c, known_there f a, known_there f b) refl | Some m ↦ rw (known_there f out.c, known_there f m, known_there f a, known_there f b) refl ]
 
 early-missing : (count : ℕ) (out : Out (Option Signature)) (operation : Operation (Option Signature)) → all_there out operation ≡ false → early_fault count (Operate out operation) ≡ Some status.UninitializedObject
@@ -137,8 +144,10 @@ pub fault-no_input : (count : ℕ) (out : Out (Option Object)) (operation : Oper
 fault-no_input count out operation h = missing count out operation (nor {L = Object} (outputs_of out) (inputs_of operation) h)
 
 all_some : {X : Type 0} (out : Out X) (operation : Operation X) → all_there (renamed_out Some out) (renamed_operation Some operation) ≡ true
-all_some {X = X} out (Multiply form ring a b) =
-    elim out.mask as (λ (mask : Option X). let o : Out X = record out { mask = mask } in all_there (renamed_out Some o) (renamed_operation Some (Multiply form ring a b)) ≡ true) [ None ↦ refl | Some m ↦ refl ]
+all_some {X = X} out (OfOne computes a) =
+    elim out.mask as (λ (mask : Option X). let o : Out X = record out { mask = mask } in all_there (renamed_out Some o) (renamed_operation Some (OfOne computes a)) ≡ true) [ None ↦ refl | Some m ↦ refl ]
+all_some {X = X} out (OfTwo computes a b) =
+    elim out.mask as (λ (mask : Option X). let o : Out X = record out { mask = mask } in all_there (renamed_out Some o) (renamed_operation Some (OfTwo computes a b)) ≡ true) [ None ↦ refl | Some m ↦ refl ]
 
 pub fault-known : (count : ℕ) (known_out : Out Object) (known : Operation Object) (out : Out (Option Object)) (operation : Operation (Option Object))
     → renamed_out Some known_out ≡ out → renamed_operation Some known ≡ operation
@@ -177,7 +186,8 @@ accepted-fault count find_object out operation accepted =
     ∙ sym (there count found_out found_operation (accepted-there count found_out found_operation accepted)) ∙ accepted
 
 offered_as : {K L : Type 0} (f : K → L) (operation : Operation K) → is_offered (renamed_operation f operation) ≡ is_offered operation
-offered_as f (Multiply form ring a b) = refl
+offered_as f (OfOne computes a) = refl
+offered_as f (OfTwo computes a b) = refl
 
 accumulator-offered : (domain : Domain) (accum : Option OpName) → option_map_or (accumulates domain) accum true ≡ true → accumulator_offered accum ≡ true
 accumulator-offered domain None h = refl
@@ -205,6 +215,17 @@ pub accepted-print : (count : ℕ) (o : Option Object) → fault_of count (Print
 unfolding early_fault
 accepted-print count None h = absurd (cc)
 accepted-print count (Some o) h = refl
+
+-- an accepted sum has its object and its monoid
+summed : (offered compatible : Bool) → option_map_or Some (cond (not offered) (Some status.NotImplemented) (cond (not compatible) (Some status.DomainMismatch) None)) None ≡ None → offered ≡ true
+summed true compatible h = refl
+summed false compatible h = absurd (cc)
+
+pub accepted-reduce : (count : ℕ) (o : Option Object) (monoid : MonoidName) → fault_of count (Reduce o monoid) ≡ None
+    → (is_some o ≡ true) × (offers (combines_by monoid.kind) monoid.domain ≡ true)
+unfolding early_fault
+accepted-reduce count None monoid h = absurd (cc)
+accepted-reduce count (Some o) monoid h = (refl, summed (offers (combines_by monoid.kind) monoid.domain) (are_compatible o.domain monoid.domain) h)
 
 pub accepted-clear : (count : ℕ) (o : Option Object) → fault_of count (Clear o) ≡ None → o ≡ None → ⊥
 unfolding early_fault

@@ -2,3 +2,4 @@ pub mod EnvironmentLaws
 pub mod FaultLaws
 pub mod GridLaws
 pub mod ProductLaws
+pub mod SumLaws

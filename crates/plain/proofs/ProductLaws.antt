@@ -9,11 +9,7 @@ use Rattle.model.specs.Object.{Content}
 use Rattle.model.specs.Product.{add_of, product, product_of, sum_of, terms}
 use Rattle.plain.specs.Evaluated.{added}
 use Rattle.plain.proofs.GridLaws.{filter_map-below-more}
-
-sum-more : (ring : RingName) (ts : List ℕ) (t : Option ℕ) → sum_of ring (ts ++ cons_option t []) ≡ added (add_of ring) (sum_of ring ts) t
-sum-more ring ts None = ap (sum_of ring) (append-nil ts)
-sum-more ring [] (Some t) = refl
-sum-more ring (u ∷ us) (Some t) = ap Some (fold-append (add_of ring) u us (t ∷ []))
+use Rattle.plain.proofs.SumLaws.{sum-more}
 
 pub product-start : (ring : RingName) (a b : Content) (i j : ℕ) → None ≡ product ring 0 a b i j
 unfolding product count_from
@@ -23,7 +19,7 @@ product-start ring a b i j = refl
 product-more : (ring : RingName) (n : ℕ) (a b : Content) (i j : ℕ) → product ring (n + 1) a b i j ≡ added (add_of ring) (product ring n a b i j) (product_of ring (a i n) (b n j))
 unfolding product
 product-more ring n a b i j =
-    ap (sum_of ring) (filter_map-below-more (λ k. product_of ring (a i k) (b k j)) n) ∙ sum-more ring (terms ring n a b i j) (product_of ring (a i n) (b n j))
+    ap (sum_of ring) (filter_map-below-more (λ k. product_of ring (a i k) (b k j)) n) ∙ sum-more (add_of ring) (terms ring n a b i j) (product_of ring (a i n) (b n j))
 
 -- a turn of the loop over the terms
 pub term-added : (ring : RingName) (n : ℕ) (a b : Content) (i j : ℕ) (x y term sum new : Option ℕ)

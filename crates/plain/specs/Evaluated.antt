@@ -16,7 +16,7 @@ use Rattle.model.specs.Renamed.{renamed_operation, renamed_out}
 use Rattle.model.specs.Table.{is_offered, turned_if}
 use Rattle.model.specs.WriteBack.{result_of}
 use Rattle.plain.specs.declared.objects.PlainObject.{PlainObject}
-use Rattle.plain.specs.declared.operations.Input.{Input}
+use Rattle.plain.specs.declared.inputs.Input.{Input}
 
 -- what a map has inside a shape of so many rows and columns
 abbrev pub within : ℕ → ℕ → Content → Content

@@ -6,7 +6,7 @@ ghost use Rattle.plain.specs.Evaluated.{lines_of, object_of};
 
 use crate::environment::PlainEnvironment;
 use crate::objects::PlainObject;
-use crate::text::{canonical_lines, count_lines, value_lines};
+use crate::text::{canonical_lines, count_lines, sum_lines, value_lines};
 use model::{Call, Status};
 use std::alloc::{AllocError, Global};
 
@@ -45,6 +45,12 @@ impl PlainEnvironment {
             Call::Get { object, place } => value_lines(alloc, self.object(object), place),
             Call::Nvals { object } => count_lines(alloc, self.object(object)),
             Call::Print { object } => canonical_lines(alloc, self.object(object)),
+            Call::Reduce { object, monoid } => {
+                let Some(monoid) = monoid.resolve() else {
+                    unreachable!()
+                };
+                sum_lines(alloc, monoid, self.object(object))
+            }
             _ => Ok(Vec::new(alloc)),
         }
     }

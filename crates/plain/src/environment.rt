@@ -85,10 +85,14 @@ impl PlainEnvironment {
             (λ objects. renamed_operation Some (operation_of objects) ≡ found) }
     {
         match *operation {
-            Operation::Multiply { form, ring, a, b } => {
+            Operation::OfOne { computes, a } => {
+                let a = self.find(a)?;
+                Some(Operation::OfOne { computes, a })
+            }
+            Operation::OfTwo { computes, a, b } => {
                 let a = self.find(a)?;
                 let b = self.find(b)?;
-                Some(Operation::Multiply { form, ring, a, b })
+                Some(Operation::OfTwo { computes, a, b })
             }
         }
     }
@@ -247,7 +251,9 @@ impl PlainEnvironment {
                 place,
                 value,
             } => self.set(object, *place, *value),
-            Call::Get { .. } | Call::Nvals { .. } | Call::Print { .. } => Ok(()),
+            Call::Get { .. } | Call::Nvals { .. } | Call::Print { .. } | Call::Reduce { .. } => {
+                Ok(())
+            }
             Call::Operate { out, operation } => self.operate(alloc, out, operation),
         }
     }

@@ -9,7 +9,7 @@ ghost use Rattle.plain.specs.Evaluated.{known_operation, known_out};
 use crate::environment::PlainEnvironment;
 use crate::objects::PlainObject;
 use crate::operations::{is_offered, plan};
-use algebra::{Domain, OpName, compatible};
+use algebra::{Domain, MonoidName, OpName, compatible};
 use model::{Call, MOST_OBJECTS, Operation, Out, Place, Shape, Status};
 
 impl PlainEnvironment {
@@ -30,6 +30,7 @@ impl PlainEnvironment {
             | Call::Clear { object }
             | Call::Nvals { object }
             | Call::Print { object } => self.name_fault(object),
+            Call::Reduce { object, monoid } => self.reduce_fault(object, *monoid),
             Call::Operate { out, operation } => self.operate_fault(out, operation),
         }
     }
@@ -113,6 +114,23 @@ impl PlainEnvironment {
         match self.find(name) {
             None => Some(Status::UninitializedObject),
             Some(_) => None,
+        }
+    }
+
+    /// The fault of asking for the sum of all values.
+    #[tactic(auto, unfolding(model::specs::Fault::early_fault))]
+    fn reduce_fault(&self, name: &str, monoid: MonoidName) -> Option<Status>
+        ensures { result ≡ fault_in self.now (Call.Reduce name.now monoid) }
+    {
+        let Some(object) = self.find(name) else {
+            return Some(Status::UninitializedObject);
+        };
+        if !monoid.is_offered() {
+            Some(Status::NotImplemented)
+        } else if !compatible(object.domain, monoid.domain) {
+            Some(Status::DomainMismatch)
+        } else {
+            None
         }
     }
 

@@ -6,8 +6,11 @@ mod answers;
 mod environment;
 mod faults;
 mod grid;
+mod inputs;
 mod objects;
 mod operations;
+mod products;
+mod sums;
 mod text;
 mod write_back;
 

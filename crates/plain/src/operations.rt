@@ -1,63 +1,46 @@
 //! What operations compute, one position at a time, and what the table of operations says of them.
 ghost use Rattle.std.specs.Prelude.{◌≡◌, true};
-ghost use Rattle.algebra.specs.OperatorNames.{ring_named};
+ghost use Rattle.algebra.specs.Functions.{function_domain, offers_function};
+ghost use Rattle.algebra.specs.IndexOperators.{offers_index};
+ghost use Rattle.algebra.specs.Operators.{offers};
+ghost use Rattle.model.specs.ElementWise.{applied, selected};
 ghost use Rattle.model.specs.Fault.{plan_in};
-ghost use Rattle.model.specs.Object.{in_domain, turned_object};
-ghost use Rattle.model.specs.Operations.{multiplied, operation as computed};
-ghost use Rattle.model.specs.Product.{add_of, product_of};
-ghost use Rattle.model.specs.Table.{are_factors, inner_size, is_offered, product_shape, turned, turned_if};
-ghost use Rattle.plain.specs.Evaluated.{added, first_factor, input_of, known_operation, object_of, operation_of};
-ghost use Rattle.plain.specs.Evaluated.{place_in};
+ghost use Rattle.model.specs.Object.{in_domain, signature_of, turned_object};
+ghost use Rattle.model.specs.Operations.{combined, computed_of_one, computed_of_two, operation as computed};
+ghost use Rattle.model.specs.Table.{is_offered, offers_one, offers_two, plan_of_one, plan_of_two, turned, turns_one};
+ghost use Rattle.plain.specs.Evaluated.{input_of, known_operation, operation_of};
 
+use crate::inputs::{Input, read};
 use crate::objects::PlainObject;
-use algebra::{Domain, Semiring, cast, compatible};
-use model::{Desc, Form, Operation, Plan, Shape};
-
-/// An input of an operation, and whether it is read transposed.
-#[derive(Clone, Copy)]
-struct Input<'a> {
-    object: &'a PlainObject,
-    is_turned: bool,
-}
-
-impl Input<'_> {
-    /// The shape as it is read.
-    fn shape(self) -> Shape
-        ensures { result ≡ (input_of self.entry).shape }
-    {
-        if self.is_turned {
-            self.object.shape.turned()
-        } else {
-            self.object.shape
-        }
-    }
-
-    /// The word at a position as it is read, in a domain.
-    fn word_in(self, domain: Domain, row: u64, col: u64) -> Option<u64>
-        ensures { result ≡ in_domain domain (input_of self.entry) row col }
-    {
-        let word = if self.is_turned && self.object.shape.is_matrix() {
-            self.object.word(col, row)
-        } else {
-            self.object.word(row, col)
-        };
-        word.map(|word| cast(word, self.object.domain, domain))
-    }
-}
-
-/// An input that is read transposed, if its flag says so.
-const fn read(is_turned: bool, object: &PlainObject) -> Input<'_>
-    ensures { input_of result ≡ turned_if turned_object is_turned (object_of object.now) }
-{
-    Input { object, is_turned }
-}
+use crate::products::{are_factors, inner_size, product, product_shape};
+use crate::sums::row_sum;
+use algebra::{FunctionName, IndexName, OpName, compatible};
+use model::{Desc, OneInput, Operation, Plan, Positions, Shape, TwoInputs};
 
 /// Whether there is the operator that an operation names.
 pub fn is_offered(operation: &Operation<&PlainObject>) -> bool
     ensures { result ≡ is_offered operation.now }
 {
     match operation {
-        Operation::Multiply { ring, .. } => ring.is_offered(),
+        Operation::OfOne { computes, .. } => match computes {
+            OneInput::Apply(function) => function.is_offered(),
+            OneInput::Select { op, .. } => op.is_offered(),
+            OneInput::ReduceRows(monoid) => monoid.is_offered(),
+        },
+        Operation::OfTwo { computes, .. } => match computes {
+            TwoInputs::Multiply { ring, .. } => ring.is_offered(),
+            TwoInputs::Combine { op, .. } => op.is_offered(),
+        },
+    }
+}
+
+/// The flag by which the one input is read transposed.
+const fn turns_one(computes: OneInput, desc: Desc) -> bool
+    ensures { result ≡ turns_one computes desc }
+{
+    match computes {
+        OneInput::Apply(FunctionName::First { .. }) => desc.turn_second,
+        _ => desc.turn_first,
     }
 }
 
@@ -66,18 +49,73 @@ pub fn plan(desc: Desc, operation: &Operation<&PlainObject>) -> Plan
     ensures { result ≡ plan_in desc (known_operation operation.now) }
 {
     match *operation {
-        Operation::Multiply { form, ring, a, b } => {
-            let first = read(desc.turn_first, a).shape();
-            let second = read(desc.turn_second, b).shape();
-            Plan {
-                kinds: are_factors(form, first, second),
-                compatible: compatible(a.domain, ring.domain) && compatible(b.domain, ring.domain),
-                fits: inner_size(form, first) == second.rows(),
-                values: true,
-                shape: product_shape(form, first, second),
-                domain: ring.answer(),
-            }
+        Operation::OfOne { computes, a } => {
+            plan_of_one(computes, read(turns_one(computes, desc), a))
         }
+        Operation::OfTwo { computes, a, b } => plan_of_two(
+            computes,
+            read(desc.turn_first, a),
+            read(desc.turn_second, b),
+        ),
+    }
+}
+
+/// What the table says of an operation on one input.
+fn plan_of_one(computes: OneInput, a: Input) -> Plan
+    ensures { result ≡ plan_of_one computes (signature_of (input_of a.entry)) }
+{
+    let (shape, domain) = (a.shape(), a.object.domain);
+    match computes {
+        OneInput::Apply(function) => Plan {
+            kinds: true,
+            compatible: function.takes(domain),
+            fits: true,
+            values: function.has_value(),
+            shape,
+            domain: function.answer(),
+        },
+        OneInput::Select { op, scalar } => Plan {
+            kinds: true,
+            compatible: op.takes(domain),
+            fits: true,
+            values: op.scalar().word_of(scalar).is_some(),
+            shape,
+            domain,
+        },
+        OneInput::ReduceRows(monoid) => Plan {
+            kinds: shape.is_matrix(),
+            compatible: compatible(domain, monoid.domain),
+            fits: true,
+            values: true,
+            shape: Shape::One(shape.rows()),
+            domain: monoid.domain,
+        },
+    }
+}
+
+/// What the table says of an operation on two inputs.
+fn plan_of_two(computes: TwoInputs, a: Input, b: Input) -> Plan
+    ensures { result ≡ plan_of_two computes (signature_of (input_of a.entry)) (signature_of (input_of b.entry)) }
+{
+    let (first, second) = (a.shape(), b.shape());
+    let (from, other) = (a.object.domain, b.object.domain);
+    match computes {
+        TwoInputs::Multiply { form, ring } => Plan {
+            kinds: are_factors(form, first, second),
+            compatible: compatible(from, ring.domain) && compatible(other, ring.domain),
+            fits: inner_size(form, first) == second.rows(),
+            values: true,
+            shape: product_shape(form, first, second),
+            domain: ring.answer(),
+        },
+        TwoInputs::Combine { op, .. } => Plan {
+            kinds: first.is_like(second),
+            compatible: compatible(from, op.domain) && compatible(other, op.domain),
+            fits: first.is_same(second),
+            values: true,
+            shape: first,
+            domain: op.answer(),
+        },
     }
 }
 
@@ -88,102 +126,97 @@ pub fn value_at(desc: Desc, operation: &Operation<&PlainObject>, row: u64, col: 
     ensures { result ≡ computed (turned turned_object desc (operation_of operation.now)) row col }
 {
     match *operation {
-        Operation::Multiply { form, ring, a, b } => {
-            let Some(ring) = ring.resolve() else {
+        Operation::OfOne { computes, a } => {
+            one_at(computes, read(turns_one(computes, desc), a), row, col)
+        }
+        Operation::OfTwo { computes, a, b } => two_at(
+            computes,
+            read(desc.turn_first, a),
+            read(desc.turn_second, b),
+            row,
+            col,
+        ),
+    }
+}
+
+/// What an operation computes of one input at a position.
+fn one_at(computes: OneInput, a: Input, row: u64, col: u64) -> Option<u64>
+    requires { offers_one computes ≡ true }
+    ensures { result ≡ computed_of_one computes (input_of a.entry) row col }
+{
+    match computes {
+        OneInput::Apply(function) => applied(function, a, row, col),
+        OneInput::Select { op, scalar } => selected(op, scalar, a, row, col),
+        OneInput::ReduceRows(monoid) => {
+            let Some(monoid) = monoid.resolve() else {
                 unreachable!()
             };
-            let first = read(desc.turn_first, a);
-            let second = read(desc.turn_second, b);
-            product(form, ring, first, second, row, col)
+            row_sum(monoid, a, row, col)
         }
     }
 }
 
-/// Whether factors are of the kinds that a product's form says.
-const fn are_factors(form: Form, first: Shape, second: Shape) -> bool
-    ensures { result ≡ are_factors form first second }
+/// What an operation computes of two inputs at a position.
+fn two_at(computes: TwoInputs, a: Input, b: Input, row: u64, col: u64) -> Option<u64>
+    requires { offers_two computes ≡ true }
+    ensures { result ≡ computed_of_two computes (input_of a.entry) (input_of b.entry) row col }
 {
-    match form {
-        Form::MatrixMatrix => first.is_matrix() && second.is_matrix(),
-        Form::MatrixVector => first.is_matrix() && !second.is_matrix(),
-        Form::VectorMatrix => !first.is_matrix() && second.is_matrix(),
+    match computes {
+        TwoInputs::Multiply { form, ring } => {
+            let Some(ring) = ring.resolve() else {
+                unreachable!()
+            };
+            product(form, ring, a, b, row, col)
+        }
+        TwoInputs::Combine { positions, op } => combined(positions, op, a, b, row, col),
     }
 }
 
-/// The number of products that are summed at most.
-const fn inner_size(form: Form, first: Shape) -> u64
-    ensures { result ≡ inner_size form first }
+/// A function of the value at a position, where there is one.
+fn applied(function: FunctionName, a: Input, row: u64, col: u64) -> Option<u64>
+    requires { offers_function function ≡ true }
+    ensures { result ≡ applied function (in_domain (function_domain function) (input_of a.entry)) row col }
 {
-    match form {
-        Form::MatrixMatrix | Form::MatrixVector => first.cols(),
-        Form::VectorMatrix => first.rows(),
+    let word = a.word_in(function.domain(), row, col)?;
+    let Some(function) = function.resolve() else {
+        unreachable!()
+    };
+    Some(function.eval(word, row, col))
+}
+
+/// The word at a position, where there is one and an index operator's answer is true.
+fn selected(op: IndexName, scalar: i128, a: Input, row: u64, col: u64) -> Option<u64>
+    requires { offers_index op.kind op.domain ≡ true }
+    ensures { result ≡ selected op scalar (input_of a.entry) row col }
+{
+    let word = a.word(row, col)?;
+    let Some(op) = op.resolve() else {
+        unreachable!()
+    };
+    let s = op.scalar().wrapped(scalar);
+    if op.passes(a.cast_word(word, op.domain), row, col, s) {
+        Some(word)
+    } else {
+        None
     }
 }
 
-const fn product_shape(form: Form, first: Shape, second: Shape) -> Shape
-    ensures { result ≡ product_shape form first second }
+/// What an operator gives for the words of two inputs at a position, or what one alone has.
+fn combined(positions: Positions, op: OpName, a: Input, b: Input, row: u64, col: u64) -> Option<u64>
+    requires { offers op.kind op.domain ≡ true }
+    ensures { result ≡ combined positions op (input_of a.entry) (input_of b.entry) row col }
 {
-    match form {
-        Form::MatrixMatrix => Shape::Two(first.rows(), second.cols()),
-        Form::MatrixVector => Shape::One(first.rows()),
-        Form::VectorMatrix => Shape::One(second.cols()),
-    }
-}
-
-/// The sum of the products at a position, in the domain of the semiring's sums.
-fn product(form: Form, ring: Semiring, a: Input, b: Input, row: u64, col: u64) -> Option<u64>
-    ensures { let ring = ring_named ring in
-        result ≡ multiplied form ring (inner_size form (input_of a.entry).shape)
-        (in_domain ring.domain (input_of a.entry)) (in_domain ring.domain (input_of b.entry)) row col }
-{
-    let domain = ring.multiply.domain;
-    let terms = inner_size(form, a.shape());
-    let (row, col) = place_in(form, row, col);
-    let mut sum = None;
-    for k in 0..terms {
-        let x = first_word(form, domain, a, row, k);
-        let y = b.word_in(domain, k, col);
-        sum = plus(ring, sum, times(ring, x, y));
-    }
-    sum
-}
-
-/// The row and the column of a position, which are exchanged where the product is a row that is held as
-/// a column.
-const fn place_in(form: Form, row: u64, col: u64) -> (u64, u64)
-    ensures { result ≡ place_in form row col }
-{
-    match form {
-        Form::MatrixMatrix | Form::MatrixVector => (row, col),
-        Form::VectorMatrix => (col, row),
-    }
-}
-
-/// The word of the first factor, which as a vector is a row that is held as a column.
-fn first_word(form: Form, domain: Domain, a: Input, row: u64, col: u64) -> Option<u64>
-    ensures { result ≡ first_factor form (in_domain domain (input_of a.entry)) row col }
-{
-    let (row, col) = place_in(form, row, col);
-    a.word_in(domain, row, col)
-}
-
-/// A word times a word, where both are there.
-const fn times(ring: Semiring, x: Option<u64>, y: Option<u64>) -> Option<u64>
-    ensures { result ≡ product_of (ring_named ring) x y }
-{
-    match (x, y) {
-        (Some(x), Some(y)) => Some(ring.multiply.eval(x, y)),
+    let Some(op) = op.resolve() else {
+        unreachable!()
+    };
+    match (a.word(row, col), b.word(row, col), positions) {
+        (Some(x), Some(y), _) => {
+            let x = a.cast_word(x, op.domain);
+            let y = b.cast_word(y, op.domain);
+            Some(op.eval(x, y))
+        }
+        (Some(x), None, Positions::Union) => Some(a.cast_word(x, op.answer())),
+        (None, Some(y), Positions::Union) => Some(b.cast_word(y, op.answer())),
         _ => None,
-    }
-}
-
-/// A sum and one more term, where they are there.
-const fn plus(ring: Semiring, sum: Option<u64>, term: Option<u64>) -> Option<u64>
-    ensures { result ≡ added (add_of (ring_named ring)) sum term }
-{
-    match (sum, term) {
-        (_, None) => sum,
-        (None, Some(_)) => term,
-        (Some(sum), Some(term)) => Some(ring.add.op.eval(sum, term)),
     }
 }

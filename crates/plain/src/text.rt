@@ -3,12 +3,15 @@ ghost use Rattle.std.specs.Prelude.{◌≡◌, ◌++◌, ◌∷◌, [], IfOk, On
 ghost use Rattle.std.specs.Option.{option_map_or};
 ghost use Rattle.model.specs.Entries.{entries_of};
 ghost use Rattle.model.specs.Object.{col_of, cols_of, row_of, rows_of};
+ghost use Rattle.algebra.specs.OperatorNames.{monoid_named};
+ghost use Rattle.model.specs.Reductions.{sum_in};
 ghost use Rattle.model.specs.Text.{canonical_lines, entry_line, value_text};
 ghost use Rattle.plain.specs.Evaluated.{lines_of, object_of};
 
 use crate::grid::entries;
 use crate::objects::PlainObject;
-use algebra::Domain;
+use crate::sums::sum_of_all;
+use algebra::{Domain, Monoid};
 use model::{Entry, Place};
 use std::alloc::{AllocError, Global};
 
@@ -36,6 +39,21 @@ pub fn value_lines(
     if let Some(word) = object.word(place.row(), place.col()) {
         lines.push(value_text(alloc, object.domain, word)?)?;
     }
+    Ok(lines)
+}
+
+/// The line of the sum of all values.
+pub fn sum_lines(
+    alloc: Global,
+    monoid: Monoid,
+    object: &PlainObject,
+) -> Result<Vec<Vec<u8>>, AllocError>
+    ensures { IfOk result (λ lines. lines_of lines
+        ≡ value_text monoid.op.domain (sum_in (monoid_named monoid) (object_of object.now)) ∷ []) }
+{
+    let sum = sum_of_all(monoid, object);
+    let mut lines = Vec::new(alloc);
+    lines.push(value_text(alloc, monoid.op.domain, sum)?)?;
     Ok(lines)
 }
 

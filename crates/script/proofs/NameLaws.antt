@@ -9,9 +9,9 @@ use Rattle.std.proofs.lemmas.Slice.Eq.{bytes_eq-Decides}
 use Rattle.calls.specs.Checks.{known_call}
 use Rattle.calls.specs.declared.obj.Obj.{Obj}
 use Rattle.model.specs.declared.call.Call.{Call}
-use Rattle.model.specs.declared.call.Call.TheVariants.{Create, Free, Clear, Set, Remove, Get, Nvals, Print, Operate}
+use Rattle.model.specs.declared.call.Call.TheVariants.{Create, Free, Clear, Set, Remove, Get, Nvals, Print, Reduce, Operate}
 use Rattle.model.specs.declared.call.Operation.{Operation}
-use Rattle.model.specs.declared.call.Operation.TheVariants.{Multiply}
+use Rattle.model.specs.declared.call.Operation.TheVariants.{OfOne, OfTwo}
 use Rattle.model.specs.declared.call.Out.{Out}
 use Rattle.model.specs.declared.shape.Signature.{Signature}
 use Rattle.model.specs.declared.status.Status.TheVariants as status
@@ -45,6 +45,7 @@ seen-unmade env (Remove o p) h = refl
 seen-unmade env (Get o p) h = refl
 seen-unmade env (Nvals o) h = refl
 seen-unmade env (Print o) h = refl
+seen-unmade env (Reduce o monoid) h = refl
 seen-unmade env (Operate out operation) h = refl
 
 pub count-left : (session : Session) → made_in session < 2 ^ 64 - 1 → count_in session ≡ (environment_of session).count
@@ -68,9 +69,13 @@ fault-along number session call r small known e =
 -- ---- a name that stands for nothing
 
 there_renamed-out : {K X : Type 0} (f : K → Option X) (out : Out K) (operation : Operation K) → list_all is_some (outputs_of (renamed_out f out) ++ inputs_of (renamed_operation f operation)) ≡ list_all (λ k. is_some (f k)) (outputs_of out ++ inputs_of operation)
-there_renamed-out {K = K} f out (Multiply form ring a b) =
+there_renamed-out {K = K} f out (OfOne computes a) =
     elim out.mask as (λ (mask : Option K). let o : Out K = record out { mask = mask } in
-    list_all is_some (outputs_of (renamed_out f o) ++ inputs_of (renamed_operation f (Multiply form ring a b))) ≡ list_all (λ k. is_some (f k)) (outputs_of o ++ inputs_of (Multiply form ring a b)))
+    list_all is_some (outputs_of (renamed_out f o) ++ inputs_of (renamed_operation f (OfOne computes a))) ≡ list_all (λ k. is_some (f k)) (outputs_of o ++ inputs_of (OfOne computes a)))
+    [ None ↦ refl | Some m ↦ refl ]
+there_renamed-out {K = K} f out (OfTwo computes a b) =
+    elim out.mask as (λ (mask : Option K). let o : Out K = record out { mask = mask } in
+    list_all is_some (outputs_of (renamed_out f o) ++ inputs_of (renamed_operation f (OfTwo computes a b))) ≡ list_all (λ k. is_some (f k)) (outputs_of o ++ inputs_of (OfTwo computes a b)))
     [ None ↦ refl | Some m ↦ refl ]
 
 pub there_renamed : {K X A B : Type 0} (f : K → Option X) (k : A → B) (call : Call K A) → are_there (renamed f k call) ≡ list_all (λ name. is_some (f name)) (objects_of call)
@@ -82,6 +87,7 @@ there_renamed f k (Remove o p) = refl
 there_renamed f k (Get o p) = refl
 there_renamed f k (Nvals o) = refl
 there_renamed f k (Print o) = refl
+there_renamed f k (Reduce o monoid) = refl
 there_renamed f k (Operate out operation) = there_renamed-out f out operation
 
 either_false : (a b : Bool) → b ≡ false → (a && b) ≡ false
@@ -108,6 +114,7 @@ early-missing count (Remove o p) known h = rw h refl
 early-missing count (Get o p) known h = rw h refl
 early-missing count (Nvals o) known h = rw h refl
 early-missing count (Print o) known h = rw h refl
+early-missing count (Reduce o monoid) known h = rw h refl
 early-missing count (Operate out operation) known h = rw h refl
 
 pub names_renamed : {K L A B : Type 0} (f : K → L) (k : A → B) (call : Call K A) → changes_names (renamed f k call) ≡ changes_names call
@@ -119,6 +126,7 @@ names_renamed f k (Remove o p) = refl
 names_renamed f k (Get o p) = refl
 names_renamed f k (Nvals o) = refl
 names_renamed f k (Print o) = refl
+names_renamed f k (Reduce o monoid) = refl
 names_renamed f k (Operate out operation) = refl
 
 first_fault : {X : Type 0} (fault : Option X) (x : X) (rest : Option X) → fault ≡ Some x → option_map_or Some fault rest ≡ Some x
@@ -148,7 +156,8 @@ own_mask None = refl
 own_mask (Some k) = refl
 
 own_operation : {K : Type 0} (operation : Operation K) → renamed_operation (λ k. k) operation ≡ operation
-own_operation (Multiply form ring a b) = refl
+own_operation (OfOne computes a) = refl
+own_operation (OfTwo computes a b) = refl
 
 pub own_number : (n : ℕ) → (n == n) ≡ true
 own_number n = grind (arith, nat_tests)
@@ -164,6 +173,7 @@ effect-unmade same env (Remove o p) h = refl
 effect-unmade same env (Get o p) h = refl
 effect-unmade same env (Nvals o) h = refl
 effect-unmade same env (Print o) h = refl
+effect-unmade same env (Reduce o monoid) h = refl
 effect-unmade same env (Operate out operation) h = refl
 
 pub output_renamed : {K L A B : Type 0} (f : K → L) (k : A → B) (call : Call K A) → output_of (renamed f k call) ≡ option_map f (output_of call)
@@ -175,6 +185,7 @@ output_renamed f k (Remove o p) = refl
 output_renamed f k (Get o p) = refl
 output_renamed f k (Nvals o) = refl
 output_renamed f k (Print o) = refl
+output_renamed f k (Reduce o monoid) = refl
 output_renamed f k (Operate out operation) = refl
 
 pub left_renamed : {A B : Type 0} (k : A → B) (call : Call Object A) → left_by (renamed (λ o. o) k call) ≡ left_by call
@@ -186,6 +197,7 @@ left_renamed k (Remove o p) = refl
 left_renamed k (Get o p) = refl
 left_renamed k (Nvals o) = refl
 left_renamed k (Print o) = refl
+left_renamed k (Reduce o monoid) = refl
 left_renamed k (Operate out operation) =
     ap (λ (mask : Option Object). let o : Out Object = record { c = out.c; mask = mask; accum = out.accum; desc = out.desc } in result_of o (renamed_operation (λ o. o) operation)) (own_mask out.mask)
     ∙ ap (λ (o : Operation Object). result_of out o) (own_operation operation)
@@ -200,6 +212,7 @@ data_renamed k (Remove o p) = refl
 data_renamed k (Get o p) = refl
 data_renamed k (Nvals o) = refl
 data_renamed k (Print o) = refl
+data_renamed k (Reduce o monoid) = refl
 data_renamed k (Operate out operation) = refl
 
 -- the objects of a call on names are those of the call on numbers

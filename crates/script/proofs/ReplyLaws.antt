@@ -7,7 +7,7 @@ use Rattle.std.specs.Str.{bytes_eq}
 use Rattle.std.proofs.lemmas.Bool.{true≢false}
 use Rattle.calls.specs.declared.obj.Obj.{Obj}
 use Rattle.model.specs.declared.call.Call.{Call}
-use Rattle.model.specs.declared.call.Call.TheVariants.{Create, Free, Clear, Set, Remove, Get, Nvals, Print, Operate}
+use Rattle.model.specs.declared.call.Call.TheVariants.{Create, Free, Clear, Set, Remove, Get, Nvals, Print, Reduce, Operate}
 use Rattle.model.specs.declared.status.Status.{Status}
 use Rattle.model.specs.declared.status.Status.TheVariants as status
 use Rattle.model.specs.Fault.{are_there, fault_of}
@@ -114,6 +114,8 @@ lines_answered senv new (Get o p) (Value value) known is (word, stored, same) = 
 lines_answered senv new (Get o p) _ known is answers = absurd answers
 lines_answered senv new (Nvals o) (Count number) known is answers = rw answers refl
 lines_answered senv new (Nvals o) _ known is answers = absurd answers
+lines_answered senv new (Reduce o monoid) (Value value) known is answers = rw answers refl
+lines_answered senv new (Reduce o monoid) _ known is answers = absurd answers
 lines_answered senv new (Print o) (Text asked) known is answers = ap (λ (env : Environment Obj). canonical_lines (object_at env asked)) is ∙ rw answers.0 refl
 lines_answered senv new (Print o) _ known is answers = absurd answers
 lines_answered senv new (Operate out operation) Done known is answers = refl
@@ -132,6 +134,7 @@ unfolding effect
 reads_answered senv new (Get o p) reply is answers has = is
 reads_answered senv new (Nvals o) reply is answers has = is
 reads_answered senv new (Print o) reply is answers has = is
+reads_answered senv new (Reduce o monoid) reply is answers has = is
 reads_answered senv new _ (Done) is answers has = absurd has
 reads_answered senv new _ (Made o) is answers has = absurd has
 reads_answered senv new _ _ is answers has = absurd answers
@@ -147,6 +150,7 @@ made_after-most old (Ok x) (Remove o p) = omega arith
 made_after-most old (Ok x) (Get o p) = omega arith
 made_after-most old (Ok x) (Nvals o) = omega arith
 made_after-most old (Ok x) (Print o) = omega arith
+made_after-most old (Ok x) (Reduce o monoid) = omega arith
 made_after-most old (Ok x) (Operate out operation) = omega arith
 
 -- ---- together

@@ -59,6 +59,10 @@ impl Names {
             Call::Print { object } => Call::Print {
                 object: self.number(object)?,
             },
+            Call::Reduce { object, monoid } => Call::Reduce {
+                object: self.number(object)?,
+                monoid,
+            },
             Call::Operate { out, operation } => Call::Operate {
                 out: self.resolved_out(&out)?,
                 operation: self.resolved_operation(&operation)?,
@@ -89,10 +93,14 @@ impl Names {
             MatchOption result (IsMissing (inputs_of found)) (λ operation. renamed_operation Some operation ≡ found) }
     {
         match *operation {
-            Operation::Multiply { form, ring, a, b } => {
+            Operation::OfOne { computes, a } => {
+                let a = self.number(a)?;
+                Some(Operation::OfOne { computes, a })
+            }
+            Operation::OfTwo { computes, a, b } => {
                 let a = self.number(a)?;
                 let b = self.number(b)?;
-                Some(Operation::Multiply { form, ring, a, b })
+                Some(Operation::OfTwo { computes, a, b })
             }
         }
     }

@@ -4,10 +4,11 @@ use Rattle.std.specs.Prelude.{OnErr, OnOk}
 use Rattle.std.specs.Prelude.{ℤ}
 use Rattle.std.specs.Option.{option_map, option_map_or}
 use Rattle.algebra.specs.declared.domain.Domain.{Domain}
+use Rattle.algebra.specs.declared.operator_names.MonoidName.{MonoidName}
 use Rattle.calls.specs.Checks.{known_call}
 use Rattle.calls.specs.declared.obj.Obj.{Obj}
 use Rattle.model.specs.declared.call.Call.{Call}
-use Rattle.model.specs.declared.call.Call.TheVariants.{Create, Free, Clear, Set, Remove, Get, Nvals, Print, Operate}
+use Rattle.model.specs.declared.call.Call.TheVariants.{Create, Free, Clear, Set, Remove, Get, Nvals, Print, Reduce, Operate}
 use Rattle.model.specs.declared.call.Operation.{Operation}
 use Rattle.model.specs.declared.call.Out.{Out}
 use Rattle.model.specs.declared.shape.Place.{Place}
@@ -98,6 +99,11 @@ performed-nvals session o x accepted = performed session session (Nvals o) x (no
 pub performed-print : {T : Type 0} (session : Session) (o : Obj) (x : T) → early_fault (count_in session) (known_call {N = Obj} (known_in session) (Print o)) ≡ None → IsPerformed session session (Print o) (Ok x)
 unfolding effect
 performed-print session o x accepted = performed session session (Print o) x (no_late _ accepted) refl refl
+
+pub performed-reduce : {T : Type 0} (session : Session) (o : Obj) (monoid : MonoidName) (x : T) → early_fault (count_in session) (known_call {N = Obj} (known_in session) (Reduce o monoid)) ≡ None
+    → IsPerformed session session (Reduce o monoid) (Ok x)
+unfolding effect
+performed-reduce session o monoid x accepted = performed session session (Reduce o monoid) x (no_late _ accepted) refl refl
 
 -- ---- operations
 

@@ -1,7 +1,12 @@
 -- Recipes on the objects of a session.
 use Rattle.std.proofs.Common.{◌≡◌, ◌∙◌, ℕ, true, Option, Some, None, is_some, Result, Ok, Err, refl, sym, ap}
 use Rattle.std.specs.Prelude.{IfOk}
+use Rattle.std.specs.List.{fold}
 use Rattle.std.specs.Option.{option_map}
+use Rattle.algebra.specs.declared.operator_names.MonoidName.{MonoidName}
+use Rattle.algebra.specs.Monoids.{identity_of}
+use Rattle.algebra.specs.Operators.{combines_by, eval_of, offers}
+use Rattle.algebra.specs.Value.{are_compatible}
 use Rattle.calls.specs.declared.obj.Obj.{Obj}
 use Rattle.calls.specs.declared.recipe.Recipe.{Recipe}
 use Rattle.calls.specs.declared.role.Role.{Role}
@@ -13,13 +18,15 @@ use Rattle.calls.proofs.RoleLaws.{meaning_along}
 use Rattle.kernel.specs.Evaluated.{AreInputs, object_in, output_of}
 use Rattle.kernel.proofs.Accepted.{recipe-leaves}
 use Rattle.model.specs.declared.call.Operation.{Operation}
-use Rattle.model.specs.declared.call.Operation.TheVariants.{Multiply}
+use Rattle.model.specs.declared.call.Operation.TheVariants.{OfOne, OfTwo}
 use Rattle.model.specs.declared.call.Out.{Out}
 use Rattle.model.specs.declared.shape.Signature.{Signature}
 use Rattle.model.specs.Fault.{found_object}
-use Rattle.model.specs.Object.{Object, cols_of, rows_of, signature_of}
+use Rattle.model.specs.Object.{AreWordsOf, Object, cols_of, rows_of, signature_of}
+use Rattle.model.specs.Reductions.{all_words, sum_in}
 use Rattle.model.specs.Run.{Environment, object_at}
 use Rattle.model.proofs.ObjectLaws.{objects_equal}
+use Rattle.model.proofs.StoredLaws.{sum_in-stored}
 use Rattle.session.specs.Results.{IsEvaluated, IsLeft, IsStoreOf, taken_in}
 use Rattle.store.specs.Stored.{Stored, content_of}
 
@@ -78,7 +85,8 @@ evaluated env recipe objects stored joined known stores rows cols content =
 
 -- the output of an operation takes the role of the recipe's output
 output_taken : (out : Out Obj) (operation : Operation Obj) (recipe : Recipe) → recipe.out ≡ out_by_role out → role_of (roles_of out operation) recipe.out.c ≡ out.c
-output_taken out (Multiply form ring a b) recipe is = ap (λ (o : Out Role). role_of (roles_of out (Multiply form ring a b)) o.c) is
+output_taken out (OfOne computes a) recipe is = ap (λ (o : Out Role). role_of (roles_of out (OfOne computes a)) o.c) is
+output_taken out (OfTwo computes a b) recipe is = ap (λ (o : Out Role). role_of (roles_of out (OfTwo computes a b)) o.c) is
 
 -- what an operation's recipe gives is what the operation leaves
 pub left_by_operation : (env : Environment Obj) (out : Out Obj) (operation : Operation Obj) (recipe : Recipe) (stored : Stored)
@@ -98,3 +106,13 @@ left_by_operation env out operation recipe stored is given =
 pub if_ok_three : {T E : Type 0} (r : Result T E) (P Q R S : T → Type 0) → ((x : T) → P x → Q x → R x → S x) → IfOk r P → IfOk r Q → IfOk r R → IfOk r S
 if_ok_three (Ok x) P Q R S f p q s = f x p q s
 if_ok_three (Err e) P Q R S f p q s = tt
+
+-- ---- sums
+
+-- the sum of an object's values is that of its store's words
+pub sum-stored : (monoid : MonoidName) (o : Object) (rows cols : ℕ) → offers (combines_by monoid.kind) monoid.domain ≡ true → are_compatible o.domain monoid.domain ≡ true
+    → AreWordsOf o.domain o.content → rows ≡ rows_of o.shape → cols ≡ cols_of o.shape
+    → fold (eval_of (combines_by monoid.kind) monoid.domain) (identity_of monoid.kind monoid.domain) (all_words rows cols o.content) ≡ sum_in monoid o
+sum-stored monoid o rows cols offered compatible words is_rows is_cols =
+    (λ t. fold (eval_of (combines_by monoid.kind) monoid.domain) (identity_of monoid.kind monoid.domain) (all_words (is_rows t) (is_cols t) o.content))
+    ∙ sym (sum_in-stored monoid o offered compatible words)

@@ -5,9 +5,11 @@ use Rattle.std.specs.Option.{option_map, option_map_or}
 use Rattle.std.proofs.lemmas.Bool.{cases_Bool, eqb-true}
 use Rattle.std.proofs.lemmas.Bool.Decides.{nat_tests}
 use Rattle.algebra.specs.declared.domain.Domain.{Domain}
-use Rattle.algebra.specs.Value.{is_value_of}
+use Rattle.algebra.specs.declared.operator_names.MonoidName.{MonoidName}
+use Rattle.algebra.specs.Operators.{combines_by, offers}
+use Rattle.algebra.specs.Value.{are_compatible, is_value_of}
 use Rattle.calls.specs.declared.obj.Obj.{Obj}
-use Rattle.model.specs.declared.call.Call.TheVariants.{Create, Free, Clear, Set, Remove, Get, Nvals, Print}
+use Rattle.model.specs.declared.call.Call.TheVariants.{Create, Free, Clear, Set, Remove, Get, Nvals, Print, Reduce}
 use Rattle.model.specs.declared.limits.TheConstants.{MOST_OBJECTS}
 use Rattle.model.specs.declared.shape.Place.{Place}
 use Rattle.model.specs.declared.shape.Shape.{Shape}
@@ -68,6 +70,21 @@ pub print-accepted : (count : ℕ) (o : Option Object) → early_fault count (Pr
 unfolding early_fault
 print-accepted count None h = absurd (cc)
 print-accepted count (Some o) h = refl
+
+-- where a sum is accepted, there is the monoid, and the values are cast to its domain
+summed : (offered compatible : Bool) → cond (not offered) (Some status.NotImplemented) (cond (not compatible) (Some status.DomainMismatch) None) ≡ None
+    → (offered ≡ true) × (compatible ≡ true)
+summed true true h = (refl, refl)
+summed true false h = absurd (cc)
+summed false compatible h = absurd (cc)
+
+pub reduce-accepted : (count : ℕ) (o : Option Object) (monoid : MonoidName) → early_fault count (Reduce (option_map signature_of o) monoid) ≡ None
+    → (is_some o ≡ true) × (offers (combines_by monoid.kind) monoid.domain ≡ true) × (are_compatible (found_object o).domain monoid.domain ≡ true)
+unfolding early_fault
+reduce-accepted count None monoid h = absurd (cc)
+reduce-accepted count (Some o) monoid h =
+    let both = summed (offers (combines_by monoid.kind) monoid.domain) (are_compatible o.domain monoid.domain) h in
+    (refl, both.0, both.1)
 
 full : (most : Bool) (rest : Option Status) → cond most (Some status.NotImplemented) rest ≡ None → most ≡ false
 full true rest h = absurd (cc)

@@ -6,7 +6,7 @@ use Rattle.algebra.specs.Value.{value_of}
 use Rattle.calls.specs.Checks.{known_call}
 use Rattle.calls.specs.declared.obj.Obj.{Obj}
 use Rattle.model.specs.declared.call.Call.{Call}
-use Rattle.model.specs.declared.call.Call.TheVariants.{Create, Free, Clear, Set, Remove, Get, Nvals, Print}
+use Rattle.model.specs.declared.call.Call.TheVariants.{Create, Free, Clear, Set, Remove, Get, Nvals, Print, Reduce}
 use Rattle.model.specs.declared.call.Call.TheVariants.{Operate}
 use Rattle.model.specs.declared.limits.TheConstants.{MOST_OBJECTS}
 use Rattle.model.specs.declared.status.Status.{Status}
@@ -15,6 +15,7 @@ use Rattle.model.specs.Entries.{entries_of}
 use Rattle.model.specs.Fault.{fault_of}
 use Rattle.model.specs.declared.shape.Signature.{Signature}
 use Rattle.model.specs.Object.{signature_of, col_of, cols_of, row_of, rows_of}
+use Rattle.model.specs.Reductions.{sum_in}
 use Rattle.model.specs.Renamed.{renamed}
 use Rattle.model.specs.Run as run
 use Rattle.model.specs.Run.{Environment, object_at}
@@ -62,6 +63,7 @@ Answers env (Get object place) (Value value) =
     × (value ≡ value_of o.domain word)
 Answers env (Nvals object) (Count n) =
     let o = object_at env object in n ≡ length (entries_of (rows_of o.shape) (cols_of o.shape) o.content)
+Answers env (Reduce object monoid) (Value value) = value ≡ value_of monoid.domain (sum_in monoid (object_at env object))
 Answers env (Print object) (Text asked) = (asked ≡ object) × (is_some (env.find_object object) ≡ true)
 Answers env (Operate out operation) Done = Unit {0}
 Answers env call reply = ⊥

@@ -8,7 +8,7 @@ mod reply;
 mod sessions;
 mod table;
 
-pub use calls::{Call, Desc, Obj, Operation, Out, Place, Shape};
+pub use calls::{Call, Desc, Obj, OneInput, Operation, Out, Place, Positions, Shape, TwoInputs};
 pub use held::Held;
 pub use reply::Reply;
 pub use sessions::Session;

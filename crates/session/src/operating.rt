@@ -7,8 +7,11 @@ ghost use Rattle.model.specs.Fault.{early_fault};
 ghost use Rattle.session.specs.Results.{IsEvaluated, IsLeft, IsStoreOf};
 
 use crate::sessions::Session;
-use algebra::RingName;
-use calls::{Call, Checked, Form, Obj, Operation, Out, Recipe, Roles, by_role};
+use algebra::{FunctionName, IndexName, MonoidName, OpName, RingName};
+use calls::{
+    Call, Checked, Form, Obj, OneInput, Operation, Out, Positions, Recipe, Roles, TwoInputs,
+    by_role,
+};
 use kernel::{eval_piece, join};
 use model::{NoMemory, Status};
 use store::Store;
@@ -18,31 +21,92 @@ impl Session {
 
     /// Multiplies two matrices over a semiring into a third (`GrB_mxm`).
     pub fn mxm(&mut self, out: &Out<Obj>, ring: RingName, a: Obj, b: Obj) -> Result<(), Status>
-        ensures { IsPerformed self.old self.new
-            (Call.Operate out.now (Operation.Multiply Form.MatrixMatrix ring a b)) result }
+        ensures { IsPerformed self.old self.new (Call.Operate out.now
+            (Operation.OfTwo (TwoInputs.Multiply Form.MatrixMatrix ring) a b)) result }
     {
         let form = Form::MatrixMatrix;
-        self.operate(out, &Operation::Multiply { form, ring, a, b })
+        self.of_two(out, TwoInputs::Multiply { form, ring }, a, b)
     }
 
     /// Multiplies a matrix and a vector over a semiring into a vector (`GrB_mxv`).
     pub fn mxv(&mut self, out: &Out<Obj>, ring: RingName, a: Obj, u: Obj) -> Result<(), Status>
-        ensures { IsPerformed self.old self.new
-            (Call.Operate out.now (Operation.Multiply Form.MatrixVector ring a u)) result }
+        ensures { IsPerformed self.old self.new (Call.Operate out.now
+            (Operation.OfTwo (TwoInputs.Multiply Form.MatrixVector ring) a u)) result }
     {
         let form = Form::MatrixVector;
-        let b = u;
-        self.operate(out, &Operation::Multiply { form, ring, a, b })
+        self.of_two(out, TwoInputs::Multiply { form, ring }, a, u)
     }
 
     /// Multiplies a vector and a matrix over a semiring into a vector (`GrB_vxm`).
     pub fn vxm(&mut self, out: &Out<Obj>, ring: RingName, u: Obj, a: Obj) -> Result<(), Status>
-        ensures { IsPerformed self.old self.new
-            (Call.Operate out.now (Operation.Multiply Form.VectorMatrix ring u a)) result }
+        ensures { IsPerformed self.old self.new (Call.Operate out.now
+            (Operation.OfTwo (TwoInputs.Multiply Form.VectorMatrix ring) u a)) result }
     {
         let form = Form::VectorMatrix;
-        let (a, b) = (u, a);
-        self.operate(out, &Operation::Multiply { form, ring, a, b })
+        self.of_two(out, TwoInputs::Multiply { form, ring }, u, a)
+    }
+
+    /// An operator's answers where either of two inputs has a value, of one alone its own value
+    /// (`GrB_eWiseAdd`).
+    pub fn ewise_add(&mut self, out: &Out<Obj>, op: OpName, a: Obj, b: Obj) -> Result<(), Status>
+        ensures { IsPerformed self.old self.new (Call.Operate out.now
+            (Operation.OfTwo (TwoInputs.Combine Positions.Union op) a b)) result }
+    {
+        let positions = Positions::Union;
+        self.of_two(out, TwoInputs::Combine { positions, op }, a, b)
+    }
+
+    /// An operator's answers where two inputs have a value (`GrB_eWiseMult`).
+    pub fn ewise_mult(&mut self, out: &Out<Obj>, op: OpName, a: Obj, b: Obj) -> Result<(), Status>
+        ensures { IsPerformed self.old self.new (Call.Operate out.now
+            (Operation.OfTwo (TwoInputs.Combine Positions.Intersection op) a b)) result }
+    {
+        let positions = Positions::Intersection;
+        self.of_two(out, TwoInputs::Combine { positions, op }, a, b)
+    }
+
+    /// A function of each value (`GrB_apply`).
+    pub fn apply(&mut self, out: &Out<Obj>, function: FunctionName, a: Obj) -> Result<(), Status>
+        ensures { IsPerformed self.old self.new
+            (Call.Operate out.now (Operation.OfOne (OneInput.Apply function) a)) result }
+    {
+        self.of_one(out, OneInput::Apply(function), a)
+    }
+
+    /// The entries for which an index operator's answer is true (`GrB_select`).
+    pub fn select(
+        &mut self,
+        out: &Out<Obj>,
+        op: IndexName,
+        a: Obj,
+        scalar: i128,
+    ) -> Result<(), Status>
+        ensures { IsPerformed self.old self.new
+            (Call.Operate out.now (Operation.OfOne (OneInput.Select op scalar) a)) result }
+    {
+        self.of_one(out, OneInput::Select { op, scalar }, a)
+    }
+
+    /// The sum of each row of a matrix, into a vector (`GrB_reduce`).
+    pub fn reduce_rows(&mut self, out: &Out<Obj>, monoid: MonoidName, a: Obj) -> Result<(), Status>
+        ensures { IsPerformed self.old self.new
+            (Call.Operate out.now (Operation.OfOne (OneInput.ReduceRows monoid) a)) result }
+    {
+        self.of_one(out, OneInput::ReduceRows(monoid), a)
+    }
+
+    /// Computes an operation on one input.
+    fn of_one(&mut self, out: &Out<Obj>, computes: OneInput, a: Obj) -> Result<(), Status>
+        ensures { IsPerformed self.old self.new (Call.Operate out.now (Operation.OfOne computes a)) result }
+    {
+        self.operate(out, &Operation::OfOne { computes, a })
+    }
+
+    /// Computes an operation on two inputs.
+    fn of_two(&mut self, out: &Out<Obj>, computes: TwoInputs, a: Obj, b: Obj) -> Result<(), Status>
+        ensures { IsPerformed self.old self.new (Call.Operate out.now (Operation.OfTwo computes a b)) result }
+    {
+        self.operate(out, &Operation::OfTwo { computes, a, b })
     }
 
     /// Computes an operation, and writes it into its output. The same object may be output, mask and

@@ -42,6 +42,7 @@ impl Session {
                 self.print(*object)?;
                 Ok(Reply::Text(*object))
             }
+            Call::Reduce { object, monoid } => Ok(Reply::Value(self.reduce(*object, *monoid)?)),
             Call::Operate { out, operation } => {
                 self.operate(out, operation)?;
                 Ok(Reply::Done)

@@ -7,7 +7,7 @@ pub enum Reply {
     Done,
     /// The object that was made.
     Made(Obj),
-    /// The value of an entry.
+    /// The value of an entry, or the sum of all.
     Value(i128),
     /// The number of entries.
     Count(u64),

@@ -7,8 +7,9 @@ ghost use Rattle.session.specs.Tables.{environment_in, same_object};
 use crate::held::Held;
 use crate::reply::Reply;
 use crate::table::Table;
-use algebra::Domain;
+use algebra::{Domain, MonoidName};
 use calls::{Call, Checked, Obj, Operation, Out, Place, Shape, Shapes, check};
+use elementwise::reduce_all;
 use model::{MOST_OBJECTS, Status};
 use std::alloc::Global;
 use store::Store;
@@ -179,6 +180,23 @@ impl Session {
     {
         self.checked(&Call::Print { object })?;
         Ok(())
+    }
+
+    /// The sum of all values of an object by a monoid, the identity where it has none (`GrB_reduce`).
+    pub fn reduce(&self, object: Obj, monoid: MonoidName) -> Result<i128, Status>
+        ensures performed { IsPerformed self.now self.now (Call.Reduce object monoid) result }
+        ensures value { IfOk result (λ value. Answers (environment_of self.now) (Call.Reduce object monoid)
+            (Reply.Value value)) }
+    {
+        self.checked(&Call::Reduce { object, monoid })?;
+        let Some(held) = self.table.find(object) else {
+            unreachable!()
+        };
+        let Some(monoid) = monoid.resolve() else {
+            unreachable!()
+        };
+        let sum = reduce_all(&held.store, monoid);
+        Ok(monoid.op.domain.value_of(sum))
     }
 
     /// The object of a number.

@@ -4,7 +4,7 @@ use Rattle.std.proofs.lemmas.Result.{IfOk-weaker}
 use Rattle.calls.specs.declared.role.Role.{Role}
 use Rattle.calls.specs.Recipes.{meaning}
 use Rattle.calls.specs.Roles.{role_of}
-use Rattle.kernel.specs.Evaluated.{computed, object_in}
+use Rattle.kernel.specs.Evaluated.{computed_in, object_in}
 use Rattle.kernel.proofs.Accepted.{recipe-means}
 use Rattle.kernel.proofs.MaskLaws.{written-masked}
 use Rattle.model.specs.Renamed.{renamed_out}
@@ -22,6 +22,6 @@ returns-clause-words c =
     let given = rw (c.of-old.ensures, c.accumulator_of.ensures, rows.first_is, rows.past_is) at c.write_back.ensures.words in
     IfOk-weaker c.write_back.result _ _
     (λ block words i j low high. words i j low high
-    ∙ written-masked c.mask_of-mask.result out (block_content t) (computed recipe object) i j (c.mask_of-mask.ensures.set i j) (rows.words i j low high)
+    ∙ written-masked c.mask_of-mask.result out (block_content t) (computed_in recipe object) i j (c.mask_of-mask.ensures.set i j) (rows.words i j low high)
     ∙ sym (recipe-means recipe stored i j))
     given

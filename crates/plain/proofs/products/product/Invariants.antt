@@ -3,7 +3,7 @@ use Rattle.algebra.specs.OperatorNames.{ring_named}
 use Rattle.model.specs.Object.{in_domain}
 use Rattle.model.specs.Product.{product}
 use Rattle.plain.specs.Evaluated.{first_factor, input_of}
-use Rattle.plain.proofs.operations.product.Given as goal
+use Rattle.plain.proofs.products.product.Given as goal
 
 -- the sum of the terms so far
 abbrev pub invariant-loop-k : goal.invariant-loop-k

@@ -26,6 +26,15 @@ store_of-requires-3 c = known_there _ (role_of c.args.recipe.now.signatures Firs
 pub store_of-requires-4 : goal.store_of-requires-4
 store_of-requires-4 c = known_there _ (role_of c.args.recipe.now.signatures Second) (c.requires Second)
 
+pub eval_piece-requires-clause-inputs : goal.eval_piece-requires-clause-inputs
+eval_piece-requires-clause-inputs c =
+    let env = environment_of c.args.self.now in
+    let objects = c.args.objects.now in
+    let stores : Roles (Bor Stored) = record { old = c.store_of.result; mask = c.store_of-2.result; first = c.store_of-3.result; second = c.store_of-4.result } in
+    let stored : Role → Stored = λ role. (role_of stores role).now in
+    inputs_taken env c.args.recipe.now objects stored c.requires
+    (each_role (λ (role : Role). IsStoreOf env (role_of objects role) (stored role)) c.store_of.ensures c.store_of-2.ensures c.store_of-3.ensures c.store_of-4.ensures)
+
 pub returns : goal.returns
 returns c =
     let env = environment_of c.args.self.now in

@@ -1,0 +1,91 @@
+//! Products, one position at a time.
+ghost use Rattle.std.specs.Prelude.{◌≡◌};
+ghost use Rattle.algebra.specs.OperatorNames.{ring_named};
+ghost use Rattle.model.specs.Object.{in_domain};
+ghost use Rattle.model.specs.Operations.{multiplied};
+ghost use Rattle.model.specs.Product.{product_of};
+ghost use Rattle.model.specs.Table.{are_factors, inner_size, product_shape};
+ghost use Rattle.plain.specs.Evaluated.{first_factor, input_of, place_in};
+
+use crate::inputs::Input;
+use crate::sums::plus;
+use algebra::{Domain, Semiring};
+use model::{Form, Shape};
+
+/// Whether factors are of the kinds that a product's form says.
+pub const fn are_factors(form: Form, first: Shape, second: Shape) -> bool
+    ensures { result ≡ are_factors form first second }
+{
+    match form {
+        Form::MatrixMatrix => first.is_matrix() && second.is_matrix(),
+        Form::MatrixVector => first.is_matrix() && !second.is_matrix(),
+        Form::VectorMatrix => !first.is_matrix() && second.is_matrix(),
+    }
+}
+
+/// The number of products that are summed at most.
+pub const fn inner_size(form: Form, first: Shape) -> u64
+    ensures { result ≡ inner_size form first }
+{
+    match form {
+        Form::MatrixMatrix | Form::MatrixVector => first.cols(),
+        Form::VectorMatrix => first.rows(),
+    }
+}
+
+pub const fn product_shape(form: Form, first: Shape, second: Shape) -> Shape
+    ensures { result ≡ product_shape form first second }
+{
+    match form {
+        Form::MatrixMatrix => Shape::Two(first.rows(), second.cols()),
+        Form::MatrixVector => Shape::One(first.rows()),
+        Form::VectorMatrix => Shape::One(second.cols()),
+    }
+}
+
+/// The sum of the products at a position, in the domain of the semiring's sums.
+pub fn product(form: Form, ring: Semiring, a: Input, b: Input, row: u64, col: u64) -> Option<u64>
+    ensures { let ring = ring_named ring in
+        result ≡ multiplied form ring (inner_size form (input_of a.entry).shape)
+        (in_domain ring.domain (input_of a.entry)) (in_domain ring.domain (input_of b.entry)) row col }
+{
+    let domain = ring.multiply.domain;
+    let terms = inner_size(form, a.shape());
+    let (row, col) = place_in(form, row, col);
+    let mut sum = None;
+    for k in 0..terms {
+        let x = first_word(form, domain, a, row, k);
+        let y = b.word_in(domain, k, col);
+        sum = plus(ring.add, sum, times(ring, x, y));
+    }
+    sum
+}
+
+/// The row and the column of a position, which are exchanged where the product is a row that is held as
+/// a column.
+const fn place_in(form: Form, row: u64, col: u64) -> (u64, u64)
+    ensures { result ≡ place_in form row col }
+{
+    match form {
+        Form::MatrixMatrix | Form::MatrixVector => (row, col),
+        Form::VectorMatrix => (col, row),
+    }
+}
+
+/// The word of the first factor, which as a vector is a row that is held as a column.
+fn first_word(form: Form, domain: Domain, a: Input, row: u64, col: u64) -> Option<u64>
+    ensures { result ≡ first_factor form (in_domain domain (input_of a.entry)) row col }
+{
+    let (row, col) = place_in(form, row, col);
+    a.word_in(domain, row, col)
+}
+
+/// A word times a word, where both are there.
+const fn times(ring: Semiring, x: Option<u64>, y: Option<u64>) -> Option<u64>
+    ensures { result ≡ product_of (ring_named ring) x y }
+{
+    match (x, y) {
+        (Some(x), Some(y)) => Some(ring.multiply.eval(x, y)),
+        _ => None,
+    }
+}
