@@ -3,7 +3,29 @@ use crate::scripts::{answers, plain_answers};
 use std::alloc::Global;
 use std::test::Fail;
 
-const COMMANDS: [&str; 8] = ["mxm", "mxv", "vxm", "mxm", "mxv", "vxm", "mxv", "vxm"];
+const PRODUCTS: [&str; 8] = ["mxm", "mxv", "vxm", "mxm", "mxv", "vxm", "mxv", "vxm"];
+
+const COMBINED: [&str; 8] = [
+    "ewiseadd",
+    "ewisemult",
+    "ewiseadd",
+    "ewisemult",
+    "ewiseadd",
+    "ewisemult",
+    "ewiseadd",
+    "ewisemult",
+];
+
+const BOUND: [&str; 8] = [
+    "applyindex",
+    "select",
+    "select",
+    "select",
+    "applyindex",
+    "select",
+    "applyindex",
+    "select",
+];
 
 // X isn't there.
 const OUTPUTS: [&str; 8] = ["A", "B", "D", "U", "V", "W", "U", "X"];
@@ -31,6 +53,52 @@ const RINGS: [&str; 8] = [
     "PLUS.FIRST.UINT64",
     "PLUS.EQ.INT64",
 ];
+
+const OPERATORS: [&str; 8] = [
+    "PLUS.INT64",
+    "MIN.INT64",
+    "GT.UINT64",
+    "LAND.BOOL",
+    "MINUS.UINT64",
+    "SECOND.BOOL",
+    "BXNOR.INT64",
+    "MAX.BOOL",
+];
+
+const UNARY: [&str; 8] = [
+    "IDENTITY.INT64",
+    "AINV.UINT64",
+    "LNOT.BOOL",
+    "ABS.INT64",
+    "BNOT.INT64",
+    "IDENTITY.BOOL",
+    "AINV.BOOL",
+    "IDENTITY.UINT64",
+];
+
+const INDEX_OPERATORS: [&str; 8] = [
+    "TRIL",
+    "TRIU",
+    "DIAGINDEX",
+    "OFFDIAG",
+    "VALUEGT.INT64",
+    "VALUENE.BOOL",
+    "ROWINDEX",
+    "COLLE",
+];
+
+const MONOIDS: [&str; 8] = [
+    "PLUS.INT64",
+    "MIN.UINT64",
+    "LOR.BOOL",
+    "MAX.INT64",
+    "BAND.UINT64",
+    "LXNOR.BOOL",
+    "TIMES.INT64",
+    "LAND.INT64",
+];
+
+const VALUES: [&str; 8] = ["0", "1", "-1", "2", "3", "0", "1", "-9223372036854775808"];
 
 const FACTORS: [&str; 8] = ["A", "B", "D", "A", "U", "V", "W", "M"];
 
@@ -64,16 +132,44 @@ fn objects(alloc: Global, state: &mut u32) -> Result<String, Fail> {
     Ok(script)
 }
 
-/// A line that computes an operation, and one that prints its output.
+/// The command and the words between the accumulator and the descriptor, each with a blank behind it.
+fn operation_words(alloc: Global, state: &mut u32) -> Result<(&'static str, String), Fail> {
+    let (a, b) = (draw(state, &FACTORS), draw(state, &FACTORS));
+    let value = draw(state, &VALUES);
+    let op = draw(state, &OPERATORS);
+    let words = match draw(state, &["0", "1", "2", "3", "4", "5", "6", "7"]) {
+        "0" => ("apply", format!(in alloc; "{} {a}", draw(state, &UNARY))?),
+        "1" => ("applyfirst", format!(in alloc; "{op} {value} {a}")?),
+        "2" => ("applysecond", format!(in alloc; "{op} {a} {value}")?),
+        "3" => (
+            "reducerows",
+            format!(in alloc; "{} {a}", draw(state, &MONOIDS))?,
+        ),
+        "4" => {
+            let op = draw(state, &INDEX_OPERATORS);
+            (draw(state, &BOUND), format!(in alloc; "{op} {a} {value}")?)
+        }
+        "5" | "6" => (draw(state, &COMBINED), format!(in alloc; "{op} {a} {b}")?),
+        _ => {
+            let ring = draw(state, &RINGS);
+            (draw(state, &PRODUCTS), format!(in alloc; "{ring} {a} {b}")?)
+        }
+    };
+    Ok(words)
+}
+
+/// A line that computes an operation, one that prints its output, and one that sums it.
 fn operation(alloc: Global, state: &mut u32) -> Result<String, Fail> {
-    let command = draw(state, &COMMANDS);
     let c = draw(state, &OUTPUTS);
     let mask = draw(state, &MASKS);
     let accum = draw(state, &ACCUMULATORS);
-    let ring = draw(state, &RINGS);
-    let (a, b) = (draw(state, &FACTORS), draw(state, &FACTORS));
+    let (command, words) = operation_words(alloc, state)?;
     let desc = draw(state, &FLAGS);
-    Ok(format!(in alloc; "{command} {c} {mask} {accum} {ring} {a} {b} {desc}\nprint {c}\n")?)
+    let monoid = draw(state, &MONOIDS);
+    Ok(format!(in alloc;
+        "{command} {c} {mask} {accum} {} {desc}\nprint {c}\nreduce {c} {monoid}\n",
+        words.as_str()
+    )?)
 }
 
 #[test]

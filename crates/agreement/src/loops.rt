@@ -68,11 +68,26 @@ fn maps_words(rt: HostRuntime) -> Result<(), Fail> {
 #[test]
 fn binds_an_operand(rt: HostRuntime) -> Result<(), Fail> {
     for (kind, domain, of_first, of_second) in [
-        (BinaryKind::Minus, Domain::Int64, [7, 6, 8], [MINUS_ONE - 6, MINUS_ONE - 5, MINUS_ONE - 7]),
+        (
+            BinaryKind::Minus,
+            Domain::Int64,
+            [7, 6, 8],
+            [MINUS_ONE - 6, MINUS_ONE - 5, MINUS_ONE - 7],
+        ),
         (BinaryKind::Gt, Domain::Int64, [1, 1, 1], [0, 0, 0]),
         (BinaryKind::Gt, Domain::Uint64, [1, 1, 0], [0, 0, 1]),
-        (BinaryKind::First, Domain::Int64, [7, 7, 7], [0, 1, MINUS_ONE]),
-        (BinaryKind::Second, Domain::Int64, [0, 1, MINUS_ONE], [7, 7, 7]),
+        (
+            BinaryKind::First,
+            Domain::Int64,
+            [7, 7, 7],
+            [0, 1, MINUS_ONE],
+        ),
+        (
+            BinaryKind::Second,
+            Domain::Int64,
+            [0, 1, MINUS_ONE],
+            [7, 7, 7],
+        ),
         (BinaryKind::First, Domain::Bool, [1, 1, 1], [0, 1, 1]),
     ] {
         let op = BinaryOp::new(kind, domain).ok_or("offered")?;

@@ -8,7 +8,8 @@ ghost use Rattle.session.specs.Results.{IsStoreOf};
 use crate::sessions::{PLUS_TIMES, plain};
 use algebra::Domain;
 use calls::{
-    Call, Checked, Form, Obj, Operation, Out, Place, Recipe, Roles, Shape, by_role, check,
+    Call, Checked, Form, Obj, Operation, Out, Place, Recipe, Roles, Shape, TwoInputs, by_role,
+    check,
 };
 use kernel::{eval_piece, join};
 use model::Status;
@@ -64,11 +65,8 @@ fn evaluates_a_part_of_the_rows(rt: HostRuntime) -> Result<(), Status> {
         session.set(object, place, value)?;
     }
     let (form, ring) = (Form::MatrixMatrix, PLUS_TIMES);
-    let (recipe, stores) = recipe_on(
-        &session,
-        &plain(c),
-        &Operation::Multiply { form, ring, a, b },
-    )?;
+    let computes = TwoInputs::Multiply { form, ring };
+    let (recipe, stores) = recipe_on(&session, &plain(c), &Operation::OfTwo { computes, a, b })?;
     let rows = recipe.signatures.of(recipe.out.c).shape.rows();
     assert_eq!(rt; rows, 3);
     let part = eval_piece(alloc, &recipe, &stores, 1..2)?;

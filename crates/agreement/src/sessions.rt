@@ -1,5 +1,8 @@
 //! Calls on objects by number.
-use algebra::{BinaryKind, Domain, MonoidKind, OpName, RingName};
+use algebra::{
+    BinaryKind, Domain, FunctionName, IndexKind, IndexName, MonoidKind, MonoidName, OpName,
+    RingName,
+};
 use model::{Call, Desc, GREATEST_DIMENSION, MOST_OBJECTS, Out, Place, Shape, Status};
 use session::{Obj, Reply, Session};
 
@@ -255,5 +258,89 @@ fn uses_no_number_again(rt: HostRuntime) -> Result<(), Status> {
     assert_ne!(rt; next, first);
     assert_eq!(rt; session.nvals(first), Err(Status::UninitializedObject));
     assert!(rt; session.held(first).is_err());
+    Ok(())
+}
+
+const SUM: MonoidName = MonoidName {
+    kind: MonoidKind::Plus,
+    domain: Domain::Int64,
+};
+
+const LOWER: IndexName = IndexName {
+    kind: IndexKind::Tril,
+    domain: Domain::Int64,
+};
+
+#[test]
+fn combines_applies_selects_and_sums(rt: HostRuntime) -> Result<(), Status> {
+    let mut session = Session::new(rt.alloc());
+    let a = session.create(Domain::Int64, Shape::Two(2, 2))?;
+    let b = session.create(Domain::Bool, Shape::Two(2, 2))?;
+    let c = session.create(Domain::Int64, Shape::Two(2, 2))?;
+    let w = session.create(Domain::Uint64, Shape::One(2))?;
+    for (object, place, value) in [
+        (a, Place::Two(0, 0), 4),
+        (a, Place::Two(1, 1), -7),
+        (b, Place::Two(0, 0), 1),
+        (b, Place::Two(0, 1), 1),
+    ] {
+        session.set(object, place, value)?;
+    }
+    session.ewise_add(&plain(c), PLUS, a, b)?;
+    assert_eq!(rt; (session.nvals(c)?, session.reduce(c, SUM)?), (3, -1));
+    session.reduce_rows(&plain(w), SUM, c)?;
+    assert_eq!(rt; session.get(w, Place::One(0))?, 6);
+    assert_eq!(rt; session.get(w, Place::One(1))?, 18446744073709551609);
+    session.select(&plain(c), LOWER, c, 0)?;
+    assert_eq!(rt;
+        (session.nvals(c)?, session.get(c, Place::Two(1, 1))?),
+        (2, -7)
+    );
+    session.ewise_mult(&plain(c), PLUS, c, b)?;
+    assert_eq!(rt;
+        (session.nvals(c)?, session.get(c, Place::Two(0, 0))?),
+        (1, 6)
+    );
+    let value = 2;
+    session.apply(&plain(c), FunctionName::Second { op: PLUS, value }, c)?;
+    assert_eq!(rt; session.get(c, Place::Two(0, 0))?, 8);
+    Ok(())
+}
+
+#[test]
+fn tells_the_first_fault_of_an_operation_on_one_input(rt: HostRuntime) -> Result<(), Status> {
+    let mut session = Session::new(rt.alloc());
+    let a = session.create(Domain::Int64, Shape::Two(2, 3))?;
+    let w = session.create(Domain::Int64, Shape::One(2))?;
+    let user = session.create(Domain::User(3), Shape::Two(2, 3))?;
+    let past = 9223372036854775808;
+    let second = |value| FunctionName::Second { op: PLUS, value };
+    for (c, function, a, want) in [
+        (a, second(past), NONE, Status::UninitializedObject),
+        (w, second(past), a, Status::WrongKind),
+        (a, second(0), user, Status::DomainMismatch),
+        (a, second(past), a, Status::InvalidValue),
+    ] {
+        assert_eq!(rt; session.apply(&plain(c), function, a), Err(want), "{c:?}");
+    }
+    // An operator by position takes values of any domain.
+    assert_eq!(rt; session.select(&plain(user), LOWER, user, 0), Ok(()));
+    assert_eq!(rt;
+        session.select(&plain(user), LOWER, user, past),
+        Err(Status::InvalidValue)
+    );
+    assert_eq!(rt;
+        session.reduce_rows(&plain(w), SUM, w),
+        Err(Status::WrongKind)
+    );
+    assert_eq!(rt;
+        session.reduce_rows(&plain(w), SUM, user),
+        Err(Status::DomainMismatch)
+    );
+    assert_eq!(rt; session.reduce(user, SUM), Err(Status::DomainMismatch));
+    assert_eq!(rt;
+        session.ewise_add(&plain(a), PLUS, a, w),
+        Err(Status::WrongKind)
+    );
     Ok(())
 }

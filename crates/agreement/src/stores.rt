@@ -1,5 +1,4 @@
 //! Stores, set and read.
-use algebra::Domain;
 use model::NoMemory;
 use std::test::Fail;
 use store::Store;
@@ -69,21 +68,5 @@ fn holds_a_column(rt: HostRuntime) -> Result<(), Fail> {
         (store.nvals(), store.get(9, 0), store.get(7, 0)),
         (2, None, Some(1))
     );
-    Ok(())
-}
-
-#[test]
-fn casts_each_word(rt: HostRuntime) -> Result<(), NoMemory> {
-    let mut store = Store::new(rt.alloc(), 3, 3);
-    store.set(0, 1, 0)?;
-    store.set(2, 2, 18446744073709551615)?;
-    let truths = store.cast(Domain::Int64, Domain::Bool)?;
-    assert_eq!(rt; (truths.rows(), truths.cols()), (3, 3));
-    assert_eq!(rt;
-        (truths.get(0, 1), truths.get(2, 2), truths.get(1, 1)),
-        (Some(0), Some(1), None)
-    );
-    let same = store.cast(Domain::Int64, Domain::Uint64)?;
-    assert_eq!(rt; same.get(2, 2), Some(18446744073709551615));
     Ok(())
 }
