@@ -1,17 +1,16 @@
 -- What each kernel makes of the stores in a recipe's roles is what the recipe's operation computes of the objects
 -- that they hold.
-use Rattle.std.proofs.Common.{◌≡◌, ◌∙◌, ◌==◌, ◌&&◌, ℕ, Bool, true, false, cond, List, [], ◌∷◌, map, Option, Some, None, refl, sym, ap, ℤ}
+use Rattle.std.proofs.Common.{◌≡◌, ◌∙◌, ◌==◌, ℕ, true, cond, List, [], ◌∷◌, map, Option, None, refl, sym, ap, ℤ}
 use Rattle.std.specs.List.{All}
 use Rattle.std.proofs.lemmas.Bool.{and_parts, eqb-true}
 use Rattle.algebra.specs.declared.binary.BinaryOp.{BinaryOp}
-use Rattle.algebra.specs.declared.domain.Domain.{Domain}
 use Rattle.algebra.specs.declared.functions.Function.{Function}
 use Rattle.algebra.specs.declared.index.IndexOp.{IndexOp}
 use Rattle.algebra.specs.declared.monoid.Monoid.{Monoid}
 use Rattle.algebra.specs.declared.semiring.Semiring.{Semiring}
 use Rattle.algebra.specs.Functions.{function_named}
 use Rattle.algebra.specs.IndexOperators.{scalar_domain}
-use Rattle.algebra.specs.OperatorNames.{index_named, monoid_named, op_named, ring_named}
+use Rattle.algebra.specs.OperatorNames.{index_named, op_named, ring_named}
 use Rattle.algebra.specs.Monoids.{sum_of}
 use Rattle.algebra.specs.Operators.{combines_by, eval_of, offers}
 use Rattle.algebra.specs.Value.{IsWordOf, are_compatible, cast_of, word_of}
@@ -35,7 +34,7 @@ use Rattle.model.specs.declared.call.Positions.TheVariants.{Union, Intersection}
 use Rattle.model.specs.declared.shape.Shape.TheVariants.{One}
 use Rattle.model.specs.declared.shape.Signature.{Signature}
 use Rattle.model.specs.ElementWise.{applied, kept_where, of_both, of_either}
-use Rattle.model.specs.Object.{Content, Object, cols_of, rows_of}
+use Rattle.model.specs.Object.{Object, cols_of, rows_of}
 use Rattle.model.specs.Operations.{multiplied, operation}
 use Rattle.model.specs.Reductions.{row_words}
 use Rattle.model.specs.Renamed.{renamed_operation}

@@ -1,12 +1,10 @@
 -- Laws of what goes position by position, and of sums.
-use Rattle.std.proofs.Common.{◌≡◌, ◌∙◌, ◌==◌, ℕ, ◌+◌, Bool, true, false, cond, not, List, [], ◌∷◌, ◌++◌, map, length, get_or, Option, Some, None, refl, sym, ap, ℤ, pos, negsuc, ◌+ℤ◌, int_le, int_lt, inl, inr, arith}
+use Rattle.std.proofs.Common.{◌≡◌, ◌∙◌, ◌==◌, ℕ, Bool, true, false, cond, not, List, [], ◌∷◌, ◌++◌, map, Option, Some, None, refl, sym, ap, ℤ, pos, ◌+ℤ◌, int_le, arith}
 use Rattle.std.specs.List.{All, concat, cons_option, filter_map, flat_map}
 use Rattle.std.proofs.lemmas.List.Elements.{All-cons, All-nil}
-use Rattle.std.specs.Option.{option_and_then, option_map, unwrap_or}
-use Rattle.std.proofs.lemmas.Bool.{cases_Bool}
-use Rattle.std.proofs.lemmas.Bool.Decides.{nat_tests}
+use Rattle.std.specs.Option.{option_and_then, unwrap_or}
 use Rattle.std.proofs.lemmas.Int.{ints}
-use Rattle.algebra.proofs.Casts.{IsWordOf-word_of, cast_own, value_of-word_of}
+use Rattle.algebra.proofs.Casts.{value_of-word_of}
 use Rattle.algebra.proofs.Sums.{sum-parts}
 use Rattle.algebra.specs.declared.domain.Domain.{Domain}
 use Rattle.algebra.specs.declared.domain.Domain.TheVariants.{Bool as Boolean, Int64}
@@ -17,11 +15,11 @@ use Rattle.algebra.specs.declared.operator_names.OpName.{OpName}
 use Rattle.algebra.specs.IndexOperators.{passes}
 use Rattle.algebra.specs.Monoids.{identity_of, sum_of}
 use Rattle.algebra.specs.Operators.{combines_by, eval_of, offers, truth}
-use Rattle.algebra.specs.Value.{IsWordOf, cast_of, is_value_of, value_of, word_of}
+use Rattle.algebra.specs.Value.{IsWordOf, cast_of, is_value_of, word_of}
 use Rattle.model.specs.declared.shape.Shape.TheVariants.{One}
-use Rattle.model.specs.ElementWise.{eval_cast, intersection, kept_where, of_both, of_either, selected, union}
+use Rattle.model.specs.ElementWise.{eval_cast, intersection, of_both, of_either, selected, union}
 use Rattle.model.specs.Entries.{below, count_from}
-use Rattle.model.specs.Object.{Content, Object, cols_of, in_domain, rows_of}
+use Rattle.model.specs.Object.{Object, cols_of, in_domain, rows_of}
 use Rattle.model.specs.Reductions.{all_words, row_sums, row_words, sum_in}
 use Rattle.model.proofs.ObjectLaws.{own_word}
 use Rattle.model.proofs.OperationLaws.{summed-word}

@@ -1,9 +1,9 @@
 -- What operations compute are words of the domain that the table gives.
-use Rattle.std.proofs.Common.{◌≡◌, ◌==◌, ℕ, ◌&&◌, Bool, true, false, cond, List, [], ◌∷◌, Option, Some, None, refl, sym, subst}
+use Rattle.std.proofs.Common.{◌≡◌, ◌==◌, ℕ, Bool, true, false, cond, List, [], ◌∷◌, Option, Some, None}
 use Rattle.std.specs.List.{All}
 use Rattle.std.specs.Option.{option_and_then, option_map}
 use Rattle.std.proofs.lemmas.Bool.{and_parts}
-use Rattle.std.proofs.lemmas.List.Elements.{All-head, All-tail}
+use Rattle.std.proofs.lemmas.List.Elements.{All-head}
 use Rattle.algebra.proofs.Casts.{IsWordOf-cast}
 use Rattle.algebra.proofs.Sums.{sum-word}
 use Rattle.algebra.proofs.Words.{IsWordOf-eval, IsWordOf-index_eval, IsWordOf-unary_eval}
@@ -27,11 +27,11 @@ use Rattle.model.specs.declared.call.Positions.{Positions}
 use Rattle.model.specs.declared.call.Positions.TheVariants.{Union, Intersection}
 use Rattle.model.specs.declared.call.TwoInputs.{TwoInputs}
 use Rattle.model.specs.declared.call.TwoInputs.TheVariants.{Combine, Multiply}
-use Rattle.model.specs.ElementWise.{applied, eval_cast, kept_where, of_both, of_either}
+use Rattle.model.specs.ElementWise.{eval_cast, of_both, of_either}
 use Rattle.model.specs.Object.{AreWordsOf, Content, IsObject, Object, in_domain, signature_of, turned_content}
 use Rattle.model.specs.Operations.{combined, computed_of_one, computed_of_two, multiplied, operation}
 use Rattle.model.specs.Product.{sum_domain}
-use Rattle.model.specs.Reductions.{row_sums, row_words}
+use Rattle.model.specs.Reductions.{row_words}
 use Rattle.model.specs.Renamed.{inputs_of, renamed_operation}
 use Rattle.model.specs.Table.{inner_size, is_offered, offers_one, plan_of, plan_of_one, plan_of_two}
 use Rattle.model.proofs.ProductLaws.{product-words}

@@ -1,6 +1,6 @@
 -- An operator looks at the value that a word stands for. So what operations compute of stored words is the same
 -- whether these are cast to the operator's domain or not.
-use Rattle.std.proofs.Common.{◌≡◌, ◌∙◌, ◌==◌, ℕ, true, Bool, cond, List, [], ◌∷◌, ◌++◌, map, length, get_or, Option, Some, None, refl, sym, ap}
+use Rattle.std.proofs.Common.{◌≡◌, ◌∙◌, ◌==◌, ℕ, true, Bool, cond, List, [], ◌∷◌, ◌++◌, map, get_or, Option, Some, None, refl, sym, ap}
 use Rattle.std.specs.List.{All, cons_option, filter_map, flat_map, fold}
 use Rattle.std.specs.Option.{option_and_then, option_map, unwrap_or}
 use Rattle.std.proofs.lemmas.List.Elements.{All-append, All-cons, All-head, All-map, All-nil, All-tail}
@@ -24,7 +24,7 @@ use Rattle.algebra.specs.Functions.{function_domain, function_of, takes}
 use Rattle.algebra.specs.IndexOperators.{index_answer_domain, index_eval_of, passes, takes_index}
 use Rattle.algebra.specs.Monoids.{identity_of, sum_of}
 use Rattle.algebra.specs.Operators.{answer_domain, combines_by, eval_of, formula, offers}
-use Rattle.algebra.specs.UnaryOperators.{unary_eval_of, unary_formula}
+use Rattle.algebra.specs.UnaryOperators.{unary_formula}
 use Rattle.algebra.specs.Value.{IsWordOf, are_compatible, cast_of, value_of, word_of}
 use Rattle.model.specs.declared.call.Form.{Form}
 use Rattle.model.specs.declared.call.Form.TheVariants.{MatrixMatrix, MatrixVector, VectorMatrix}
@@ -32,7 +32,7 @@ use Rattle.model.specs.ElementWise.{applied, eval_cast, intersection, kept_where
 use Rattle.model.specs.Entries.{below}
 use Rattle.model.specs.Object.{AreWordsOf, Content, Object, cast_content, cols_of, in_domain, rows_of, turned_content}
 use Rattle.model.specs.Operations.{multiplied}
-use Rattle.model.specs.Product.{multiply_of, product, product_of, sum_of as ring_sum_of}
+use Rattle.model.specs.Product.{product, product_of, sum_of as ring_sum_of}
 use Rattle.model.specs.Reductions.{all_words, row_words, sum_in}
 use Rattle.model.proofs.ObjectLaws.{cast_content-words}
 

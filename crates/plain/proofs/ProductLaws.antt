@@ -1,8 +1,5 @@
 -- Products, one term after the other.
-use Rattle.std.proofs.Common.{◌≡◌, ℕ, ◌+◌, List, [], ◌∷◌, ◌++◌, Option, Some, None, refl, sym, ◌∙◌, ap}
-use Rattle.std.specs.List.{cons_option}
-use Rattle.std.proofs.lemmas.List.{append-nil}
-use Rattle.std.proofs.lemmas.List.Sums.{fold-append}
+use Rattle.std.proofs.Common.{◌≡◌, ℕ, ◌+◌, Option, None, refl, sym, ◌∙◌, ap}
 use Rattle.algebra.specs.declared.operator_names.RingName.{RingName}
 use Rattle.model.specs.Entries.{count_from}
 use Rattle.model.specs.Object.{Content}

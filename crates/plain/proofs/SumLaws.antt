@@ -1,6 +1,6 @@
 -- Sums, one term after the other.
 use Rattle.std.proofs.Common.{◌≡◌, ℕ, ◌+◌, List, [], ◌∷◌, ◌++◌, Option, Some, None, refl, sym, ◌∙◌, ap, append_assoc}
-use Rattle.std.specs.List.{cons_option, filter_map, flat_map, reduce}
+use Rattle.std.specs.List.{cons_option, flat_map, reduce}
 use Rattle.std.proofs.lemmas.List.{append-nil}
 use Rattle.std.proofs.lemmas.List.Sums.{fold-append}
 use Rattle.model.specs.Entries.{below, count_from}

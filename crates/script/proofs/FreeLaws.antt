@@ -1,7 +1,7 @@
 -- Objects that are freed, and whose names stand for none afterwards.
-use Rattle.std.proofs.Common.{◌≡◌, ◌∙◌, ◌==◌, Bool, true, false, cond, Option, Some, None, is_some, Result, Ok, Err, MatchResult, refl, sym, ap, inl, inr}
+use Rattle.std.proofs.Common.{◌≡◌, ◌∙◌, ◌==◌, true, false, cond, Option, Some, None, is_some, Result, Ok, Err, MatchResult, refl, sym, ap, inl, inr}
 use Rattle.std.specs.Prelude.{OnErr, OnOk}
-use Rattle.std.specs.Option.{option_and_then, option_map_or}
+use Rattle.std.specs.Option.{option_and_then}
 use Rattle.std.specs.Str.{bytes_eq}
 use Rattle.std.proofs.lemmas.Bool.{cases_Bool, eqb-true, true≢false}
 use Rattle.std.proofs.lemmas.Slice.Eq.{bytes_eq-Decides}
@@ -11,10 +11,9 @@ use Rattle.model.specs.declared.status.Status.{Status}
 use Rattle.model.specs.declared.status.Status.TheVariants as status
 use Rattle.model.specs.Fault.{early_fault, fault_of}
 use Rattle.model.specs.Grammar.{Name}
-use Rattle.model.specs.Object.{Object}
 use Rattle.model.specs.Run.{Environment, effect, seen, without_object}
 use Rattle.model.proofs.EnvironmentLaws.{environments_equal}
-use Rattle.script.proofs.NameLaws.{AreDistinct, own_number, same_number}
+use Rattle.script.proofs.NameLaws.{AreDistinct, same_number}
 use Rattle.script.specs.Named.{through}
 use Rattle.session.specs.Performed.{Ends}
 use Rattle.session.specs.Tables.{same_object}

@@ -1,8 +1,6 @@
 -- What is computed are words of the domain that the table gives.
-use Rattle.std.proofs.Common.{◌≡◌, ◌∙◌, ℕ, ap}
 use Rattle.calls.specs.declared.role.Role.{Role}
 use Rattle.calls.specs.Roles.{role_of}
-use Rattle.calls.specs.Steps.{called}
 use Rattle.kernel.specs.Evaluated.{computed, object_in, plan_in}
 use Rattle.kernel.proofs.Accepted.{computed-words}
 use Rattle.kernel.proofs.MaskLaws.{agrees-cast}

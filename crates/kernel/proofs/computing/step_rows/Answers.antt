@@ -1,22 +1,18 @@
 -- Each kernel gives the rows of what the recipe's operation computes.
-use Rattle.std.proofs.Common.{◌≡◌, ◌∙◌, ℕ, ap, rules}
+use Rattle.std.proofs.Common.{◌≡◌, ◌∙◌, ap, rules}
 use Rattle.std.specs.Int.{w128}
 use Rattle.std.specs.Int.RustNames.{FitsSigned}
 use Rattle.std.proofs.lemmas.Int.{to_z-of_z}
 use Rattle.std.proofs.lemmas.Result.{IfOk-weaker}
 use Rattle.algebra.specs.declared.binary.BinaryOp.{BinaryOp}
-use Rattle.algebra.specs.OperatorNames.{ring_named}
 use Rattle.calls.specs.declared.recipe.Recipe.{Recipe}
 use Rattle.calls.specs.declared.role.Role.{Role}
-use Rattle.calls.specs.declared.step.Step.{Step}
 use Rattle.calls.specs.declared.step.Step.TheVariants.{Combine}
 use Rattle.calls.specs.Roles.{role_of}
 use Rattle.kernel.specs.Evaluated.{computed, object_in}
-use Rattle.kernel.specs.Factors.{cols_of_product, inner_of}
 use Rattle.kernel.proofs.Computed.{applied-cols, applied-computed, combined-cols, factors-fit, intersection-computed, product-computed, same_cols, selected-cols, selected-computed, sums-cols, sums-computed, union-computed}
 use Rattle.kernel.proofs.MaskLaws.{agrees-everywhere, agrees-masked}
 use Rattle.model.specs.declared.call.Positions.{Positions}
-use Rattle.model.specs.Object.{Content}
 use Rattle.store.specs.Stored.{Stored}
 use Rattle.kernel.proofs.computing.step_rows.Goals as goal
 

@@ -1,5 +1,5 @@
 -- The mask has the output's shape.
-use Rattle.std.proofs.Common.{◌∙◌, sym}
+use Rattle.std.proofs.Common.{◌∙◌}
 use Rattle.kernel.proofs.Accepted.{recipe-mask}
 use Rattle.kernel.proofs.output.mask_of.Goals.{in-Some, in-None}
 use Rattle.kernel.proofs.output.mask_of.Goals as goal

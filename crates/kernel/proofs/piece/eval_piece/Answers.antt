@@ -1,8 +1,7 @@
 -- What is computed is written back at the positions of the mask.
-use Rattle.std.proofs.Common.{◌≡◌, ◌∙◌, ℕ, ◌<◌, ◌≤◌, sym}
+use Rattle.std.proofs.Common.{◌∙◌, sym}
 use Rattle.std.proofs.lemmas.Result.{IfOk-weaker}
 use Rattle.calls.specs.declared.role.Role.{Role}
-use Rattle.calls.specs.Recipes.{meaning}
 use Rattle.calls.specs.Roles.{role_of}
 use Rattle.kernel.specs.Evaluated.{computed_in, object_in}
 use Rattle.kernel.proofs.Accepted.{recipe-means}

@@ -1,5 +1,5 @@
 -- The sum of a row is that of its values, put onto none.
-use Rattle.std.proofs.Common.{◌≡◌, ◌==◌, [], None, refl, rules, sym, ◌∙◌, true}
+use Rattle.std.proofs.Common.{◌≡◌, ◌==◌, [], refl, rules, ◌∙◌, true}
 use Rattle.plain.proofs.sums.row_sum.Goals as goal
 
 pub returns-then-col-eq0 : goal.returns-then-col-eq0

@@ -1,7 +1,7 @@
 -- One row more at each turn.
-use Rattle.std.proofs.Common.{◌≡◌, ◌∙◌, ap, refl}
+use Rattle.std.proofs.Common.{◌∙◌}
 use Rattle.algebra.specs.Operators.{combines_by, eval_of}
-use Rattle.model.specs.Object.{Object, cols_of, in_domain}
+use Rattle.model.specs.Object.{cols_of, in_domain}
 use Rattle.model.specs.Reductions.{all_words}
 use Rattle.plain.specs.Evaluated.{object_of}
 use Rattle.plain.proofs.SumLaws.{rows-none, rows-summed}

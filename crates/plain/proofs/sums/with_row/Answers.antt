@@ -1,5 +1,5 @@
 -- One column more at each turn.
-use Rattle.std.proofs.Common.{◌≡◌, ◌∙◌, ap, sym, Option, ℕ, ◌++◌}
+use Rattle.std.proofs.Common.{◌∙◌, ap, sym, Option, ℕ, ◌++◌}
 use Rattle.algebra.specs.Monoids.{sum_of}
 use Rattle.algebra.specs.Operators.{combines_by, eval_of}
 use Rattle.model.specs.Object.{in_domain}

@@ -1,9 +1,5 @@
 -- The object is there, since the call was accepted, and an empty store takes the place of its own.
-use Rattle.std.proofs.Common.{◌≡◌, ◌<◌, ◌∙◌, None, is_some, true, arith, refl, rules, ap}
-use Rattle.model.specs.Fault.{found_object}
-use Rattle.model.specs.Object.{Object}
-use Rattle.model.specs.Run.{object_at}
-use Rattle.session.specs.Objects.{object_of}
+use Rattle.std.proofs.Common.{◌≡◌, ◌<◌, None, arith, refl, rules}
 use Rattle.session.specs.Performed.{count_in, environment_of}
 use Rattle.session.proofs.PerformedLaws.{performed-clear}
 use Rattle.session.proofs.SessionLaws.{below-put, clear-accepted}

@@ -1,5 +1,5 @@
 -- An object that is there is freed, and another call of its number is refused.
-use Rattle.std.proofs.Common.{◌≡◌, false, None, refl, rules, sym}
+use Rattle.std.proofs.Common.{◌≡◌, None, refl, sym}
 use Rattle.session.specs.Performed.{environment_of}
 use Rattle.session.proofs.PerformedLaws.{performed-free}
 use Rattle.session.proofs.SessionLaws.{below-removed, none_where}

@@ -1,5 +1,5 @@
 -- The object and the monoid are there, since the call was accepted.
-use Rattle.std.proofs.Common.{◌≡◌, ◌∙◌, FitsSigned, Some, None, is_some, ap, rules, sym, true}
+use Rattle.std.proofs.Common.{◌≡◌, ◌∙◌, FitsSigned, Some, None, is_some, ap, rules, sym}
 use Rattle.std.specs.Int.{w128}
 use Rattle.std.proofs.lemmas.Bool.{true≢false}
 use Rattle.std.proofs.lemmas.Int.{to_z-of_z}
