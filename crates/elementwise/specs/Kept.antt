@@ -1,16 +1,16 @@
 -- Entries that pass a test.
 use Rattle.std.specs.Prelude.{ℕ, if◌then◌else◌, Bool, List, [], ◌∷◌}
-use Rattle.algebra.specs.declared.index.IndexOp.{IndexOp}
 use Rattle.model.specs.declared.entry.Entry.{Entry}
+use Rattle.elementwise.specs.declared.passing.Test.{Test}
 use Rattle.elementwise.specs.Tests.{passes_by}
 
 -- whether an entry passes, as it lies: of a column the row is the inner index
-abbrev pub test_by : IndexOp → ℕ → Bool → ℕ → ℕ → ℕ → Bool
-test_by op s is_column outer inner word =
-    if is_column then passes_by op s inner outer word else passes_by op s outer inner word
+abbrev pub is_passed : Test → ℕ → ℕ → ℕ → Bool
+is_passed test outer inner word =
+    if test.is_column then passes_by test.op test.s inner outer word else passes_by test.op test.s outer inner word
 
-abbrev pub passes_as_it_lies : IndexOp → ℕ → Bool → Entry → Bool
-passes_as_it_lies op s is_column e = test_by op s is_column e.row e.col e.word
+abbrev pub passes_as_it_lies : Test → Entry → Bool
+passes_as_it_lies test e = is_passed test e.row e.col e.word
 
 -- the inner indices, beside words, of the entries that pass
 unfoldable pub kept_indices : (ℕ → ℕ → Bool) → List ℕ → List ℕ → List ℕ

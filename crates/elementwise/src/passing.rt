@@ -1,7 +1,7 @@
 //! Index operators as tests of the entries of fibers.
 ghost use Rattle.std.specs.Prelude.{◌≡◌, ◌<◌, ◌≤◌, ◌+◌, ◌++◌, ◌∷◌, ◌==◌, if◌then◌else◌, [], length, take, IfOk, OnOk};
 ghost use Rattle.std.specs.List.{filter};
-ghost use Rattle.elementwise.specs.Kept.{kept_indices, kept_words, passes_as_it_lies, test_by};
+ghost use Rattle.elementwise.specs.Kept.{kept_indices, kept_words, passes_as_it_lies, is_passed};
 ghost use Rattle.store.specs.Fibers.{AreFlat, end_at, entries_from, entries_in};
 ghost use Rattle.store.specs.Walks.{AreLeft};
 
@@ -14,39 +14,53 @@ use store::{FiberEnd, FiberLists, Fibers, FlatFibers};
 /// For how many entries room is made at a time, so that few entries that pass touch no room for all.
 const PART: usize = 2048;
 
-/// The entries of fibers that pass, in memory of their own. Of a column the row is the inner index.
+/// A test of entries as they lie: of a column the row is the inner index.
+#[derive(Clone, Copy)]
+pub(crate) struct Test {
+    pub(crate) op: IndexOp,
+    pub(crate) s: u64,
+    pub(crate) is_column: bool,
+}
+
+impl Test {
+    /// Whether an entry passes.
+    #[inline(always)]
+    fn passes(self, outer: u64, inner: u64, word: u64) -> bool
+        ensures { result ≡ is_passed self outer inner word }
+    {
+        if self.is_column {
+            self.op.passes(word, inner, outer, self.s)
+        } else {
+            self.op.passes(word, outer, inner, self.s)
+        }
+    }
+}
+
+/// The entries of fibers that pass, in memory of their own.
 pub(crate) fn pass_fibers(
     alloc: Global,
     fibers: &Fibers<'_>,
-    op: IndexOp,
-    s: u64,
-    is_column: bool,
+    test: Test,
 ) -> Result<FiberLists, NoMemory>
     ensures flat { IfOk result (λ lists. AreFlat lists.ends.items lists.inner.items lists.words.items) }
     ensures entries { IfOk result (λ lists. entries_in lists
-        ≡ filter (passes_as_it_lies op s is_column) fibers.now.entries) }
+        ≡ filter (passes_as_it_lies test) fibers.now.entries) }
 {
     let flat = fibers.flat();
     if flat.inner.is_empty() {
         return Ok(FiberLists::new(alloc));
     }
-    with_index!(op, |own| keep_fibers(alloc, own, s, is_column, &flat))
+    with_index!(test.op, |op| keep_fibers(alloc, Test { op, ..test }, &flat))
 }
 
 /// What `pass_fibers` gives of some entries, by one operator of its arms.
 #[inline(always)]
-fn keep_fibers(
-    alloc: Global,
-    op: IndexOp,
-    s: u64,
-    is_column: bool,
-    fibers: &FlatFibers<'_>,
-) -> Result<FiberLists, NoMemory>
+fn keep_fibers(alloc: Global, test: Test, fibers: &FlatFibers<'_>) -> Result<FiberLists, NoMemory>
     requires left { AreLeft fibers.now.from fibers.now.head fibers.now.others.now fibers.now.inner.now
         fibers.now.words.now }
     requires some { 0 < length fibers.now.inner.now }
     ensures flat { IfOk result (λ lists. AreFlat lists.ends.items lists.inner.items lists.words.items) }
-    ensures entries { IfOk result (λ lists. entries_in lists ≡ filter (passes_as_it_lies op s is_column)
+    ensures entries { IfOk result (λ lists. entries_in lists ≡ filter (passes_as_it_lies test)
         (entries_from fibers.now.from (fibers.now.head ∷ fibers.now.others.now) fibers.now.inner.now
         fibers.now.words.now)) }
 {
@@ -59,9 +73,7 @@ fn keep_fibers(
         let before = kept.count;
         pass_fiber(
             &mut kept,
-            op,
-            s,
-            is_column,
+            test,
             outer,
             &fibers.inner[start..past],
             &fibers.words[start..past],
@@ -132,9 +144,7 @@ impl Kept {
     #[inline(always)]
     fn append(
         &mut self,
-        op: IndexOp,
-        s: u64,
-        is_column: bool,
+        test: Test,
         outer: u64,
         inner: &[u64],
         words: &[u64],
@@ -147,17 +157,15 @@ impl Kept {
             × (self.new.count ≤ length self.new.words.items)) }
         ensures inner { OnOk result (take self.new.count self.new.inner.items
             ≡ take self.old.count self.old.inner.items
-            ++ kept_indices (test_by op s is_column outer) inner.now words.now) }
+            ++ kept_indices (is_passed test outer) inner.now words.now) }
         ensures words { OnOk result (take self.new.count self.new.words.items
             ≡ take self.old.count self.old.words.items
-            ++ kept_words (test_by op s is_column outer) inner.now words.now) }
+            ++ kept_words (is_passed test outer) inner.now words.now) }
     {
         make_room(&mut self.inner, self.count, inner.len())?;
         make_room(&mut self.words, self.count, inner.len())?;
         let (to_inner, to_words) = (&mut self.inner, &mut self.words);
-        self.count = pass_part(
-            op, s, is_column, outer, inner, words, to_inner, to_words, self.count,
-        );
+        self.count = pass_part(test, outer, inner, words, to_inner, to_words, self.count);
         Ok(())
     }
 }
@@ -183,9 +191,7 @@ fn make_room(list: &mut Vec<u64>, count: usize, more: usize) -> Result<(), NoMem
 #[inline(always)]
 fn pass_fiber(
     kept: &mut Kept,
-    op: IndexOp,
-    s: u64,
-    is_column: bool,
+    test: Test,
     outer: u64,
     inner: &[u64],
     words: &[u64],
@@ -195,21 +201,14 @@ fn pass_fiber(
     ensures held { OnOk result ((kept.new.count ≤ length kept.new.inner.items)
         × (kept.new.count ≤ length kept.new.words.items)) }
     ensures inner { OnOk result (take kept.new.count kept.new.inner.items ≡ take kept.old.count kept.old.inner.items
-        ++ kept_indices (test_by op s is_column outer) inner.now words.now) }
+        ++ kept_indices (is_passed test outer) inner.now words.now) }
     ensures words { OnOk result (take kept.new.count kept.new.words.items ≡ take kept.old.count kept.old.words.items
-        ++ kept_words (test_by op s is_column outer) inner.now words.now) }
+        ++ kept_words (is_passed test outer) inner.now words.now) }
 {
     let mut start = 0;
     while start < inner.len() {
         let past = start + (inner.len() - start).min(PART);
-        kept.append(
-            op,
-            s,
-            is_column,
-            outer,
-            &inner[start..past],
-            &words[start..past],
-        )?;
+        kept.append(test, outer, &inner[start..past], &words[start..past])?;
         start = past;
     }
     Ok(())
@@ -219,9 +218,7 @@ fn pass_fiber(
 /// many there are then.
 #[inline(always)]
 fn pass_part(
-    op: IndexOp,
-    s: u64,
-    is_column: bool,
+    test: Test,
     outer: u64,
     inner: &[u64],
     words: &[u64],
@@ -236,28 +233,16 @@ fn pass_part(
     ensures inner_length { length to_inner.new ≡ length to_inner.old }
     ensures words_length { length to_words.new ≡ length to_words.old }
     ensures inner { take result to_inner.new
-        ≡ take count to_inner.old ++ kept_indices (test_by op s is_column outer) inner.now words.now }
+        ≡ take count to_inner.old ++ kept_indices (is_passed test outer) inner.now words.now }
     ensures words { take result to_words.new
-        ≡ take count to_words.old ++ kept_words (test_by op s is_column outer) inner.now words.now }
+        ≡ take count to_words.old ++ kept_words (is_passed test outer) inner.now words.now }
 {
     let mut kept = count;
     for k in 0..inner.len() {
         // Without a branch: whether an entry passes can't be foreseen.
         to_inner[kept] = inner[k];
         to_words[kept] = words[k];
-        kept += usize::from(passes(op, s, is_column, outer, inner[k], words[k]));
+        kept += usize::from(test.passes(outer, inner[k], words[k]));
     }
     kept
-}
-
-/// Whether an entry passes, as it lies.
-#[inline(always)]
-fn passes(op: IndexOp, s: u64, is_column: bool, outer: u64, index: u64, word: u64) -> bool
-    ensures { result ≡ test_by op s is_column outer index word }
-{
-    if is_column {
-        op.passes(word, index, outer, s)
-    } else {
-        op.passes(word, outer, index, s)
-    }
 }

@@ -4,7 +4,7 @@ ghost use Rattle.elementwise.specs.Tests.{passes_by};
 ghost use Rattle.model.specs.ElementWise.{kept_where};
 ghost use Rattle.store.specs.Stored.{block_content, content_of};
 
-use crate::passing::pass_fibers;
+use crate::passing::{Test, pass_fibers};
 use algebra::IndexOp;
 use model::NoMemory;
 use std::alloc::Global;
@@ -29,6 +29,11 @@ pub fn select_rows(
 {
     let (first, past, cols) = (range.start, range.end, a.cols());
     let fibers = a.fibers_in(first..past);
-    let lists = pass_fibers(alloc, &fibers, op, s, cols == 1)?;
+    let test = Test {
+        op,
+        s,
+        is_column: cols == 1,
+    };
+    let lists = pass_fibers(alloc, &fibers, test)?;
     Ok(RowBlock::of_fibers(first, past, cols, lists))
 }

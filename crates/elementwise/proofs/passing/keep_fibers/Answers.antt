@@ -1,6 +1,6 @@
 -- One fiber more.
 use Rattle.std.proofs.Common.{◌≡◌, ◌∷◌, length, take, arith, length-take}
-use Rattle.elementwise.specs.Kept.{test_by}
+use Rattle.elementwise.specs.Kept.{is_passed}
 use Rattle.elementwise.proofs.KeptFibers.{next_part, passing_all, passing_more, passing_none}
 use Rattle.elementwise.proofs.passing.keep_fibers.Goals as goal
 
@@ -11,7 +11,7 @@ loop-at-init c =
     record {
       within = omega arith;
       held = rw c.in_ok-kept.ensures.count (omega arith, omega arith);
-      passing = rw (c.in_ok-ends.ensures.items, c.in_ok-kept.ensures.count) (passing_none (test_by c.args.op c.args.s c.args.is_column) f.from (f.head ∷ f.others.now) f.inner.now f.words.now
+      passing = rw (c.in_ok-ends.ensures.items, c.in_ok-kept.ensures.count) (passing_none (is_passed c.args.test) f.from (f.head ∷ f.others.now) f.inner.now f.words.now
           (record { same_length = left.same_length; rises = left.rises c.requires.some; whole = left.whole c.requires.some; apart = left.apart }) left.order);
     }
 
@@ -20,7 +20,7 @@ overflow_sub-past c =
     let f = c.args.fibers.now in
     let s = c.loop-at in
     let within = c.loop-at-test.true in
-    let n = next_part (test_by c.args.op c.args.s c.args.is_column) f.from (f.head ∷ f.others.now) f.inner.now f.words.now s.ends.items (take s.kept.count s.kept.inner.items) (take s.kept.count s.kept.words.items) s.at s.start c.fiber-outer.result s.invariant.passing s.invariant.within (omega arith) c.fiber-outer.ensures in
+    let n = next_part (is_passed c.args.test) f.from (f.head ∷ f.others.now) f.inner.now f.words.now s.ends.items (take s.kept.count s.kept.inner.items) (take s.kept.count s.kept.words.items) s.at s.start c.fiber-outer.result s.invariant.passing s.invariant.within (omega arith) c.fiber-outer.ensures in
     let low = n.low in
     let up = n.rises in
     let inside = n.inside in
@@ -32,7 +32,7 @@ slice_bounds-pass_fiber-count c =
     let f = c.args.fibers.now in
     let s = c.loop-at in
     let within = c.loop-at-test.true in
-    let n = next_part (test_by c.args.op c.args.s c.args.is_column) f.from (f.head ∷ f.others.now) f.inner.now f.words.now s.ends.items (take s.kept.count s.kept.inner.items) (take s.kept.count s.kept.words.items) s.at s.start c.fiber-outer.result s.invariant.passing s.invariant.within (omega arith) c.fiber-outer.ensures in
+    let n = next_part (is_passed c.args.test) f.from (f.head ∷ f.others.now) f.inner.now f.words.now s.ends.items (take s.kept.count s.kept.inner.items) (take s.kept.count s.kept.words.items) s.at s.start c.fiber-outer.result s.invariant.passing s.invariant.within (omega arith) c.fiber-outer.ensures in
     let low = n.low in
     let up = n.rises in
     let inside = n.inside in
@@ -44,7 +44,7 @@ slice_bounds-pass_fiber-start c =
     let f = c.args.fibers.now in
     let s = c.loop-at in
     let within = c.loop-at-test.true in
-    let n = next_part (test_by c.args.op c.args.s c.args.is_column) f.from (f.head ∷ f.others.now) f.inner.now f.words.now s.ends.items (take s.kept.count s.kept.inner.items) (take s.kept.count s.kept.words.items) s.at s.start c.fiber-outer.result s.invariant.passing s.invariant.within (omega arith) c.fiber-outer.ensures in
+    let n = next_part (is_passed c.args.test) f.from (f.head ∷ f.others.now) f.inner.now f.words.now s.ends.items (take s.kept.count s.kept.inner.items) (take s.kept.count s.kept.words.items) s.at s.start c.fiber-outer.result s.invariant.passing s.invariant.within (omega arith) c.fiber-outer.ensures in
     let low = n.low in
     let up = n.rises in
     let inside = n.inside in
@@ -56,7 +56,7 @@ slice_bounds-pass_fiber-end c =
     let f = c.args.fibers.now in
     let s = c.loop-at in
     let within = c.loop-at-test.true in
-    let n = next_part (test_by c.args.op c.args.s c.args.is_column) f.from (f.head ∷ f.others.now) f.inner.now f.words.now s.ends.items (take s.kept.count s.kept.inner.items) (take s.kept.count s.kept.words.items) s.at s.start c.fiber-outer.result s.invariant.passing s.invariant.within (omega arith) c.fiber-outer.ensures in
+    let n = next_part (is_passed c.args.test) f.from (f.head ∷ f.others.now) f.inner.now f.words.now s.ends.items (take s.kept.count s.kept.inner.items) (take s.kept.count s.kept.words.items) s.at s.start c.fiber-outer.result s.invariant.passing s.invariant.within (omega arith) c.fiber-outer.ensures in
     let low = n.low in
     let up = n.rises in
     let inside = n.inside in
@@ -68,7 +68,7 @@ slice_bounds-pass_fiber-count-in-loop-at c =
     let f = c.args.fibers.now in
     let s = c.loop-at in
     let within = c.loop-at-test.true in
-    let n = next_part (test_by c.args.op c.args.s c.args.is_column) f.from (f.head ∷ f.others.now) f.inner.now f.words.now s.ends.items (take s.kept.count s.kept.inner.items) (take s.kept.count s.kept.words.items) s.at s.start c.fiber-outer.result s.invariant.passing s.invariant.within (omega arith) c.fiber-outer.ensures in
+    let n = next_part (is_passed c.args.test) f.from (f.head ∷ f.others.now) f.inner.now f.words.now s.ends.items (take s.kept.count s.kept.inner.items) (take s.kept.count s.kept.words.items) s.at s.start c.fiber-outer.result s.invariant.passing s.invariant.within (omega arith) c.fiber-outer.ensures in
     let low = n.low in
     let up = n.rises in
     let inside = n.inside in
@@ -80,7 +80,7 @@ slice_bounds-pass_fiber-start-in-loop-at c =
     let f = c.args.fibers.now in
     let s = c.loop-at in
     let within = c.loop-at-test.true in
-    let n = next_part (test_by c.args.op c.args.s c.args.is_column) f.from (f.head ∷ f.others.now) f.inner.now f.words.now s.ends.items (take s.kept.count s.kept.inner.items) (take s.kept.count s.kept.words.items) s.at s.start c.fiber-outer.result s.invariant.passing s.invariant.within (omega arith) c.fiber-outer.ensures in
+    let n = next_part (is_passed c.args.test) f.from (f.head ∷ f.others.now) f.inner.now f.words.now s.ends.items (take s.kept.count s.kept.inner.items) (take s.kept.count s.kept.words.items) s.at s.start c.fiber-outer.result s.invariant.passing s.invariant.within (omega arith) c.fiber-outer.ensures in
     let low = n.low in
     let up = n.rises in
     let inside = n.inside in
@@ -92,7 +92,7 @@ loop-at-preserved c =
     let f = c.args.fibers.now in
     let s = c.loop-at in
     let within = c.loop-at-test.true in
-    let n = next_part (test_by c.args.op c.args.s c.args.is_column) f.from (f.head ∷ f.others.now) f.inner.now f.words.now s.ends.items (take s.kept.count s.kept.inner.items) (take s.kept.count s.kept.words.items) s.at s.start c.fiber-outer.result s.invariant.passing s.invariant.within (omega arith) c.fiber-outer.ensures in
+    let n = next_part (is_passed c.args.test) f.from (f.head ∷ f.others.now) f.inner.now f.words.now s.ends.items (take s.kept.count s.kept.inner.items) (take s.kept.count s.kept.words.items) s.at s.start c.fiber-outer.result s.invariant.passing s.invariant.within (omega arith) c.fiber-outer.ensures in
     let low = n.low in
     let up = n.rises in
     let inside = n.inside in
@@ -104,7 +104,7 @@ loop-at-preserved c =
     record {
       within = inside;
       held = held;
-      passing = passing_more (test_by c.args.op c.args.s c.args.is_column) f.from (f.head ∷ f.others.now) f.inner.now f.words.now s.ends.items (take s.kept.count s.kept.inner.items) (take s.kept.count s.kept.words.items) s.at s.start c.fiber-outer.result
+      passing = passing_more (is_passed c.args.test) f.from (f.head ∷ f.others.now) f.inner.now f.words.now s.ends.items (take s.kept.count s.kept.inner.items) (take s.kept.count s.kept.words.items) s.at s.start c.fiber-outer.result
           c.close.new.ends.items (take kept.count kept.inner.items) (take kept.count kept.words.items) s.invariant.passing s.invariant.within (omega arith) c.fiber-outer.ensures
           c.in_ok-pass_fiber.ensures.inner c.in_ok-pass_fiber.ensures.words (rw (was_long, long) c.in_ok-close.ensures);
     }
@@ -115,4 +115,4 @@ returns-clause-entries c =
     let s = c.loop-at in
     let done = c.loop-at-test.false in
     rw (c.into_lists.ensures.ends, c.into_lists.ensures.inner, c.into_lists.ensures.words)
-    (passing_all (test_by c.args.op c.args.s c.args.is_column) f.from (f.head ∷ f.others.now) f.inner.now f.words.now s.ends.items (take s.kept.count s.kept.inner.items) (take s.kept.count s.kept.words.items) s.at s.start s.invariant.passing (omega arith))
+    (passing_all (is_passed c.args.test) f.from (f.head ∷ f.others.now) f.inner.now f.words.now s.ends.items (take s.kept.count s.kept.inner.items) (take s.kept.count s.kept.words.items) s.at s.start s.invariant.passing (omega arith))

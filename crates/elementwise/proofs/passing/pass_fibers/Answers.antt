@@ -16,4 +16,4 @@ returns-then-is_empty-clause-entries c =
     let f = c.flat-flat.result in
     let none : length f.inner.now ≡ 0 = grind (arith, nat_tests) in
     no_entries 0 c.new.result.ends.items c.new.result.inner.items c.new.result.words.items c.new.ensures.ends
-    ∙ ap (filter (passes_as_it_lies c.args.op c.args.s c.args.is_column)) (sym (c.flat-flat.ensures.entries ∙ no_lines f.from (f.head ∷ f.others.now) f.inner.now f.words.now none))
+    ∙ ap (filter (passes_as_it_lies c.args.test)) (sym (c.flat-flat.ensures.entries ∙ no_lines f.from (f.head ∷ f.others.now) f.inner.now f.words.now none))
