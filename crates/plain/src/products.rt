@@ -33,6 +33,7 @@ pub const fn inner_size(form: Form, first: Shape) -> u64
     }
 }
 
+/// The shape of a product: the rows of the first factor, and the columns of the second where it is a matrix.
 pub const fn product_shape(form: Form, first: Shape, second: Shape) -> Shape
     ensures { result ≡ product_shape form first second }
 {

@@ -5,8 +5,8 @@ ghost use Rattle.model.specs.Renamed.{inputs_of, outputs_of, renamed, renamed_op
 ghost use Rattle.calls.specs.Checks.{IsMissing};
 
 use crate::names::Names;
-use algebra::Domain;
-use model::{Call, Operation, Out, Shape};
+use algebra::{Domain, MonoidName};
+use model::{Call, Operation, Out, Place, Shape};
 use session::Obj;
 
 impl Names {
@@ -40,11 +40,7 @@ impl Names {
                 object,
                 place,
                 value,
-            } => Call::Set {
-                object: self.number(object)?,
-                place,
-                value,
-            },
+            } => set(self.number(object)?, place, value),
             Call::Remove { object, place } => Call::Remove {
                 object: self.number(object)?,
                 place,
@@ -59,10 +55,7 @@ impl Names {
             Call::Print { object } => Call::Print {
                 object: self.number(object)?,
             },
-            Call::Reduce { object, monoid } => Call::Reduce {
-                object: self.number(object)?,
-                monoid,
-            },
+            Call::Reduce { object, monoid } => reduce(self.number(object)?, monoid),
             Call::Operate { out, operation } => Call::Operate {
                 out: self.resolved_out(&out)?,
                 operation: self.resolved_operation(&operation)?,
@@ -115,4 +108,22 @@ const fn created<N>(name: N, domain: Domain, shape: Shape) -> Call<Obj, N>
         domain,
         shape,
     }
+}
+
+/// An entry set in an object.
+const fn set<K, N>(object: K, place: Place, value: i128) -> Call<K, N>
+    ensures { result ≡ Call.Set object place value }
+{
+    Call::Set {
+        object,
+        place,
+        value,
+    }
+}
+
+/// The sum of an object.
+const fn reduce<K, N>(object: K, monoid: MonoidName) -> Call<K, N>
+    ensures { result ≡ Call.Reduce object monoid }
+{
+    Call::Reduce { object, monoid }
 }
