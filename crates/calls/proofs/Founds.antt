@@ -4,7 +4,7 @@ use Rattle.std.specs.List.{list_all}
 use Rattle.std.proofs.lemmas.Bool.{true≢false}
 use Rattle.model.specs.declared.call.Call.TheVariants.{Operate}
 use Rattle.model.specs.declared.call.Operation.{Operation}
-use Rattle.model.specs.declared.call.Operation.TheVariants.{OfOne, OfTwo}
+use Rattle.model.specs.declared.call.Operation.TheVariants.{Fill, OfOne, OfTwo}
 use Rattle.model.specs.declared.call.Out.{Out}
 use Rattle.model.specs.declared.shape.Signature.{Signature}
 use Rattle.model.specs.declared.status.Status.TheVariants as status
@@ -43,6 +43,7 @@ fault-some count out operation =
     let P : Option Signature → Operation Signature → Type 0 = λ mask operation. let o : Out Signature = record out { mask = mask } in
     early_fault count (Operate (renamed_out Some o) (renamed_operation Some operation)) ≡ operation_fault o operation in
     elim operation as (P out.mask) [
+      | Fill value region ↦ elim out.mask as (λ mask. P mask (Fill value region)) [ None ↦ refl | Some m ↦ refl ]
       | OfOne computes a ↦ elim out.mask as (λ mask. P mask (OfOne computes a)) [ None ↦ refl | Some m ↦ refl ]
       | OfTwo computes a b ↦ elim out.mask as (λ mask. P mask (OfTwo computes a b)) [ None ↦ refl | Some m ↦ refl ]
     ]

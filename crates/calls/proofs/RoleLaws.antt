@@ -9,7 +9,7 @@ use Rattle.calls.specs.Recipes.{IsRecipeOf, meaning}
 use Rattle.calls.specs.Roles.{operation_by_role, out_by_role, role_of, roles_of}
 use Rattle.calls.specs.Steps.{called}
 use Rattle.model.specs.declared.call.Operation.{Operation}
-use Rattle.model.specs.declared.call.Operation.TheVariants.{OfOne, OfTwo}
+use Rattle.model.specs.declared.call.Operation.TheVariants.{Fill, OfOne, OfTwo}
 use Rattle.model.specs.declared.call.Out.{Out}
 use Rattle.model.specs.declared.shape.Signature.{Signature}
 use Rattle.model.specs.declared.status.Status.{Status}
@@ -23,6 +23,9 @@ mask_by_role c None = refl
 mask_by_role c (Some m) = refl
 
 pub out_taken : {K : Type 0} (out : Out K) (operation : Operation K) → renamed_out (role_of (roles_of out operation)) (out_by_role out) ≡ out
+out_taken {K = K} out (Fill value region) =
+    elim out.mask as (λ (mask : Option K). let o : Out K = record out { mask = mask } in renamed_out (role_of (roles_of o (Fill value region))) (out_by_role o) ≡ o)
+    [ None ↦ refl | Some m ↦ refl ]
 out_taken {K = K} out (OfOne computes a) =
     elim out.mask as (λ (mask : Option K). let o : Out K = record out { mask = mask } in renamed_out (role_of (roles_of o (OfOne computes a))) (out_by_role o) ≡ o)
     [ None ↦ refl | Some m ↦ refl ]
@@ -31,6 +34,7 @@ out_taken {K = K} out (OfTwo computes a b) =
     [ None ↦ refl | Some m ↦ refl ]
 
 pub operation_taken : {K : Type 0} (out : Out K) (operation : Operation K) → renamed_operation (role_of (roles_of out operation)) (operation_by_role operation) ≡ operation
+operation_taken out (Fill value region) = refl
 operation_taken out (OfOne computes a) = refl
 operation_taken out (OfTwo computes a b) = refl
 
@@ -40,6 +44,10 @@ taken_mask f c None = refl
 taken_mask f c (Some m) = refl
 
 role_renamed : {K L : Type 0} (f : K → L) (out : Out K) (operation : Operation K) (role : Role) → role_of (roles_of (renamed_out f out) (renamed_operation f operation)) role ≡ f (role_of (roles_of out operation) role)
+role_renamed f out (Fill value region) Old = refl
+role_renamed f out (Fill value region) Mask = taken_mask f out.c out.mask
+role_renamed f out (Fill value region) First = refl
+role_renamed f out (Fill value region) Second = refl
 role_renamed f out (OfOne computes a) Old = refl
 role_renamed f out (OfOne computes a) Mask = taken_mask f out.c out.mask
 role_renamed f out (OfOne computes a) First = refl
@@ -68,6 +76,7 @@ out_by_role-renamed : {K L : Type 0} (f : K → L) (out : Out K) → out_by_role
 out_by_role-renamed f out = ap (λ (mask : Option Role). let o : Out Role = record { c = Old; mask = mask; accum = out.accum; desc = out.desc } in o) (mask_roles f out.mask)
 
 operation_by_role-renamed : {K L : Type 0} (f : K → L) (operation : Operation K) → operation_by_role (renamed_operation f operation) ≡ operation_by_role operation
+operation_by_role-renamed f (Fill value region) = refl
 operation_by_role-renamed f (OfOne computes a) = refl
 operation_by_role-renamed f (OfTwo computes a b) = refl
 
@@ -92,6 +101,9 @@ if_recipe (Err status) fault known out operation known_out known_operation same_
 -- ---- what recipes mean
 
 out_along : {K M : Type 0} (g : K → M) (out : Out K) (operation : Operation K) → renamed_out (λ role. g (role_of (roles_of out operation) role)) (out_by_role out) ≡ renamed_out g out
+out_along {K = K} g out (Fill value region) =
+    elim out.mask as (λ (mask : Option K). let o : Out K = record out { mask = mask } in renamed_out (λ role. g (role_of (roles_of o (Fill value region)) role)) (out_by_role o) ≡ renamed_out g o)
+    [ None ↦ refl | Some m ↦ refl ]
 out_along {K = K} g out (OfOne computes a) =
     elim out.mask as (λ (mask : Option K). let o : Out K = record out { mask = mask } in renamed_out (λ role. g (role_of (roles_of o (OfOne computes a)) role)) (out_by_role o) ≡ renamed_out g o)
     [ None ↦ refl | Some m ↦ refl ]
@@ -100,6 +112,7 @@ out_along {K = K} g out (OfTwo computes a b) =
     [ None ↦ refl | Some m ↦ refl ]
 
 operation_along : {K M : Type 0} (g : K → M) (out : Out K) (operation : Operation K) → renamed_operation (λ role. g (role_of (roles_of out operation) role)) (operation_by_role operation) ≡ renamed_operation g operation
+operation_along g out (Fill value region) = refl
 operation_along g out (OfOne computes a) = refl
 operation_along g out (OfTwo computes a b) = refl
 

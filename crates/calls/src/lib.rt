@@ -2,16 +2,22 @@
 #![tactic(auto)]
 
 mod checking;
+mod known;
 mod obj;
 mod operation;
 mod plan;
 mod recipe;
+mod regions;
 mod role;
 mod step;
 
-pub use checking::{Checked, check};
+pub use checking::{
+    Checked, check, check_build, check_create, check_dup, check_place, check_reduce, check_resize,
+    check_set, check_there,
+};
 pub use model::{
-    Call, Desc, Form, OneInput, Operation, Out, Place, Positions, Shape, Signature, TwoInputs,
+    Call, Desc, Form, IndexList, OneInput, Operation, Out, Place, Positions, Region, Shape,
+    Signature, Tuple, TupleList, TwoInputs,
 };
 pub use obj::{Obj, Shapes};
 pub use recipe::Recipe;

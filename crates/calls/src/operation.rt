@@ -1,18 +1,20 @@
 //! The checks of operations.
 ghost use Rattle.std.specs.Prelude.{◌≡◌, MatchOption, MatchResult, None, Some, false, true};
 ghost use Rattle.std.specs.Option.{option_map_or};
+ghost use Rattle.calls.specs.Known.{operation_in};
 ghost use Rattle.calls.specs.Recipes.{IsRecipeOf};
 ghost use Rattle.calls.specs.Roles.{operation_by_role};
 ghost use Rattle.calls.specs.Steps.{called};
 ghost use Rattle.model.specs.Fault.{accumulates, is_implemented, mask_passes, operation_fault, serves_as_mask};
 ghost use Rattle.model.specs.Object.{same_kind, same_shape};
 
+use crate::known::Known;
 use crate::plan::plan;
 use crate::recipe::Recipe;
-use crate::role::{by_role, out_by_role};
+use crate::role::out_by_role;
 use crate::step::{Step, resolved};
 use algebra::{Domain, OpName, compatible};
-use model::{Operation, Out, Signature, Status};
+use model::{MOST_FILLED, Out, Signature, Status};
 
 /// Whether an operator can accumulate values of a domain.
 fn accumulates(domain: Domain, op: OpName) -> bool
@@ -21,11 +23,12 @@ fn accumulates(domain: Domain, op: OpName) -> bool
     op.kind.is_on(op.domain) && op.domain.is_same(domain) && op.answer().is_same(domain)
 }
 
-fn accumulator_serves(out: &Out<Signature>) -> bool
-    ensures { result ≡ option_map_or (accumulates out.now.c.domain) out.now.accum true }
+/// Whether an operator, where there is one, can accumulate values of a domain.
+pub(crate) fn accumulator_serves(domain: Domain, accum: Option<OpName>) -> bool
+    ensures { result ≡ option_map_or (accumulates domain) accum true }
 {
-    match out.accum {
-        Some(op) => accumulates(out.c.domain, op),
+    match accum {
+        Some(op) => accumulates(domain, op),
         None => true,
     }
 }
@@ -59,16 +62,17 @@ fn mask_serves(out: &Out<Signature>) -> bool
 
 /// An operation by roles, with its operators; its fault, if it has one.
 #[tactic(auto, unfolding(model::specs::Fault::operation_fault))]
-pub(crate) fn check_operation(
+pub(crate) fn check_operation<'a>(
     out: &Out<Signature>,
-    operation: &Operation<Signature>,
-) -> Result<Step, Status>
+    operation: Known<'a>,
+) -> Result<Step<'a>, Status>
     ensures { MatchResult result
-        (λ step. (operation_fault out.now operation.now ≡ None) × (called step ≡ operation_by_role operation.now))
-        (λ status. operation_fault out.now operation.now ≡ Some status) }
+        (λ step. (operation_fault out.now (operation_in operation.entry) ≡ None)
+        × (called step ≡ operation_by_role (operation_in operation.entry)))
+        (λ status. operation_fault out.now (operation_in operation.entry) ≡ Some status) }
 {
-    let plan = plan(out.desc, operation);
     let c = out.c;
+    let plan = plan(c, out.desc, operation);
     if !plan.kinds || !plan.shape.is_like(c.shape) || !mask_is_of_kind(out) {
         return Err(Status::WrongKind);
     }
@@ -79,37 +83,45 @@ pub(crate) fn check_operation(
     if !mask_fits(out) || !plan.shape.is_same(c.shape) || !plan.fits {
         return Err(Status::DimensionMismatch);
     }
+    if !plan.inside {
+        return Err(Status::IndexOutOfBounds);
+    }
     if !plan.values {
         return Err(Status::InvalidValue);
     }
     Ok(step)
 }
 
-/// An operation by roles, where its operators and its accumulator are offered, and its flags have come.
-fn implemented(out: &Out<Signature>, operation: &Operation<Signature>) -> Option<Step>
-    ensures { MatchOption result (is_implemented out.now operation.now ≡ false)
-        (λ step. (is_implemented out.now operation.now ≡ true) × (called step ≡ operation_by_role operation.now)) }
+/// An operation by roles, where its operators and its accumulator are offered, and it fills no more
+/// positions than may be.
+fn implemented<'a>(out: &Out<Signature>, operation: Known<'a>) -> Option<Step<'a>>
+    ensures { MatchOption result (is_implemented out.now (operation_in operation.entry) ≡ false)
+        (λ step. (is_implemented out.now (operation_in operation.entry) ≡ true)
+        × (called step ≡ operation_by_role (operation_in operation.entry))) }
 {
     let step = resolved(operation)?;
-    if !out.desc.has_come() || !accumulator_serves(out) {
+    if operation.filled(out.c.shape) > MOST_FILLED as u128
+        || !accumulator_serves(out.c.domain, out.accum)
+    {
         return None;
     }
     Some(step)
 }
 
 /// The recipe of an operation, by what is known of its objects; its fault, if it has one.
-pub(crate) fn recipe_of(
+pub(crate) fn recipe_of<'a>(
     out: &Out<Signature>,
-    operation: &Operation<Signature>,
-) -> Result<Recipe, Status>
+    operation: Known<'a>,
+) -> Result<Recipe<'a>, Status>
     ensures { MatchResult result
-        (λ recipe. (operation_fault out.now operation.now ≡ None) × IsRecipeOf Some out.now operation.now recipe)
-        (λ status. operation_fault out.now operation.now ≡ Some status) }
+        (λ recipe. (operation_fault out.now (operation_in operation.entry) ≡ None)
+        × IsRecipeOf Some out.now (operation_in operation.entry) recipe)
+        (λ status. operation_fault out.now (operation_in operation.entry) ≡ Some status) }
 {
     let step = check_operation(out, operation)?;
     Ok(Recipe {
         out: out_by_role(out),
         step,
-        signatures: by_role(out, operation),
+        signatures: operation.by_role(out),
     })
 }

@@ -1,58 +1,105 @@
 //! The table of operations.
-ghost use Rattle.std.specs.Prelude.{◌≡◌};
+ghost use Rattle.std.specs.Prelude.{◌≡◌, true};
+ghost use Rattle.calls.specs.Known.{operation_in};
 ghost use Rattle.model.specs.Fault.{plan_in};
 ghost use Rattle.model.specs.Object.{turned_signature};
-ghost use Rattle.model.specs.Table.{are_factors, inner_size, plan_of, plan_of_one, plan_of_two, product_shape};
-ghost use Rattle.model.specs.Table.{turned, turned_if, turns_one};
+ghost use Rattle.model.specs.Table.{are_factors, inner_size, plan_of_fill, plan_of_one, plan_of_two};
+ghost use Rattle.model.specs.Table.{product_shape, turned, turned_if};
 
-use algebra::{FunctionName, compatible};
-use model::{Desc, Form, OneInput, Operation, Plan, Shape, Signature, TwoInputs};
+use crate::known::Known;
+use crate::regions::{has_no_repeat, is_region_of, lies_inside, shape_in};
+use algebra::compatible;
+use model::{Desc, Form, OneInput, Plan, Region, Shape, Signature, TwoInputs};
 
-/// What the table says of an operation on its inputs, turned as the descriptor says.
-pub(crate) fn plan(desc: Desc, operation: &Operation<Signature>) -> Plan
-    ensures { result ≡ plan_in desc operation.now }
+/// What the table says of an operation on its output and its inputs, turned as the descriptor says.
+pub(crate) fn plan(c: Signature, desc: Desc, operation: Known<'_>) -> Plan
+    ensures { result ≡ plan_in c desc (operation_in operation.entry) }
 {
-    plan_of(turned(desc, operation))
-}
-
-/// What the table says of an operation.
-fn plan_of(operation: Operation<Signature>) -> Plan
-    ensures { result ≡ plan_of operation }
-{
-    match operation {
-        Operation::OfOne { computes, a } => plan_of_one(computes, a),
-        Operation::OfTwo { computes, a, b } => plan_of_two(computes, a, b),
+    match turned(desc, operation) {
+        Known::Fill { value, region } => plan_of_fill(c, value, region),
+        Known::OfOne { computes, a } => plan_of_one(c, computes, a),
+        Known::OfTwo { computes, a, b } => plan_of_two(computes, a, b),
     }
 }
 
-/// What the table says of an operation on one input.
-fn plan_of_one(computes: OneInput, a: Signature) -> Plan
-    ensures { result ≡ plan_of_one computes a }
+/// What the table says of a value and a region of an output.
+fn plan_of_fill(c: Signature, value: i128, region: &Region) -> Plan
+    ensures { result ≡ plan_of_fill c value region.now }
 {
+    Plan {
+        kinds: is_region_of(region, c.shape),
+        compatible: c.domain.is_built_in(),
+        inside: lies_inside(c.shape, region),
+        values: c.domain.word_of(value).is_some(),
+        ..unasked(c)
+    }
+}
+
+/// What an operation says that asks nothing, and computes what has a shape and a domain.
+fn unasked(of: Signature) -> Plan
+    ensures { result ≡ record {
+      kinds = true;
+      compatible = true;
+      fits = true;
+      inside = true;
+      values = true;
+      shape = of.shape;
+      domain = of.domain;
+    } }
+{
+    Plan {
+        kinds: true,
+        compatible: true,
+        fits: true,
+        inside: true,
+        values: true,
+        shape: of.shape,
+        domain: of.domain,
+    }
+}
+
+/// What the table says of an operation's output and its one input.
+fn plan_of_one(c: Signature, computes: &OneInput, a: Signature) -> Plan
+    ensures { result ≡ plan_of_one c computes.now a }
+{
+    let Signature { shape, domain } = a;
     match computes {
         OneInput::Apply(function) => Plan {
-            kinds: true,
-            compatible: function.takes(a.domain),
-            fits: true,
+            compatible: function.takes(domain),
             values: function.has_value(),
-            shape: a.shape,
             domain: function.answer(),
+            ..unasked(a)
         },
         OneInput::Select { op, scalar } => Plan {
-            kinds: true,
-            compatible: op.takes(a.domain),
-            fits: true,
-            values: op.scalar().word_of(scalar).is_some(),
-            shape: a.shape,
-            domain: a.domain,
+            compatible: op.takes(domain),
+            values: op.scalar().word_of(*scalar).is_some(),
+            ..unasked(a)
         },
         OneInput::ReduceRows(monoid) => Plan {
-            kinds: a.shape.is_matrix(),
-            compatible: compatible(a.domain, monoid.domain),
-            fits: true,
-            values: true,
-            shape: Shape::One(a.shape.rows()),
+            kinds: shape.is_matrix(),
+            compatible: compatible(domain, monoid.domain),
+            shape: Shape::One(shape.rows()),
             domain: monoid.domain,
+            ..unasked(a)
+        },
+        OneInput::Transpose => Plan {
+            kinds: shape.is_matrix(),
+            shape: shape.turned(),
+            ..unasked(a)
+        },
+        OneInput::Extract(region) => Plan {
+            kinds: is_region_of(region, shape),
+            inside: lies_inside(shape, region),
+            shape: shape_in(shape, region),
+            ..unasked(a)
+        },
+        OneInput::Assign(region) => Plan {
+            kinds: is_region_of(region, shape) && is_region_of(region, c.shape),
+            fits: shape.is_same(shape_in(c.shape, region)),
+            inside: lies_inside(c.shape, region),
+            values: has_no_repeat(region),
+            shape: c.shape,
+            ..unasked(a)
         },
     }
 }
@@ -66,6 +113,7 @@ fn plan_of_two(computes: TwoInputs, a: Signature, b: Signature) -> Plan
             kinds: are_factors(form, a.shape, b.shape),
             compatible: compatible(a.domain, ring.domain) && compatible(b.domain, ring.domain),
             fits: inner_size(form, a.shape) == b.shape.rows(),
+            inside: true,
             values: true,
             shape: product_shape(form, a.shape, b.shape),
             domain: ring.answer(),
@@ -74,6 +122,7 @@ fn plan_of_two(computes: TwoInputs, a: Signature, b: Signature) -> Plan
             kinds: a.shape.is_like(b.shape),
             compatible: compatible(a.domain, op.domain) && compatible(b.domain, op.domain),
             fits: a.shape.is_same(b.shape),
+            inside: true,
             values: true,
             shape: a.shape,
             domain: op.answer(),
@@ -113,30 +162,20 @@ fn product_shape(form: Form, a: Shape, b: Shape) -> Shape
 }
 
 /// An operation whose inputs are turned as a descriptor's flags say.
-fn turned(desc: Desc, operation: &Operation<Signature>) -> Operation<Signature>
-    ensures { result ≡ turned turned_signature desc operation.now }
+fn turned(desc: Desc, operation: Known<'_>) -> Known<'_>
+    ensures { operation_in result ≡ turned turned_signature desc (operation_in operation.entry) }
 {
-    match *operation {
-        Operation::OfOne { computes, a } => Operation::OfOne {
+    match operation {
+        Known::Fill { value, region } => Known::Fill { value, region },
+        Known::OfOne { computes, a } => Known::OfOne {
             computes,
-            a: turned_if(turns_one(computes, desc), a),
+            a: turned_if(computes.is_turned(desc), a),
         },
-        Operation::OfTwo { computes, a, b } => Operation::OfTwo {
+        Known::OfTwo { computes, a, b } => Known::OfTwo {
             computes,
             a: turned_if(desc.turn_first, a),
             b: turned_if(desc.turn_second, b),
         },
-    }
-}
-
-/// The flag that turns the one input of an operation; where the first operand is a plain value, the
-/// input is the second.
-fn turns_one(computes: OneInput, desc: Desc) -> bool
-    ensures { result ≡ turns_one computes desc }
-{
-    match computes {
-        OneInput::Apply(FunctionName::First { .. }) => desc.turn_second,
-        _ => desc.turn_first,
     }
 }
 

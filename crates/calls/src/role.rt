@@ -44,19 +44,16 @@ pub fn by_role<K: Copy>(out: &Out<K>, operation: &Operation<K>) -> Roles<K>
 {
     let old = out.c;
     let mask = out.mask.unwrap_or(old);
-    match *operation {
-        Operation::OfOne { a, .. } => Roles {
-            old,
-            mask,
-            first: a,
-            second: a,
-        },
-        Operation::OfTwo { a, b, .. } => Roles {
-            old,
-            mask,
-            first: a,
-            second: b,
-        },
+    let (first, second) = match operation {
+        Operation::Fill { .. } => (old, old),
+        Operation::OfOne { a, .. } => (*a, *a),
+        Operation::OfTwo { a, b, .. } => (*a, *b),
+    };
+    Roles {
+        old,
+        mask,
+        first,
+        second,
     }
 }
 

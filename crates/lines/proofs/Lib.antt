@@ -1,3 +1,4 @@
 pub mod Names
+pub mod ReadLaws
 pub mod Silence
 pub mod Splits

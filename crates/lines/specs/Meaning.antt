@@ -1,5 +1,5 @@
 -- What the code reads of a line.
-use Rattle.std.specs.Prelude.{◌≡◌, Result, Ok, Err}
+use Rattle.std.specs.Prelude.{◌≡◌, Option, Some, None, Result, Ok, Err}
 use Rattle.lines.specs.declared.fault.LineFault.{LineFault}
 use Rattle.lines.specs.declared.fault.LineFault.TheVariants.{Syntax, NoMemory}
 use Rattle.lines.specs.declared.line.Line.{Line}
@@ -14,3 +14,15 @@ Reads (Ok Silent) reading = reading ≡ grammar.Silent
 Reads (Ok (Call call)) reading = reading ≡ grammar.Called (renamed (λ name. name.now) (λ name. name.now) call)
 Reads (Err Syntax) reading = reading ≡ grammar.Malformed
 Reads (Err NoMemory) reading = IsAnswered reading
+
+-- what was read is what a word says, seen another way, unless memory was refused
+abbrev pub IsRead : {A B : Type 0} → (A → B) → Option B → Result A LineFault → Type 0
+IsRead view said (Ok x) = said ≡ Some (view x)
+IsRead view said (Err Syntax) = said ≡ None
+IsRead view said (Err NoMemory) = Unit {0}
+
+-- what was read is what a word says; no memory is asked for
+abbrev pub IsSaid : {A : Type 0} → Option A → Result A LineFault → Type 0
+IsSaid said (Ok x) = said ≡ Some x
+IsSaid said (Err Syntax) = said ≡ None
+IsSaid said (Err NoMemory) = ⊥

@@ -1,7 +1,8 @@
 //! Why a line can't be read.
 ghost use Rattle.std.specs.Prelude.{◌≡◌};
 
-use std::alloc::AllocError;
+use model::NoMemory;
+use std::alloc::{AllocError, AllocFailed};
 use thiserror::Error;
 
 /// Why a line can't be read.
@@ -13,6 +14,26 @@ pub enum LineFault {
     /// A growth was refused.
     #[error("out of memory")]
     NoMemory,
+}
+
+impl From<NoMemory> for LineFault {
+    ghost use Rattle.lines.specs.declared.fault.LineFault.TheVariants.{NoMemory};
+
+    ghost from_gives = { λ _ fault. fault ≡ NoMemory };
+
+    fn from(_refused: NoMemory) -> LineFault {
+        LineFault::NoMemory
+    }
+}
+
+impl<T: Drop> From<AllocFailed<T>> for LineFault {
+    ghost use Rattle.lines.specs.declared.fault.LineFault.TheVariants.{NoMemory};
+
+    ghost from_gives = { λ _ fault. fault ≡ NoMemory };
+
+    fn from(_error: AllocFailed<T>) -> LineFault {
+        LineFault::NoMemory
+    }
 }
 
 impl From<AllocError> for LineFault {

@@ -3,7 +3,7 @@ ghost use Rattle.std.specs.Prelude.{◌≡◌, ◌==◌, ◌∷◌, [], ◌<◌,
 ghost use Rattle.std.specs.List.{position, slice_split};
 ghost use Rattle.std.specs.Option.{option_map};
 ghost use Rattle.model.specs.Grammar.{by_position_of, by_value_of, desc_of, dotted_of, flag_added, flags_added};
-ghost use Rattle.model.specs.Grammar.{flags_of, index_name_of, monoid_name_of, op_name_of, ring_name_of, unary_name_of};
+ghost use Rattle.model.specs.Grammar.{index_name_of, monoid_name_of, op_name_of, ring_name_of, unary_name_of};
 
 use crate::words;
 use algebra::{
@@ -20,7 +20,7 @@ fn first_in(byte: u8, word: &[u8]) -> Option<usize>
 }
 
 /// What stands before the first of a byte in a word, and what stands after it.
-fn cut(byte: u8, word: &[u8]) -> Option<(&[u8], &[u8])>
+pub(crate) fn cut(byte: u8, word: &[u8]) -> Option<(&[u8], &[u8])>
     ensures parts { MatchOption result (slice_split (λ b. b == byte) word.now ≡ word.now ∷ [])
         (λ parts. slice_split (λ b. b == byte) word.now ≡ parts.0.now ∷ slice_split (λ b. b == byte) parts.1.now) }
     ensures shorter { IfSome result (λ parts. length parts.1.now < length word.now) }
@@ -172,8 +172,9 @@ fn flags_added(desc: Desc, word: &[u8]) -> Option<Desc>
 }
 
 /// A word of flags.
-fn flags(word: &[u8]) -> Option<Desc>
-    ensures { result ≡ flags_of word.now }
+#[tactic(auto, unfolding(model::specs::Grammar::desc_of))]
+pub fn desc(word: &[u8]) -> Option<Desc>
+    ensures { result ≡ desc_of word.now }
 {
     let none = Desc {
         replace: false,
@@ -186,16 +187,4 @@ fn flags(word: &[u8]) -> Option<Desc>
         return Some(none);
     }
     flags_added(none, word)
-}
-
-/// A word of flags that have come.
-#[tactic(auto, unfolding(model::specs::Grammar::desc_of))]
-pub fn desc(word: &[u8]) -> Option<Desc>
-    ensures { result ≡ desc_of word.now }
-{
-    let desc = flags(word)?;
-    if !desc.has_come() {
-        return None;
-    }
-    Some(desc)
 }

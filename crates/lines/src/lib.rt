@@ -4,6 +4,7 @@
 mod fault;
 mod kinds;
 mod line;
+mod lists;
 mod operations;
 mod parse;
 mod words;

@@ -3,7 +3,7 @@
 use model::Call;
 
 /// What a line of a script is.
-#[derive(Clone, Copy)]
+#[derive(Drop)]
 pub enum Line<'a> {
     /// Blank or a comment: it has no answer.
     Silent,

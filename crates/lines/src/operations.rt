@@ -1,14 +1,17 @@
 //! The calls of operations: C, MASK, ACCUM and DESC are read here for all of them.
-ghost use Rattle.std.specs.Prelude.{◌≡◌, ◌<◌, length, map};
+ghost use Rattle.std.specs.Prelude.{◌≡◌, ◌<◌, ◌≤◌, length, map, OnOk};
 ghost use Rattle.std.specs.Option.{option_map};
-ghost use Rattle.model.specs.Grammar.{apply_first_of, apply_index_of, apply_of, apply_second_of, combine_of};
+ghost use Rattle.lines.specs.Meaning.{IsRead};
+ghost use Rattle.model.specs.Grammar.{apply_first_of, apply_index_of, apply_of, apply_second_of, assign_of};
+ghost use Rattle.model.specs.Grammar.{combine_of, extract_of, fill_of, moving_of, region_of, transpose_of};
 ghost use Rattle.model.specs.Grammar.{is_none_word, multiply_of, name_of, one_input_of, op_name_of, operate_of};
 ghost use Rattle.model.specs.Grammar.{operation_of, out_of_words, perhaps, reduce_rows_of, select_of};
 ghost use Rattle.model.specs.Renamed.{renamed, renamed_operation, renamed_out};
 
-use crate::{kinds, words};
+use crate::{LineFault, kinds, lists, words};
 use algebra::{FunctionName, OpName};
-use model::{Call, Form, OneInput, Operation, Out, Positions, TwoInputs};
+use model::{Call, Form, OneInput, Operation, Out, Positions, Region, TwoInputs};
+use std::alloc::Global;
 
 /// Whether a word stands for no mask, no accumulator or no flags.
 fn is_none(word: &[u8]) -> bool
@@ -27,8 +30,8 @@ fn mask(word: &[u8]) -> Option<Option<&str>>
     Some(Some(words::name(word)?))
 }
 
-/// An accumulator's names, or none.
-fn accum(word: &[u8]) -> Option<Option<OpName>>
+/// An operator's names, or none.
+pub(crate) fn accum(word: &[u8]) -> Option<Option<OpName>>
     ensures { result ≡ perhaps op_name_of word.now }
 {
     if is_none(word) {
@@ -206,37 +209,119 @@ fn one_input<'a>(words: &[&'a [u8]]) -> Option<Operation<&'a str>>
     }
 }
 
+/// `A`
+#[tactic(auto, unfolding(model::specs::Grammar::transpose_of))]
+fn transpose<'a>(words: &[&'a [u8]]) -> Option<Operation<&'a str>>
+    ensures { option_map (renamed_operation (λ name. name.now)) result
+        ≡ transpose_of (map (λ word. word.now) words.now) }
+{
+    if words.len() != 6 {
+        return None;
+    }
+    let a = words::name(words[4])?;
+    let computes = OneInput::Transpose;
+    Some(Operation::OfOne { computes, a })
+}
+
+/// `LIST` or `LIST LIST`, before DESC
+#[tactic(auto, unfolding(model::specs::Grammar::region_of))]
+fn region(alloc: Global, words: &[&[u8]]) -> Result<Region, LineFault>
+    ensures read { IsRead (λ region. region) (region_of (map (λ word. word.now) words.now)) result }
+    ensures enough { OnOk result (7 ≤ length words.now) }
+{
+    if words.len() == 7 {
+        return Ok(Region::One(lists::indices(alloc, words[5])?));
+    }
+    if words.len() != 8 {
+        return Err(LineFault::Syntax);
+    }
+    let rows = lists::indices(alloc, words[5])?;
+    let cols = lists::indices(alloc, words[6])?;
+    Ok(Region::Two(rows, cols))
+}
+
+/// `A LIST` or `A LIST LIST`
+#[tactic(auto, unfolding(model::specs::Grammar::extract_of))]
+fn extract<'a>(alloc: Global, words: &[&'a [u8]]) -> Result<Operation<&'a str>, LineFault>
+    ensures { IsRead (renamed_operation (λ name. name.now)) (extract_of (map (λ word. word.now) words.now)) result }
+{
+    let region = region(alloc, words)?;
+    let a = words::name(words[4]).ok_or(LineFault::Syntax)?;
+    let computes = OneInput::Extract(region);
+    Ok(Operation::OfOne { computes, a })
+}
+
+/// `A LIST` or `A LIST LIST`
+#[tactic(auto, unfolding(model::specs::Grammar::assign_of))]
+fn assign<'a>(alloc: Global, words: &[&'a [u8]]) -> Result<Operation<&'a str>, LineFault>
+    ensures { IsRead (renamed_operation (λ name. name.now)) (assign_of (map (λ word. word.now) words.now)) result }
+{
+    let region = region(alloc, words)?;
+    let a = words::name(words[4]).ok_or(LineFault::Syntax)?;
+    let computes = OneInput::Assign(region);
+    Ok(Operation::OfOne { computes, a })
+}
+
+/// `VALUE LIST` or `VALUE LIST LIST`
+#[tactic(auto, unfolding(model::specs::Grammar::fill_of))]
+fn fill<'a>(alloc: Global, words: &[&'a [u8]]) -> Result<Operation<&'a str>, LineFault>
+    ensures { IsRead (renamed_operation (λ name. name.now)) (fill_of (map (λ word. word.now) words.now)) result }
+{
+    let region = region(alloc, words)?;
+    let value = words::value(words[4]).ok_or(LineFault::Syntax)?;
+    Ok(Operation::Fill { value, region })
+}
+
+/// The words between ACCUM and DESC of an operation that moves entries, or has one input, by the first word.
+#[tactic(auto, unfolding(model::specs::Grammar::moving_of))]
+fn moving<'a>(alloc: Global, words: &[&'a [u8]]) -> Result<Operation<&'a str>, LineFault>
+    requires { 0 < length words.now }
+    ensures { IsRead (renamed_operation (λ name. name.now)) (moving_of (map (λ word. word.now) words.now)) result }
+{
+    let called = words[0];
+    if called == b"transpose".as_slice() {
+        transpose(words).ok_or(LineFault::Syntax)
+    } else if called == b"extract".as_slice() {
+        extract(alloc, words)
+    } else if called == b"assign".as_slice() {
+        assign(alloc, words)
+    } else if called == b"fill".as_slice() {
+        fill(alloc, words)
+    } else {
+        one_input(words).ok_or(LineFault::Syntax)
+    }
+}
+
 /// The words between ACCUM and DESC, by the first word.
 #[tactic(auto, unfolding(model::specs::Grammar::operation_of))]
-fn operation<'a>(words: &[&'a [u8]]) -> Option<Operation<&'a str>>
+fn operation<'a>(alloc: Global, words: &[&'a [u8]]) -> Result<Operation<&'a str>, LineFault>
     requires { 0 < length words.now }
-    ensures { option_map (renamed_operation (λ name. name.now)) result
-        ≡ operation_of (map (λ word. word.now) words.now) }
+    ensures { IsRead (renamed_operation (λ name. name.now)) (operation_of (map (λ word. word.now) words.now)) result }
 {
     let called = words[0];
     if called == b"mxm".as_slice() {
-        multiply(Form::MatrixMatrix, words)
+        multiply(Form::MatrixMatrix, words).ok_or(LineFault::Syntax)
     } else if called == b"mxv".as_slice() {
-        multiply(Form::MatrixVector, words)
+        multiply(Form::MatrixVector, words).ok_or(LineFault::Syntax)
     } else if called == b"vxm".as_slice() {
-        multiply(Form::VectorMatrix, words)
+        multiply(Form::VectorMatrix, words).ok_or(LineFault::Syntax)
     } else if called == b"ewiseadd".as_slice() {
-        combine(Positions::Union, words)
+        combine(Positions::Union, words).ok_or(LineFault::Syntax)
     } else if called == b"ewisemult".as_slice() {
-        combine(Positions::Intersection, words)
+        combine(Positions::Intersection, words).ok_or(LineFault::Syntax)
     } else {
-        one_input(words)
+        moving(alloc, words)
     }
 }
 
 /// An operation's call.
 #[tactic(auto, unfolding(model::specs::Grammar::operate_of))]
-pub fn operate<'a>(words: &[&'a [u8]]) -> Option<Call<&'a str, &'a str>>
+pub fn operate<'a>(alloc: Global, words: &[&'a [u8]]) -> Result<Call<&'a str, &'a str>, LineFault>
     requires { 0 < length words.now }
-    ensures { option_map (renamed (λ name. name.now) (λ name. name.now)) result
-        ≡ operate_of (map (λ word. word.now) words.now) }
+    ensures { IsRead (renamed (λ name. name.now) (λ name. name.now)) (operate_of (map (λ word. word.now) words.now))
+        result }
 {
-    let operation = operation(words)?;
-    let out = out(words)?;
-    Some(Call::Operate { out, operation })
+    let operation = operation(alloc, words)?;
+    let out = out(words).ok_or(LineFault::Syntax)?;
+    Ok(Call::Operate { out, operation })
 }

@@ -2,14 +2,15 @@
 ghost use Rattle.std.specs.Prelude.{◌≡◌, ◌==◌, ◌||◌, ◌+◌, ◌<◌, ◌≤◌, map, length, OnSome, find, not};
 ghost use Rattle.std.specs.List.{list_all};
 ghost use Rattle.std.specs.Option.{option_map, option_map_or};
-ghost use Rattle.lines.specs.Meaning.{Reads};
-ghost use Rattle.model.specs.Grammar.{call_of, clear_of, free_of, get_of, is_blank, is_plain, is_silent};
+ghost use Rattle.lines.specs.Meaning.{IsRead, Reads};
+ghost use Rattle.model.specs.Grammar.{build_of, call_of, clear_of, dup_of, entry_call_of, free_of, get_of};
+ghost use Rattle.model.specs.Grammar.{is_blank, is_plain, is_silent, resize_of};
 ghost use Rattle.model.specs.Grammar.{is_well_formed, matrix_of, nvals_of, only_name_of, place_of, print_of};
 ghost use Rattle.model.specs.Grammar.{reading_of, reduce_of, remove_of, set_of, vector_of, words_of};
 ghost use Rattle.model.specs.Renamed.{renamed};
 
-use crate::operations::operate;
-use crate::{Line, LineFault, kinds, words};
+use crate::operations::{accum, operate};
+use crate::{Line, LineFault, kinds, lists, words};
 use model::{Call, LONGEST_LINE, Place, Shape};
 use std::alloc::Global;
 
@@ -29,10 +30,8 @@ pub fn parse_line(alloc: Global, line: &[u8]) -> Result<Line<'_>, LineFault>
         return Err(LineFault::Syntax);
     }
     let words = words::words_of(alloc, line)?;
-    match call(words.as_slice()) {
-        Some(call) => Ok(Line::Call(call)),
-        None => Err(LineFault::Syntax),
-    }
+    let call = call(alloc, words.as_slice())?;
+    Ok(Line::Call(call))
 }
 
 /// Whether a line has no word, or its first word begins with `#`.
@@ -62,42 +61,72 @@ fn is_well_formed(line: &[u8]) -> bool
 fn are_plain(line: &[u8]) -> bool
     ensures { result ≡ list_all is_plain line.now }
 {
-    line.iter()
-        .all(|byte| *byte == b'\t' || (b' ' <= *byte && *byte <= b'~'))
+    // It goes on behind a byte that isn't, so that it is compiled for many bytes at once.
+    let mut plain = true;
+    for byte in line {
+        plain &= is_plain(*byte);
+    }
+    plain
+}
+
+/// Whether a byte is a tab or printable ASCII.
+fn is_plain(byte: u8) -> bool
+    ensures { result ≡ is_plain byte }
+{
+    byte == b'\t' || (b' ' <= byte && byte <= b'~')
 }
 
 /// What the words of a line call.
 #[tactic(auto, unfolding(model::specs::Grammar::call_of))]
-fn call<'a>(words: &[&'a [u8]]) -> Option<Call<&'a str, &'a str>>
-    ensures { option_map (renamed (λ name. name.now) (λ name. name.now)) result
-        ≡ call_of (map (λ word. word.now) words.now) }
+fn call<'a>(alloc: Global, words: &[&'a [u8]]) -> Result<Call<&'a str, &'a str>, LineFault>
+    ensures { IsRead (renamed (λ name. name.now) (λ name. name.now)) (call_of (map (λ word. word.now) words.now))
+        result }
 {
     if words.is_empty() {
-        return None;
+        return Err(LineFault::Syntax);
     }
     let called = words[0];
     if called == b"matrix".as_slice() {
-        matrix(words)
+        matrix(words).ok_or(LineFault::Syntax)
     } else if called == b"vector".as_slice() {
-        vector(words)
+        vector(words).ok_or(LineFault::Syntax)
+    } else if called == b"dup".as_slice() {
+        dup(words).ok_or(LineFault::Syntax)
     } else if called == b"free".as_slice() {
-        free(words)
+        free(words).ok_or(LineFault::Syntax)
     } else if called == b"clear".as_slice() {
-        clear(words)
-    } else if called == b"set".as_slice() {
-        set(words)
-    } else if called == b"remove".as_slice() {
-        remove(words)
-    } else if called == b"get".as_slice() {
-        get(words)
-    } else if called == b"nvals".as_slice() {
-        nvals(words)
-    } else if called == b"print".as_slice() {
-        print(words)
-    } else if called == b"reduce".as_slice() {
-        reduce(words)
+        clear(words).ok_or(LineFault::Syntax)
+    } else if called == b"resize".as_slice() {
+        resize(words).ok_or(LineFault::Syntax)
     } else {
-        operate(words)
+        entry_call(alloc, words)
+    }
+}
+
+/// A call on entries, or an operation, by the first word.
+#[tactic(auto, unfolding(model::specs::Grammar::entry_call_of))]
+fn entry_call<'a>(alloc: Global, words: &[&'a [u8]]) -> Result<Call<&'a str, &'a str>, LineFault>
+    requires { 0 < length words.now }
+    ensures { IsRead (renamed (λ name. name.now) (λ name. name.now)) (entry_call_of (map (λ word. word.now) words.now))
+        result }
+{
+    let called = words[0];
+    if called == b"build".as_slice() {
+        build(alloc, words)
+    } else if called == b"set".as_slice() {
+        set(words).ok_or(LineFault::Syntax)
+    } else if called == b"remove".as_slice() {
+        remove(words).ok_or(LineFault::Syntax)
+    } else if called == b"get".as_slice() {
+        get(words).ok_or(LineFault::Syntax)
+    } else if called == b"nvals".as_slice() {
+        nvals(words).ok_or(LineFault::Syntax)
+    } else if called == b"print".as_slice() {
+        print(words).ok_or(LineFault::Syntax)
+    } else if called == b"reduce".as_slice() {
+        reduce(words).ok_or(LineFault::Syntax)
+    } else {
+        operate(alloc, words)
     }
 }
 
@@ -137,6 +166,60 @@ fn vector<'a>(words: &[&'a [u8]]) -> Option<Call<&'a str, &'a str>>
         name,
         domain,
         shape: Shape::One(size),
+    })
+}
+
+/// `dup NEW OLD`
+#[tactic(auto, unfolding(model::specs::Grammar::dup_of))]
+fn dup<'a>(words: &[&'a [u8]]) -> Option<Call<&'a str, &'a str>>
+    ensures { option_map (renamed (λ name. name.now) (λ name. name.now)) result
+        ≡ dup_of (map (λ word. word.now) words.now) }
+{
+    if words.len() != 3 {
+        return None;
+    }
+    let name = words::name(words[1])?;
+    let object = words::name(words[2])?;
+    Some(Call::Dup { name, object })
+}
+
+/// `resize NAME NUM` or `resize NAME NUM NUM`
+#[tactic(auto, unfolding(model::specs::Grammar::resize_of))]
+fn resize<'a>(words: &[&'a [u8]]) -> Option<Call<&'a str, &'a str>>
+    ensures { option_map (renamed (λ name. name.now) (λ name. name.now)) result
+        ≡ resize_of (map (λ word. word.now) words.now) }
+{
+    if words.len() == 3 {
+        let object = words::name(words[1])?;
+        let shape = Shape::One(words::number(words[2])?);
+        return Some(Call::Resize { object, shape });
+    }
+    if words.len() != 4 {
+        return None;
+    }
+    let object = words::name(words[1])?;
+    let rows = words::number(words[2])?;
+    let cols = words::number(words[3])?;
+    let shape = Shape::Two(rows, cols);
+    Some(Call::Resize { object, shape })
+}
+
+/// `build NAME DUP TUPLE..`
+#[tactic(auto, unfolding(model::specs::Grammar::build_of))]
+fn build<'a>(alloc: Global, words: &[&'a [u8]]) -> Result<Call<&'a str, &'a str>, LineFault>
+    ensures { IsRead (renamed (λ name. name.now) (λ name. name.now)) (build_of (map (λ word. word.now) words.now))
+        result }
+{
+    if words.len() < 3 {
+        return Err(LineFault::Syntax);
+    }
+    let object = words::name(words[1]).ok_or(LineFault::Syntax)?;
+    let dup = accum(words[2]).ok_or(LineFault::Syntax)?;
+    let tuples = lists::tuples(alloc, &words[3..])?;
+    Ok(Call::Build {
+        object,
+        dup,
+        tuples,
     })
 }
 

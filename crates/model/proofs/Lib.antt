@@ -1,12 +1,17 @@
 pub mod ElementWiseLaws
+pub mod BuildLaws
 pub mod EnvironmentLaws
+pub mod IndexLaws
 pub mod ObjectLaws
 pub mod OperationLaws
 pub mod ProductLaws
+pub mod RegionLaws
+pub mod RegionRules
 pub mod RenamedLaws
 pub mod ResultLaws
 pub mod Rows
 pub mod RunLaws
 pub mod StepLaws
 pub mod StoredLaws
+pub mod TupleLaws
 pub mod WriteBackLaws

@@ -4,7 +4,7 @@ use Rattle.std.specs.List.{All}
 use Rattle.std.specs.Option.{option_and_then, option_map}
 use Rattle.std.proofs.lemmas.Bool.{and_parts}
 use Rattle.std.proofs.lemmas.List.Elements.{All-head}
-use Rattle.algebra.proofs.Casts.{IsWordOf-cast}
+use Rattle.algebra.proofs.Casts.{IsWordOf-cast, IsWordOf-word_of}
 use Rattle.algebra.proofs.Sums.{sum-word}
 use Rattle.algebra.proofs.Words.{IsWordOf-eval, IsWordOf-index_eval, IsWordOf-unary_eval}
 use Rattle.algebra.specs.declared.domain.Domain.{Domain}
@@ -16,25 +16,28 @@ use Rattle.algebra.specs.declared.operator_names.RingName.{RingName}
 use Rattle.algebra.specs.Functions.{function_answer, function_domain, function_of}
 use Rattle.algebra.specs.Monoids.{sum_of}
 use Rattle.algebra.specs.Operators.{answer_domain, combines_by, offers}
-use Rattle.algebra.specs.Value.{IsWordOf, cast_of}
+use Rattle.algebra.specs.Value.{IsWordOf, cast_of, word_of}
 use Rattle.model.specs.declared.call.Form.{Form}
 use Rattle.model.specs.declared.call.Form.TheVariants.{MatrixMatrix, MatrixVector, VectorMatrix}
 use Rattle.model.specs.declared.call.OneInput.{OneInput}
-use Rattle.model.specs.declared.call.OneInput.TheVariants.{Apply, Select, ReduceRows}
+use Rattle.model.specs.declared.call.OneInput.TheVariants.{Apply, Select, ReduceRows, Transpose, Extract, Assign}
 use Rattle.model.specs.declared.call.Operation.{Operation}
-use Rattle.model.specs.declared.call.Operation.TheVariants.{OfOne, OfTwo}
+use Rattle.model.specs.declared.call.Operation.TheVariants.{Fill, OfOne, OfTwo}
 use Rattle.model.specs.declared.call.Positions.{Positions}
 use Rattle.model.specs.declared.call.Positions.TheVariants.{Union, Intersection}
 use Rattle.model.specs.declared.call.TwoInputs.{TwoInputs}
 use Rattle.model.specs.declared.call.TwoInputs.TheVariants.{Combine, Multiply}
+use Rattle.model.specs.declared.shape.Signature.{Signature}
 use Rattle.model.specs.ElementWise.{eval_cast, of_both, of_either}
-use Rattle.model.specs.Object.{AreWordsOf, Content, IsObject, Object, in_domain, signature_of, turned_content}
+use Rattle.model.specs.Object.{AreWordsOf, Content, IsObject, Object, cols_of, in_domain, rows_of, signature_of, turned_content}
 use Rattle.model.specs.Operations.{combined, computed_of_one, computed_of_two, multiplied, operation}
 use Rattle.model.specs.Product.{sum_domain}
 use Rattle.model.specs.Reductions.{row_words}
+use Rattle.model.specs.Regions.{cols_in, rows_in}
 use Rattle.model.specs.Renamed.{inputs_of, renamed_operation}
 use Rattle.model.specs.Table.{inner_size, is_offered, offers_one, plan_of, plan_of_one, plan_of_two}
 use Rattle.model.proofs.ProductLaws.{product-words}
+use Rattle.model.proofs.RegionLaws.{extracted-words, filled-words, placed-words}
 use Rattle.model.proofs.StoredLaws.{row_words-domain}
 
 -- ---- two inputs
@@ -99,17 +102,22 @@ column-word : (first : Bool) (o : Option ℕ) (word : ℕ) → cond first o None
 column-word true o word is = is
 column-word false o word is = absurd (cc)
 
-one-words : (computes : OneInput) (a : Object) → offers_one computes ≡ true → IsObject a → AreWordsOf (plan_of_one computes (signature_of a)).domain (computed_of_one computes a)
-one-words (Apply function) a offered are i j word is =
+one-words : (c : Signature) (computes : OneInput) (a : Object) → offers_one computes ≡ true → IsObject a → AreWordsOf (plan_of_one c computes (signature_of a)).domain (computed_of_one c.shape computes a)
+one-words c (Apply function) a offered are i j word is =
     mapped-word (function_answer function) (function_of function i j) (in_domain (function_domain function) a i j) word (function-word function i j) is
-one-words (Select op scalar) a offered are i j word is = are.words i j word (kept-word _ (a.content i j) word is)
-one-words (ReduceRows monoid) a offered are i j word is =
-    let c = in_domain monoid.domain a in
-    summed-word monoid (row_words _ c i) word offered (row_words-domain monoid.domain _ a i) (column-word (j == 0) _ word is)
+one-words c (Select op scalar) a offered are i j word is = are.words i j word (kept-word _ (a.content i j) word is)
+one-words c (ReduceRows monoid) a offered are i j word is =
+    let values = in_domain monoid.domain a in
+    summed-word monoid (row_words _ values i) word offered (row_words-domain monoid.domain _ a i) (column-word (j == 0) _ word is)
+one-words c Transpose a offered are i j word is = are.words j i word is
+one-words c (Extract region) a offered are i j word is = extracted-words a.domain (rows_of a.shape) (cols_of a.shape) (rows_in region) (cols_in region) a.content are.words i j word is
+one-words c (Assign region) a offered are i j word is = placed-words a.domain (rows_of c.shape) (cols_of c.shape) (rows_in region) (cols_in region) a.content are.words i j word is
 
 -- ---- any operation
 
-pub operation-words : (op : Operation Object) → is_offered op ≡ true → All IsObject (inputs_of op) → AreWordsOf (plan_of (renamed_operation signature_of op)).domain (operation op)
+pub operation-words : (c : Signature) (op : Operation Object) → is_offered op ≡ true → All IsObject (inputs_of op) → AreWordsOf (plan_of c (renamed_operation signature_of op)).domain (operation c op)
 unfolding operation
-operation-words (OfOne computes a) offered are = one-words computes a offered (All-head IsObject a [] are)
-operation-words (OfTwo computes a b) offered are = two-words computes a b offered
+operation-words c (Fill value region) offered are =
+    filled-words c.domain (rows_of c.shape) (cols_of c.shape) (rows_in region) (cols_in region) (word_of c.domain value) (IsWordOf-word_of c.domain value)
+operation-words c (OfOne computes a) offered are = one-words c computes a offered (All-head IsObject a [] are)
+operation-words c (OfTwo computes a b) offered are = two-words computes a b offered

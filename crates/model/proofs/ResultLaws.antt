@@ -12,33 +12,38 @@ use Rattle.algebra.specs.declared.operator_names.MonoidName.{MonoidName}
 use Rattle.algebra.specs.declared.operator_names.OpName.{OpName}
 use Rattle.algebra.specs.declared.operator_names.RingName.{RingName}
 use Rattle.algebra.specs.Operators.{answer_domain, eval_of, offers}
-use Rattle.algebra.specs.Value.{IsWordOf, same_domain}
+use Rattle.algebra.specs.Value.{IsWordOf, same_domain, word_of}
 use Rattle.model.specs.declared.call.Desc.{Desc}
 use Rattle.model.specs.declared.call.Form.{Form}
 use Rattle.model.specs.declared.call.Form.TheVariants.{MatrixMatrix, MatrixVector, VectorMatrix}
 use Rattle.model.specs.declared.call.OneInput.{OneInput}
-use Rattle.model.specs.declared.call.OneInput.TheVariants.{Apply, Select, ReduceRows}
+use Rattle.model.specs.declared.call.OneInput.TheVariants.{Apply, Select, ReduceRows, Transpose, Extract, Assign}
 use Rattle.model.specs.declared.call.Operation.{Operation}
-use Rattle.model.specs.declared.call.Operation.TheVariants.{OfOne, OfTwo}
+use Rattle.model.specs.declared.call.Operation.TheVariants.{Fill, OfOne, OfTwo}
 use Rattle.model.specs.declared.call.Out.{Out}
+use Rattle.model.specs.declared.call.Plan.{Plan}
 use Rattle.model.specs.declared.call.Positions.{Positions}
 use Rattle.model.specs.declared.call.Positions.TheVariants.{Union, Intersection}
 use Rattle.model.specs.declared.call.TwoInputs.TheVariants.{Combine, Multiply}
 use Rattle.model.specs.declared.shape.Shape.{Shape}
 use Rattle.model.specs.declared.shape.Shape.TheVariants.{One, Two}
+use Rattle.model.specs.declared.shape.Signature.{Signature}
 use Rattle.model.specs.Fault.{accumulates, operation_fault, plan_in}
 use Rattle.model.specs.Object.{AreWordsOf, Content, IsObject, IsWithin, Object, cast_content, cols_of, in_domain, is_matrix, rows_of, same_shape}
-use Rattle.model.specs.Object.{signature_of, turned_content, turned_object, turned_signature}
+use Rattle.model.specs.Object.{signature_of, turned_content, turned_object, turned_shape, turned_signature}
 use Rattle.model.specs.Entries.{below}
-use Rattle.model.specs.Operations.{combined, computed_of_one, multiplied, operation}
+use Rattle.model.specs.Operations.{combined, computed_of_one, is_written_by, multiplied, operation}
 use Rattle.model.specs.Product.{product}
 use Rattle.model.specs.Reductions.{row_sums}
+use Rattle.model.specs.Indices.{are_below}
+use Rattle.model.specs.Regions.{cols_in, rows_in}
 use Rattle.model.specs.Renamed.{inputs_of, renamed_operation, renamed_out}
 use Rattle.model.specs.Table.{are_factors, inner_size, plan_of, plan_of_one, product_shape, turned, turned_if, turns_one}
-use Rattle.model.specs.WriteBack.{accumulated, accumulated_by, mask_set, result_of, written}
+use Rattle.model.specs.WriteBack.{accumulated, accumulated_by, landed, mask_set, masked, result_of}
 use Rattle.model.proofs.ObjectLaws.{cast_content-within, cast_content-words, same_domain-true, same_shape-rows, vector-column}
+use Rattle.model.proofs.RegionLaws.{extracted-within, filled-within, placed-within, shape_in-counts}
 use Rattle.model.proofs.ProductLaws.{product-no_col, product-no_row}
-use Rattle.model.proofs.WriteBackLaws.{accepted-accumulator, accepted-kinds, accepted-shapes}
+use Rattle.model.proofs.WriteBackLaws.{accepted-accumulator, accepted-inside, accepted-kinds, accepted-shapes}
 
 -- ---- inside the shape of what is computed
 
@@ -113,21 +118,39 @@ row_sums-within monoid cols m c none i j outside =
       | inr other ↦ rw other refl
     ]
 
-one-within : (computes : OneInput) (a : Object) → KeepsInside a
-    → let shape = (plan_of_one computes (signature_of a)).shape in IsWithin (rows_of shape) (cols_of shape) (computed_of_one computes a)
-one-within (Apply function) a inside i j outside = rw (inside i j outside) refl
-one-within (Select op scalar) a inside i j outside = rw (inside i j outside) refl
-one-within (ReduceRows monoid) a inside i j outside = row_sums-within monoid (cols_of a.shape) (rows_of a.shape) (in_domain monoid.domain a) (no_row monoid.domain a inside) i j outside
+-- what an operation asks of indices and of its output
+abbrev IsFit : Plan → Type 0
+IsFit plan = (plan.kinds ≡ true) × (plan.fits ≡ true) × (plan.inside ≡ true)
 
-pub operation-within : (op : Operation Object) → (let plan = plan_of (renamed_operation signature_of op) in plan.kinds ≡ true)
-    → (let plan = plan_of (renamed_operation signature_of op) in plan.fits ≡ true) → All KeepsInside (inputs_of op)
-    → let shape = (plan_of (renamed_operation signature_of op)).shape in IsWithin (rows_of shape) (cols_of shape) (operation op)
+turned-within_shape : (shape : Shape) (c : Content) → is_matrix shape ≡ true → IsWithin (rows_of shape) (cols_of shape) c
+    → IsWithin (rows_of (turned_shape shape)) (cols_of (turned_shape shape)) (turned_content c)
+turned-within_shape (Two m n) c is inside = λ i j outside. inside j i (and_turned (nat_lt i n) (nat_lt j m) outside)
+turned-within_shape (One n) c is inside = absurd (cc)
+
+one-within : (c : Signature) (computes : OneInput) (a : Object) → IsFit (plan_of_one c computes (signature_of a)) → KeepsInside a
+    → let shape = (plan_of_one c computes (signature_of a)).shape in IsWithin (rows_of shape) (cols_of shape) (computed_of_one c.shape computes a)
+one-within c (Apply function) a fit inside i j outside = rw (inside i j outside) refl
+one-within c (Select op scalar) a fit inside i j outside = rw (inside i j outside) refl
+one-within c Transpose a fit inside i j outside = turned-within_shape a.shape a.content fit.0 inside i j outside
+one-within c (Extract region) a fit inside i j outside =
+    let counts = shape_in-counts a.shape region fit.0 in
+    extracted-within (rows_of a.shape) (cols_of a.shape) (rows_in region) (cols_in region) a.content i j (rw (counts.0, counts.1) outside)
+one-within c (Assign region) a fit inside i j outside =
+    let parts = and_parts (are_below (rows_of c.shape) (rows_in region)) (are_below (cols_of c.shape) (cols_in region)) fit.2 in
+    placed-within (rows_of c.shape) (cols_of c.shape) (rows_in region) (cols_in region) a.content parts.0 parts.1 i j outside
+one-within c (ReduceRows monoid) a fit inside i j outside = row_sums-within monoid (cols_of a.shape) (rows_of a.shape) (in_domain monoid.domain a) (no_row monoid.domain a inside) i j outside
+
+pub operation-within : (c : Signature) (op : Operation Object) → IsFit (plan_of c (renamed_operation signature_of op)) → All KeepsInside (inputs_of op)
+    → let shape = (plan_of c (renamed_operation signature_of op)).shape in IsWithin (rows_of shape) (cols_of shape) (operation c op)
 unfolding operation
-operation-within (OfOne computes a) kinds fits inside = one-within computes a (All-head KeepsInside a [] inside)
-operation-within (OfTwo (Multiply form ring) a b) kinds fits inside =
-    multiplied-within form ring a b kinds (All-head KeepsInside a (b ∷ []) inside) (All-head KeepsInside b [] (All-tail KeepsInside a (b ∷ []) inside))
-operation-within (OfTwo (Combine positions op) a b) kinds fits inside =
-    combined-within positions op a b fits (All-head KeepsInside a (b ∷ []) inside) (All-head KeepsInside b [] (All-tail KeepsInside a (b ∷ []) inside))
+operation-within c (Fill value region) fit inside =
+    let parts = and_parts (are_below (rows_of c.shape) (rows_in region)) (are_below (cols_of c.shape) (cols_in region)) fit.2 in
+    filled-within (rows_of c.shape) (cols_of c.shape) (rows_in region) (cols_in region) (word_of c.domain value) parts.0 parts.1
+operation-within c (OfOne computes a) fit inside = one-within c computes a fit (All-head KeepsInside a [] inside)
+operation-within c (OfTwo (Multiply form ring) a b) fit inside =
+    multiplied-within form ring a b fit.0 (All-head KeepsInside a (b ∷ []) inside) (All-head KeepsInside b [] (All-tail KeepsInside a (b ∷ []) inside))
+operation-within c (OfTwo (Combine positions op) a b) fit inside =
+    combined-within positions op a b fit.1 (All-head KeepsInside a (b ∷ []) inside) (All-head KeepsInside b [] (All-tail KeepsInside a (b ∷ []) inside))
 
 -- ---- transposed inputs
 
@@ -141,6 +164,7 @@ turned_if-within true o inside = turned_as-within o.domain o.shape o.content ins
 turned_if-within false o inside = inside
 
 turned-within : (desc : Desc) (op : Operation Object) → All KeepsInside (inputs_of op) → All KeepsInside (inputs_of (turned turned_object desc op))
+turned-within desc (Fill value region) inside = All-nil KeepsInside
 turned-within desc (OfOne computes a) inside =
     All-cons KeepsInside (turned_if turned_object (turns_one computes desc) a) []
     (turned_if-within (turns_one computes desc) a (All-head KeepsInside a [] inside)) (All-nil KeepsInside)
@@ -156,7 +180,8 @@ turned_if-signature : (flag : Bool) (o : Object) → signature_of (turned_if tur
 turned_if-signature true o = refl
 turned_if-signature false o = refl
 
-turned-signature : (desc : Desc) (op : Operation Object) → renamed_operation signature_of (turned turned_object desc op) ≡ turned turned_signature desc (renamed_operation signature_of op)
+pub turned-signature : (desc : Desc) (op : Operation Object) → renamed_operation signature_of (turned turned_object desc op) ≡ turned turned_signature desc (renamed_operation signature_of op)
+turned-signature desc (Fill value region) = refl
 turned-signature desc (OfOne computes a) = rw (turned_if-signature (turns_one computes desc) a) refl
 turned-signature desc (OfTwo computes a b) = rw (turned_if-signature desc.turn_first a, turned_if-signature desc.turn_second b) refl
 
@@ -171,10 +196,19 @@ chosen-none true replace x y first second = first
 chosen-none false true x y first second = refl
 chosen-none false false x y first second = second
 
-written-within : (out : Out Object) (values : Content) (rows cols : ℕ) → IsWithin rows cols out.c.content → IsWithin rows cols values → IsWithin rows cols (written out values)
-written-within out values rows cols old new i j outside =
-    chosen-none (mask_set out i j) out.desc.replace (accumulated_by out.accum (out.c.content i j) (values i j)) (out.c.content i j)
+either-none : (test : Bool) (x y : Option ℕ) → x ≡ None → y ≡ None → cond test x y ≡ None
+either-none true x y first second = first
+either-none false x y first second = second
+
+landed-within : (out : Out Object) (is_written : ℕ → ℕ → Bool) (values : Content) (rows cols : ℕ) → IsWithin rows cols out.c.content → IsWithin rows cols values
+    → IsWithin rows cols (landed out is_written values)
+landed-within out is_written values rows cols old new i j outside =
+    either-none (is_written i j) (accumulated_by out.accum (out.c.content i j) (values i j)) (out.c.content i j)
     (rw (old i j outside, new i j outside) (accumulated-none out.accum)) (old i j outside)
+
+masked-within : (out : Out Object) (z : Content) (rows cols : ℕ) → IsWithin rows cols out.c.content → IsWithin rows cols z → IsWithin rows cols (masked out z)
+masked-within out z rows cols old new i j outside =
+    chosen-none (mask_set out i j) out.desc.replace (z i j) (out.c.content i j) (new i j outside) (old i j outside)
 
 -- the accumulator, where there is one, gives words of the output's domain
 abbrev AccumulatesIn : Domain → Option OpName → Type 0
@@ -200,10 +234,20 @@ chosen-word domain true replace x y word first second is = first is
 chosen-word domain false true x y word first second is = absurd (cc)
 chosen-word domain false false x y word first second is = second is
 
-written-words : (out : Out Object) (values : Content) (domain : Domain) → AccumulatesIn domain out.accum → AreWordsOf domain out.c.content → AreWordsOf domain values → AreWordsOf domain (written out values)
-written-words out values domain gives old new i j word is =
-    chosen-word domain (mask_set out i j) out.desc.replace (accumulated_by out.accum (out.c.content i j) (values i j)) (out.c.content i j) word
+either-word : (domain : Domain) (test : Bool) (x y : Option ℕ) (word : ℕ) → (x ≡ Some word → IsWordOf domain word) → (y ≡ Some word → IsWordOf domain word)
+    → cond test x y ≡ Some word → IsWordOf domain word
+either-word domain true x y word first second is = first is
+either-word domain false x y word first second is = second is
+
+landed-words : (out : Out Object) (is_written : ℕ → ℕ → Bool) (values : Content) (domain : Domain) → AccumulatesIn domain out.accum → AreWordsOf domain out.c.content → AreWordsOf domain values
+    → AreWordsOf domain (landed out is_written values)
+landed-words out is_written values domain gives old new i j word is =
+    either-word domain (is_written i j) (accumulated_by out.accum (out.c.content i j) (values i j)) (out.c.content i j) word
     (accumulated_by-word domain out.accum (out.c.content i j) (values i j) word gives (old i j) (new i j)) (old i j word) is
+
+masked-words : (out : Out Object) (z : Content) (domain : Domain) → AreWordsOf domain out.c.content → AreWordsOf domain z → AreWordsOf domain (masked out z)
+masked-words out z domain old new i j word is =
+    chosen-word domain (mask_set out i j) out.desc.replace (z i j) (out.c.content i j) word (new i j word) (old i j word) is
 
 -- ---- accepted operations
 
@@ -219,19 +263,23 @@ pub result-within : (out : Out Object) (op : Operation Object)
     → KeepsInside out.c → All KeepsInside (inputs_of op) → IsWithin (rows_of out.c.shape) (cols_of out.c.shape) (result_of out op)
 unfolding result_of
 result-within out op accepted old inputs =
+    let c = signature_of out.c in
+    let sig_out = renamed_out signature_of out in
     let sig = renamed_operation signature_of op in
-    let plan = plan_in out.desc sig in
+    let plan = plan_in c out.desc sig in
     let moved = turned turned_object out.desc op in
-    let shapes = same_shape-rows plan.shape out.c.shape (accepted-shapes (renamed_out signature_of out) sig accepted).0 in
-    let kinds : (plan_of (renamed_operation signature_of moved)).kinds ≡ true =
-    rw (turned-signature out.desc op) (accepted-kinds (renamed_out signature_of out) sig accepted) in
-    let fits : (plan_of (renamed_operation signature_of moved)).fits ≡ true =
-    rw (turned-signature out.desc op) (accepted-shapes (renamed_out signature_of out) sig accepted).1 in
-    let inside = operation-within moved kinds fits (turned-within out.desc op inputs) in
-    let inside' : IsWithin (rows_of out.c.shape) (cols_of out.c.shape) (operation moved) =
-    rw (← shapes.0, ← shapes.1) (rw (turned-signature out.desc op) at inside) in
-    written-within out (cast_content plan.domain out.c.domain (operation moved)) (rows_of out.c.shape) (cols_of out.c.shape) old
-    (cast_content-within plan.domain out.c.domain (rows_of out.c.shape) (cols_of out.c.shape) (operation moved) inside')
+    let shapes = accepted-shapes sig_out sig accepted in
+    let same = same_shape-rows plan.shape out.c.shape shapes.0 in
+    let fit : IsFit (plan_of c (renamed_operation signature_of moved)) =
+    rw (turned-signature out.desc op) (accepted-kinds sig_out sig accepted, shapes.1, accepted-inside sig_out sig accepted) in
+    let inside = operation-within c moved fit (turned-within out.desc op inputs) in
+    let inside' : IsWithin (rows_of out.c.shape) (cols_of out.c.shape) (operation c moved) =
+    rw (← same.0, ← same.1) (rw (turned-signature out.desc op) at inside) in
+    let values = cast_content plan.domain out.c.domain (operation c moved) in
+    let is_written = is_written_by out.c.shape op in
+    masked-within out (landed out is_written values) (rows_of out.c.shape) (cols_of out.c.shape) old
+    (landed-within out is_written values (rows_of out.c.shape) (cols_of out.c.shape) old
+    (cast_content-within plan.domain out.c.domain (rows_of out.c.shape) (cols_of out.c.shape) (operation c moved) inside'))
 
 -- ..and its words are values of the output's domain
 result-words : (out : Out Object) (op : Operation Object)
@@ -239,13 +287,16 @@ result-words : (out : Out Object) (op : Operation Object)
     → AreWordsOf out.c.domain out.c.content → AreWordsOf out.c.domain (result_of out op)
 unfolding result_of
 result-words out op accepted old =
+    let c = signature_of out.c in
     let sig_out = renamed_out signature_of out in
     let sig = renamed_operation signature_of op in
-    let plan = plan_in out.desc sig in
+    let plan = plan_in c out.desc sig in
     let moved = turned turned_object out.desc op in
     let accumulates_in = accumulator_gives out.c.domain out.accum (accepted-accumulator sig_out sig accepted) in
-    written-words out (cast_content plan.domain out.c.domain (operation moved)) out.c.domain accumulates_in old
-    (cast_content-words plan.domain out.c.domain (operation moved))
+    let values = cast_content plan.domain out.c.domain (operation c moved) in
+    let is_written = is_written_by out.c.shape op in
+    masked-words out (landed out is_written values) out.c.domain old
+    (landed-words out is_written values out.c.domain accumulates_in old (cast_content-words plan.domain out.c.domain (operation c moved)))
 
 all_inside : (os : List Object) → All IsObject os → All KeepsInside os
 all_inside [] are = All-nil KeepsInside

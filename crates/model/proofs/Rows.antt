@@ -4,7 +4,7 @@ use Rattle.std.specs.Fmt.{digits}
 use Rattle.algebra.specs.Names.{binary_from_name, domain_from_name, index_from_name, monoid_from_name, unary_from_name}
 use Rattle.model.specs.Entries.{count_from, entries_of}
 use Rattle.model.specs.Fault.{early_fault}
-use Rattle.model.specs.Grammar.{lines_of, name_of, number_of, value_of_word, domain_of, dotted_of, op_name_of, unary_name_of, monoid_name_of, by_position_of, by_value_of, index_name_of, ring_name_of, matrix_of, vector_of, only_name_of, place_of, set_of, remove_of, get_of, reduce_of, flag_added, desc_of, out_of_words, multiply_of, combine_of, apply_of, apply_first_of, apply_second_of, apply_index_of, select_of, reduce_rows_of, one_input_of, operation_of, operate_of, call_of, reading_of, readings_of}
+use Rattle.model.specs.Grammar.{lines_of, name_of, number_of, value_of_word, domain_of, dotted_of, op_name_of, unary_name_of, monoid_name_of, by_position_of, by_value_of, index_name_of, ring_name_of, matrix_of, vector_of, only_name_of, place_of, set_of, remove_of, get_of, reduce_of, flag_added, desc_of, out_of_words, multiply_of, combine_of, apply_of, apply_first_of, apply_second_of, apply_index_of, select_of, reduce_rows_of, one_input_of, dup_of, resize_of, build_of, indices_of, tuple_of, tuples_of, transpose_of, region_of, extract_of, assign_of, fill_of, moving_of, operation_of, operate_of, entry_call_of, call_of, reading_of, readings_of}
 use Rattle.model.specs.Operations.{operation}
 use Rattle.model.specs.Product.{product}
 use Rattle.model.specs.Run.{effect, data_lines_of, step, turn, answers_from, out_of_readings, out_of}
@@ -94,14 +94,57 @@ replace = record {
   written = codes "1 OK\n2 OK\n3 OK\n4 OK\n5 OK\n6 OK\n7 OK\n8 OK\n%%MatrixMarket matrix coordinate integer general\n2 1 1\n2 1 2\n9 OK\n10 OK\n0\n";
 }
 
+assign_deletes : Row
+assign_deletes = record {
+  script = codes "matrix C INT64 3 1\nmatrix A INT64 2 1\nset C 0 0 7\nset C 1 0 8\nset C 2 0 9\nset A 0 0 5\nassign C - - A 1,2 : -\nprint C\nassign C - - A 1,1 : -\nnvals C\n";
+  written = codes "1 OK\n2 OK\n3 OK\n4 OK\n5 OK\n6 OK\n7 OK\n8 OK\n%%MatrixMarket matrix coordinate integer general\n3 1 2\n1 1 7\n2 1 5\n9 INVALID_VALUE\n10 OK\n2\n";
+}
+
+extract_with_a_repeat : Row
+extract_with_a_repeat = record {
+  script = codes "matrix A INT64 5 1\nmatrix C INT64 3 1\nset A 0 0 4\nset A 1 0 6\nextract C - - A 1,1,0 : -\nprint C\nextract C - - A 1,5,0 : -\n";
+  written = codes "1 OK\n2 OK\n3 OK\n4 OK\n5 OK\n6 OK\n%%MatrixMarket matrix coordinate integer general\n3 1 3\n1 1 6\n2 1 6\n3 1 4\n7 INDEX_OUT_OF_BOUNDS\n";
+}
+
+user_domain_as_mask : Row
+user_domain_as_mask = record {
+  script = codes "vector M USER:3 2\nvector U INT64 2\nvector W INT64 2\nset M 1 5\nset U 0 1\nset U 1 2\napply W M - IDENTITY.INT64 U -\napply W M - IDENTITY.INT64 U S\nprint W\n";
+  written = codes "1 OK\n2 OK\n3 OK\n4 OK\n5 OK\n6 OK\n7 DOMAIN_MISMATCH\n8 OK\n9 OK\n%%MatrixMarket matrix coordinate integer general\n2 1 1\n2 1 2\n";
+}
+
+resized_down_and_up : Row
+resized_down_and_up = record {
+  script = codes "matrix A INT64 4 4\nset A 0 0 1\nset A 3 3 2\nresize A 2 2\nresize A 4 4\nprint A\nresize A 0 4\nnvals A\n";
+  written = codes "1 OK\n2 OK\n3 OK\n4 OK\n5 OK\n6 OK\n%%MatrixMarket matrix coordinate integer general\n4 4 1\n1 1 1\n7 INVALID_VALUE\n8 OK\n1\n";
+}
+
+built_in_list_order : Row
+built_in_list_order = record {
+  script = codes "matrix A INT64 2 2\nbuild A PLUS.INT64 0,0,1 0,0,2 1,1,5\nprint A\nbuild A - 0,0,1\nclear A\nbuild A - 0,0,1 0,0,2\nbuild A MINUS.INT64 0,0,9 0,0,1 0,0,2\nget A 0 0\n";
+  written = codes "1 OK\n2 OK\n3 OK\n%%MatrixMarket matrix coordinate integer general\n2 2 2\n1 1 3\n2 2 5\n4 OUTPUT_NOT_EMPTY\n5 OK\n6 INVALID_VALUE\n7 OK\n8 OK\n6\n";
+}
+
+index_operators_on_vectors : Row
+index_operators_on_vectors = record {
+  script = codes "matrix A INT64 2 2\nvector U INT64 2\nvector W INT64 2\nset A 0 1 3\nset U 1 4\nmxv W - - PLUS.TIMES.INT64 A U -\nget W 0\napplyindex W - - ROWINDEX U 5 -\nget W 1\napplyfirst W - - MINUS.INT64 11 U -\nget W 1\ndup V W\nfree W\nnvals W\nprint V\n";
+  written = codes "1 OK\n2 OK\n3 OK\n4 OK\n5 OK\n6 OK\n7 OK\n12\n8 OK\n9 OK\n6\n10 OK\n11 OK\n7\n12 OK\n13 OK\n14 UNINITIALIZED_OBJECT\n15 OK\n%%MatrixMarket matrix coordinate integer general\n2 1 1\n2 1 7\n";
+}
+
+transposed_inputs : Row
+transposed_inputs = record {
+  script = codes "matrix A INT64 2 3\nmatrix C INT64 3 2\nvector U INT64 2\nvector W INT64 3\nset A 0 1 2\nset A 1 2 5\ntranspose C - - A -\nprint C\nset U 0 3\nset U 1 4\nmxv W - - PLUS.MINUS.INT64 A U T0\nprint W\nfill W - PLUS.INT64 10 2,2,0 -\nprint W\n";
+  written = codes "1 OK\n2 OK\n3 OK\n4 OK\n5 OK\n6 OK\n7 OK\n8 OK\n%%MatrixMarket matrix coordinate integer general\n3 2 2\n2 1 2\n3 2 5\n9 OK\n10 OK\n11 OK\n12 OK\n%%MatrixMarket matrix coordinate integer general\n3 1 2\n2 1 -1\n3 1 1\n13 OK\n14 OK\n%%MatrixMarket matrix coordinate integer general\n3 1 3\n1 1 10\n2 1 -1\n3 1 11\n";
+}
+
 empty_script : Row
 empty_script = record { script = codes ""; written = codes "" }
 
 abbrev worked : List Row
 worked = zero_sum_is_an_entry ∷ empty_product ∷ wrap_before_minimum ∷ refusals_and_greatest_indices ∷ valued_and_structural_mask
     ∷ one_object_in_all_places ∷ products_with_vectors
-    ∷ search_by_levels ∷ complement_of_no_mask ∷ reader_keeps_the_old_value ∷ empty_reductions ∷ order_of_checks ∷ replace ∷ empty_script ∷ []
+    ∷ search_by_levels ∷ complement_of_no_mask ∷ reader_keeps_the_old_value ∷ empty_reductions ∷ order_of_checks ∷ replace
+    ∷ assign_deletes ∷ extract_with_a_repeat ∷ user_domain_as_mask ∷ resized_down_and_up ∷ built_in_list_order ∷ index_operators_on_vectors ∷ transposed_inputs ∷ empty_script ∷ []
 
 each_writes_its_row : map (λ (row : Row). out_of row.script) worked ≡ map (λ (row : Row). row.written) worked
-unfolding zero_sum_is_an_entry empty_product wrap_before_minimum refusals_and_greatest_indices valued_and_structural_mask one_object_in_all_places products_with_vectors search_by_levels complement_of_no_mask reader_keeps_the_old_value empty_reductions order_of_checks replace empty_script digits binary_from_name index_from_name unary_from_name domain_from_name monoid_from_name count_from entries_of early_fault lines_of name_of number_of value_of_word domain_of dotted_of op_name_of unary_name_of monoid_name_of by_position_of by_value_of index_name_of ring_name_of matrix_of vector_of only_name_of place_of set_of remove_of get_of reduce_of flag_added desc_of out_of_words multiply_of combine_of apply_of apply_first_of apply_second_of apply_index_of select_of reduce_rows_of one_input_of operation_of operate_of call_of reading_of readings_of operation product effect data_lines_of step turn answers_from out_of_readings out_of answer_text canonical_lines result_of
+unfolding zero_sum_is_an_entry empty_product wrap_before_minimum refusals_and_greatest_indices valued_and_structural_mask one_object_in_all_places products_with_vectors search_by_levels complement_of_no_mask reader_keeps_the_old_value empty_reductions order_of_checks replace assign_deletes extract_with_a_repeat user_domain_as_mask resized_down_and_up built_in_list_order index_operators_on_vectors transposed_inputs empty_script digits binary_from_name index_from_name unary_from_name domain_from_name monoid_from_name count_from entries_of early_fault lines_of name_of number_of value_of_word domain_of dotted_of op_name_of unary_name_of monoid_name_of by_position_of by_value_of index_name_of ring_name_of matrix_of vector_of only_name_of place_of set_of remove_of get_of reduce_of flag_added desc_of out_of_words multiply_of combine_of apply_of apply_first_of apply_second_of apply_index_of select_of reduce_rows_of one_input_of dup_of resize_of build_of indices_of tuple_of tuples_of transpose_of region_of extract_of assign_of fill_of moving_of operation_of operate_of entry_call_of call_of reading_of readings_of operation product effect data_lines_of step turn answers_from out_of_readings out_of answer_text canonical_lines result_of
 each_writes_its_row = refl

@@ -1,28 +1,33 @@
 -- Every step keeps all objects well formed: their words are of their domains, at positions inside their shapes.
-use Rattle.std.proofs.Common.{◌≡◌, ◌∙◌, ℕ, ◌+◌, Bool, true, false, cond, not, [], ◌∷◌, ◌++◌, Option, Some, None, is_some, refl, sym, ap}
+use Rattle.std.proofs.Common.{◌≡◌, ◌∙◌, ◌&&◌, ◌||◌, ℕ, ◌+◌, List, Bool, true, false, cond, not, [], ◌∷◌, ◌++◌, Option, Some, None, is_some, refl, sym, ap}
 use Rattle.std.specs.Prelude.{ℤ}
 use Rattle.std.specs.List.{All, list_all}
 use Rattle.std.specs.Option.{option_map, option_map_or}
 use Rattle.std.specs.Str.{bytes_eq}
 use Rattle.std.proofs.lemmas.List.Elements.{All-cons, All-nil}
+use Rattle.algebra.specs.declared.operator_names.OpName.{OpName}
 use Rattle.algebra.specs.Value.{is_value_of}
 use Rattle.model.specs.declared.call.Call.{Call}
-use Rattle.model.specs.declared.call.Call.TheVariants.{Create, Free, Clear, Set, Remove, Get, Nvals, Print, Reduce, Operate}
+use Rattle.model.specs.declared.call.Call.TheVariants.{Create, Dup, Free, Clear, Resize, Build, Set, Remove, Get, Nvals, Print, Reduce, Operate}
 use Rattle.model.specs.declared.call.Operation.{Operation}
-use Rattle.model.specs.declared.call.Operation.TheVariants.{OfOne, OfTwo}
+use Rattle.model.specs.declared.call.Operation.TheVariants.{Fill, OfOne, OfTwo}
 use Rattle.model.specs.declared.call.Out.{Out}
 use Rattle.model.specs.declared.shape.Place.{Place}
 use Rattle.model.specs.declared.shape.Signature.{Signature}
 use Rattle.model.specs.declared.status.Status.{Status}
 use Rattle.model.specs.declared.status.Status.TheVariants as status
-use Rattle.model.specs.Fault.{early_fault, fault_of, found_object, found_signature, no_object, operation_fault}
+use Rattle.model.specs.declared.tuples.Tuple.{Tuple}
+use Rattle.model.specs.Builds.{are_inside, are_of_kind, are_single, are_values_of}
+use Rattle.model.specs.Fault.{accumulates, early_fault, fault_of, found_object, found_signature, late_fault, no_object, operation_fault}
 use Rattle.model.specs.Grammar.{Name}
-use Rattle.model.specs.Object.{IsObject, Object, empty_object, is_inside, is_of_kind, signature_of}
+use Rattle.model.specs.Object.{IsObject, Object, cols_of, empty_object, is_inside, is_of_kind, rows_of, signature_of}
 use Rattle.model.specs.Renamed.{inputs_of, outputs_of, renamed_operation, renamed_out}
-use Rattle.model.specs.Run.{Environment, data_lines_of, effect, no_objects, object_at, on_objects, seen, step, with_object, without_object}
+use Rattle.model.specs.Run.{Environment, data_lines_of, effect, no_objects, object_at, on_objects, resized, seen, step, with_object, without_object}
 use Rattle.model.specs.Text.{Answer}
 use Rattle.model.specs.WriteBack.{left_by, result_of}
+use Rattle.model.proofs.BuildLaws.{built-is_object}
 use Rattle.model.proofs.ObjectLaws.{empty-is_object, removed-is_object, set-is_object}
+use Rattle.model.proofs.RegionLaws.{cut_to-within, cut_to-words}
 use Rattle.model.proofs.ResultLaws.{result-is_object}
 
 -- every object has words of its domain, at positions inside its shape
@@ -49,6 +54,7 @@ object_at-is_object env are name = found-is_object (env.find_object name) (are n
 -- the inputs of an operation on what names stand for are objects
 inputs-are_objects : {K : Type 0} (env : Environment K) (op : Operation K) → AreObjects env
     → All IsObject (inputs_of (renamed_operation (object_at env) op))
+inputs-are_objects env (Fill value region) are = All-nil IsObject
 inputs-are_objects env (OfOne computes a) are =
     All-cons IsObject (object_at env a) [] (object_at-is_object env are a) (All-nil IsObject)
 inputs-are_objects env (OfTwo computes a b) are =
@@ -106,6 +112,26 @@ accepted-inside count None place value h = absurd (cc)
 accepted-inside count (Some o) place value h =
     set_passed (is_of_kind place o.shape) (is_inside place o.shape) (is_value_of o.domain value) h
 
+-- ..of a call that builds
+build_passed : (kind joins inside valid : Bool)
+    → cond (not kind) (Some status.WrongKind)
+    (cond (not joins) (Some status.NotImplemented) (cond (not inside) (Some status.IndexOutOfBounds) (cond (not valid) (Some status.InvalidValue) None))) ≡ None
+    → (joins ≡ true) × (inside ≡ true)
+build_passed true true true valid h = (refl, refl)
+build_passed true true false valid h = absurd (cc)
+build_passed true false inside valid h = absurd (cc)
+build_passed false joins inside valid h = absurd (cc)
+
+-- an accepted call that builds has an operator of the object's domain, and tuples inside its shape
+accepted-build : (count : ℕ) (found : Option Object) (dup : Option OpName) (tuples : List Tuple)
+    → early_fault count (Build (option_map signature_of found) dup tuples) ≡ None
+    → let o = found_object found in (option_map_or (accumulates o.domain) dup true ≡ true) × (are_inside o.shape tuples ≡ true)
+unfolding early_fault
+accepted-build count None dup tuples h = absurd (cc)
+accepted-build count (Some o) dup tuples h =
+    build_passed (are_of_kind o.shape tuples) (option_map_or (accumulates o.domain) dup true) (are_inside o.shape tuples)
+    (are_values_of o.domain tuples && (is_some dup || are_single tuples)) h
+
 -- where no test fails, none of the later ones does
 later_passed : (fails : Bool) (s : Status) (later : Option Status) → cond fails (Some s) later ≡ None → later ≡ None
 later_passed true s later h = absurd (cc)
@@ -149,6 +175,7 @@ operation_found : {K : Type 0} (find_object : K → Option Object) (op : Operati
     → renamed_operation found_signature
     (renamed_operation (option_map signature_of) (renamed_operation find_object op))
     ≡ renamed_operation signature_of (renamed_operation (λ name. found_object (find_object name)) op)
+operation_found find_object (Fill value region) = refl
 operation_found find_object (OfOne computes a) = λ i. OfOne computes (signature_found (find_object a) i)
 operation_found find_object (OfTwo computes a b) =
     λ i. OfTwo computes (signature_found (find_object a) i) (signature_found (find_object b) i)
@@ -194,6 +221,23 @@ effect-are_objects {K = K} same env (Remove name place) are accepted =
     let new : Object = record o { content = left_by {N = K} (Remove o place) } in
     with_object-are_objects same env name new env.count are
     (removed-is_object o place (object_at-is_object env are name))
+effect-are_objects same env (Dup name object) are accepted =
+    with_object-are_objects same env name (object_at env object) (env.count + 1) are (object_at-is_object env are object)
+effect-are_objects same env (Resize name shape) are accepted =
+    let o = object_at env name in
+    let old = object_at-is_object env are name in
+    let new : IsObject (resized o shape) = record {
+      within = cut_to-within (rows_of shape) (cols_of shape) o.content;
+      words = cut_to-words o.domain (rows_of shape) (cols_of shape) o.content old.words;
+    } in
+    with_object-are_objects same env name (resized o shape) env.count are new
+effect-are_objects {K = K} same env (Build name dup tuples) are accepted =
+    let o = object_at env name in
+    let found = env.find_object name in
+    let early = no_early (early_fault env.count (Build (option_map signature_of found) dup tuples)) (late_fault {N = K} (Build o dup tuples)) accepted in
+    let passed = accepted-build env.count found dup tuples early in
+    let new : Object = record o { content = left_by {N = K} (Build o dup tuples) } in
+    with_object-are_objects same env name new env.count are (built-is_object o dup tuples passed.0 passed.1)
 effect-are_objects same env (Get name place) are accepted = are
 effect-are_objects same env (Nvals name) are accepted = are
 effect-are_objects same env (Print name) are accepted = are

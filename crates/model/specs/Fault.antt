@@ -1,7 +1,7 @@
 -- Which error a call answers (the return values of each method of the GraphBLAS C API; the order among
 -- several is this project's).
-use Rattle.std.specs.Prelude.{ℕ, ◌&&◌, ◌||◌, not, Bool, true, false, is_none, is_some, nat_le, List, [], ◌∷◌, Option}
-use Rattle.std.specs.Prelude.{Some, None, if◌then◌else◌}
+use Rattle.std.specs.Prelude.{ℕ, ◌==◌, ◌&&◌, ◌||◌, not, Bool, true, false, is_none, is_some, nat_le, List, [], ◌∷◌}
+use Rattle.std.specs.Prelude.{length, Option, Some, None, if◌then◌else◌}
 use Rattle.std.specs.List.{find, list_all}
 use Rattle.std.specs.Option.{option_map, option_map_or}
 use Rattle.algebra.specs.declared.domain.Domain.{Domain}
@@ -10,22 +10,23 @@ use Rattle.algebra.specs.declared.operator_names.OpName.{OpName}
 use Rattle.algebra.specs.Operators.{answer_domain, combines_by, offers}
 use Rattle.algebra.specs.Value.{are_compatible, is_built_in, is_value_of, same_domain}
 use Rattle.model.specs.declared.call.Call.{Call}
-use Rattle.model.specs.declared.call.Call.TheVariants.{Create, Set, Remove, Get, Reduce, Operate}
+use Rattle.model.specs.declared.call.Call.TheVariants.{Create, Dup, Resize, Build, Set, Remove, Get, Reduce, Operate}
 use Rattle.model.specs.declared.call.Desc.{Desc}
 use Rattle.model.specs.declared.call.Operation.{Operation}
 use Rattle.model.specs.declared.call.Out.{Out}
 use Rattle.model.specs.declared.call.Plan.{Plan}
-use Rattle.model.specs.declared.limits.TheConstants.{GREATEST_DIMENSION, MOST_OBJECTS}
+use Rattle.model.specs.declared.limits.TheConstants.{GREATEST_DIMENSION, MOST_FILLED, MOST_OBJECTS}
 use Rattle.model.specs.declared.shape.Shape.{Shape}
 use Rattle.model.specs.declared.shape.Shape.TheVariants.{One}
 use Rattle.model.specs.declared.shape.Signature.{Signature}
 use Rattle.model.specs.declared.status.Status.{Status}
 use Rattle.model.specs.declared.status.Status.TheVariants as status
-use Rattle.model.specs.Come.{desc_has_come}
+use Rattle.model.specs.Builds.{are_inside, are_of_kind, are_single, are_values_of}
+use Rattle.model.specs.Entries.{entries_of}
 use Rattle.model.specs.Object.{Object, col_of, cols_of, empty_object, is_inside, is_of_kind, row_of, rows_of, same_kind}
 use Rattle.model.specs.Object.{same_shape, signature_of, turned_signature}
 use Rattle.model.specs.Renamed.{objects_of, renamed}
-use Rattle.model.specs.Table.{is_offered, plan_of, turned}
+use Rattle.model.specs.Table.{filled_by, is_offered, plan_of, turned}
 
 -- the order of the checks; that a line is no call is found before them
 abbrev pub order : List Status
@@ -68,23 +69,24 @@ plan_fails out plan status.DomainMismatch =
     not (mask_passes (serves_as_mask out.desc) out && plan.compatible && are_compatible plan.domain out.c.domain)
 plan_fails out plan status.DimensionMismatch =
     not (mask_passes (λ m. same_shape m.shape out.c.shape) out && same_shape plan.shape out.c.shape && plan.fits)
+plan_fails out plan status.IndexOutOfBounds = not plan.inside
 plan_fails out plan status.InvalidValue = not plan.values
 plan_fails out plan _ = false
 
--- whether all operators are there, and the flags have come
+-- whether all operators are there, and no more positions are filled than may be
 abbrev pub is_implemented : Out Signature → Operation Signature → Bool
 is_implemented out operation =
-    is_offered operation && desc_has_come out.desc
+    is_offered operation && nat_le (filled_by out.c.shape operation) MOST_FILLED
     && option_map_or (accumulates out.c.domain) out.accum true
 
--- what an operation says of its inputs, which are turned first
-abbrev pub plan_in : Desc → Operation Signature → Plan
-plan_in desc operation = plan_of (turned turned_signature desc operation)
+-- what an operation says of its output and its inputs, which are turned first
+abbrev pub plan_in : Signature → Desc → Operation Signature → Plan
+plan_in c desc operation = plan_of c (turned turned_signature desc operation)
 
 -- which tests an operation fails
 abbrev pub operation_fails : Out Signature → Operation Signature → Status → Bool
 operation_fails out operation status.NotImplemented = not (is_implemented out operation)
-operation_fails out operation s = plan_fails out (plan_in out.desc operation) s
+operation_fails out operation s = plan_fails out (plan_in out.c out.desc operation) s
 
 -- the fault of an operation whose objects are there
 unfoldable pub operation_fault : Out Signature → Operation Signature → Option Status
@@ -98,6 +100,15 @@ abbrev pub test_fails : ℕ → Call Signature Bool → Status → Bool
 test_fails count (Create taken domain shape) status.NameTaken = taken
 test_fails count (Create taken domain shape) status.NotImplemented = nat_le MOST_OBJECTS count
 test_fails count (Create taken domain shape) status.InvalidValue = not (are_dimensions shape)
+test_fails count (Dup taken o) status.NameTaken = taken
+test_fails count (Dup taken o) status.NotImplemented = nat_le MOST_OBJECTS count
+test_fails count (Resize o shape) status.WrongKind = not (same_kind shape o.shape)
+test_fails count (Resize o shape) status.InvalidValue = not (are_dimensions shape)
+test_fails count (Build o dup tuples) status.WrongKind = not (are_of_kind o.shape tuples)
+test_fails count (Build o dup tuples) status.NotImplemented = not (option_map_or (accumulates o.domain) dup true)
+test_fails count (Build o dup tuples) status.IndexOutOfBounds = not (are_inside o.shape tuples)
+test_fails count (Build o dup tuples) status.InvalidValue =
+    not (are_values_of o.domain tuples && (is_some dup || are_single tuples))
 test_fails count (Set o place value) status.WrongKind = not (is_of_kind place o.shape)
 test_fails count (Set o place value) status.InvalidIndex = not (is_inside place o.shape)
 test_fails count (Set o place value) status.InvalidValue = not (is_value_of o.domain value)
@@ -133,9 +144,13 @@ call_fails count call s = test_fails count (renamed found_signature (λ taken. t
 unfoldable pub early_fault : ℕ → Call (Option Signature) Bool → Option Status
 early_fault count call = first_of (call_fails count call)
 
+abbrev pub has_entries : Object → Bool
+has_entries o = not (length (entries_of (rows_of o.shape) (cols_of o.shape) o.content) == 0)
+
 -- the fault that depends on values
 abbrev pub late_fault : {N : Type 0} → Call Object N → Option Status
 late_fault (Get o place) = if is_none (o.content (row_of place) (col_of place)) then Some status.NoValue else None
+late_fault (Build o dup tuples) = if has_entries o then Some status.OutputNotEmpty else None
 late_fault _ = None
 
 -- the fault of a call, if it has one

@@ -17,23 +17,27 @@ use Rattle.algebra.specs.declared.operator_names.UnaryName.{UnaryName}
 use Rattle.algebra.specs.IndexOperators.{is_by_position}
 use Rattle.algebra.specs.Names.{binary_from_name, domain_from_name, index_from_name, monoid_from_name, unary_from_name}
 use Rattle.model.specs.declared.call.Call.{Call}
-use Rattle.model.specs.declared.call.Call.TheVariants.{Create, Free, Clear, Set, Remove, Get, Nvals, Print}
-use Rattle.model.specs.declared.call.Call.TheVariants.{Reduce, Operate}
+use Rattle.model.specs.declared.call.Call.TheVariants.{Create, Dup, Free, Clear, Resize, Build, Set, Remove, Get}
+use Rattle.model.specs.declared.call.Call.TheVariants.{Nvals, Print, Reduce, Operate}
 use Rattle.model.specs.declared.call.Desc.{Desc}
 use Rattle.model.specs.declared.call.Form.{Form}
 use Rattle.model.specs.declared.call.Form.TheVariants.{MatrixMatrix, MatrixVector, VectorMatrix}
-use Rattle.model.specs.declared.call.OneInput.TheVariants.{Apply, Select, ReduceRows}
+use Rattle.model.specs.declared.call.OneInput.TheVariants.{Apply, Select, ReduceRows, Transpose, Extract, Assign}
 use Rattle.model.specs.declared.call.Operation.{Operation}
-use Rattle.model.specs.declared.call.Operation.TheVariants.{OfOne, OfTwo}
+use Rattle.model.specs.declared.call.Operation.TheVariants.{Fill, OfOne, OfTwo}
 use Rattle.model.specs.declared.call.Out.{Out}
 use Rattle.model.specs.declared.call.Positions.{Positions}
 use Rattle.model.specs.declared.call.Positions.TheVariants.{Union, Intersection}
+use Rattle.model.specs.declared.call.Region.{Region}
+use Rattle.model.specs.declared.call.Region.TheVariants as region
 use Rattle.model.specs.declared.call.TwoInputs.TheVariants.{Combine, Multiply}
 use Rattle.model.specs.declared.limits.TheConstants.{LONGEST_LINE, LONGEST_NAME}
 use Rattle.model.specs.declared.shape.Place.{Place}
 use Rattle.model.specs.declared.shape.Place.TheVariants.{One, Two}
 use Rattle.model.specs.declared.shape.Shape.TheVariants as shape
-use Rattle.model.specs.Come.{desc_has_come, domain_has_come}
+use Rattle.model.specs.declared.tuples.Tuple.{Tuple}
+use Rattle.model.specs.Indices.{All, Indices, These}
+use Rattle.model.specs.Object.{same_length}
 
 -- an object's name, as bytes
 abbrev pub Name : Type 0
@@ -110,7 +114,7 @@ abbrev pub where_it : {A : Type 0} → (A → Bool) → Option A → Option A
 where_it passes found = found >>= λ x. if passes x then Some x else None
 
 unfoldable pub domain_of : List ℕ → Option Domain
-domain_of word = where_it domain_has_come (domain_from_name word)
+domain_of word = domain_from_name word
 
 -- ---- operators, monoids and semirings
 
@@ -173,6 +177,42 @@ one_of word = number_of word >>= λ i. Some (One i)
 abbrev pub two_of : List ℕ → List ℕ → Option Place
 two_of row col = number_of row >>= λ i. number_of col >>= λ j. Some (Two i j)
 
+-- ---- lists
+
+-- what commas part
+abbrev pub items_of : List ℕ → List (List ℕ)
+items_of word = slice_split (λ b. b == 44) word
+
+-- what each of some words says, where each says something
+abbrev pub all_read : {A : Type 0} → (List ℕ → Option A) → List (List ℕ) → Option (List A)
+all_read read [] = Some []
+all_read read (word ∷ words) = read word >>= λ x. all_read read words >>= λ xs. Some (x ∷ xs)
+
+-- `:`, or numbers with commas between them
+unfoldable pub indices_of : List ℕ → Option Indices
+indices_of word =
+    if bytes_eq word (codes ":") then Some All else (all_read number_of (items_of word) >>= λ items. Some (These items))
+
+-- one index or two, and a value, with commas between them
+unfoldable pub tuple_of : List ℕ → Option Tuple
+tuple_of word =
+    let items = items_of word in
+    if length items == 2
+    then (one_of (nth_word items 0) >>= λ place. value_of_word (nth_word items 1) >>= λ value.
+    Some (record { place = place; value = value }))
+    else if length items == 3
+    then (two_of (nth_word items 0) (nth_word items 1) >>= λ place. value_of_word (nth_word items 2) >>= λ value.
+    Some (record { place = place; value = value }))
+    else None
+
+-- all have as many indices as the first one
+abbrev pub are_alike : List Tuple → Bool
+are_alike [] = true
+are_alike (t ∷ ts) = list_all (λ u. same_length t.place u.place) ts
+
+unfoldable pub tuples_of : List (List ℕ) → Option (List Tuple)
+tuples_of words = where_it are_alike (all_read tuple_of words)
+
 -- ---- calls, each by its first word
 
 -- matrix NAME DOMAIN NUM NUM
@@ -190,6 +230,24 @@ vector_of words =
     if length words == 4
     then (name_of (nth_word words 1) >>= λ name. domain_of (nth_word words 2) >>= λ domain.
     number_of (nth_word words 3) >>= λ size. Some (Create name domain (shape.One size)))
+    else None
+
+-- dup NEW OLD
+unfoldable pub dup_of : List (List ℕ) → Option (Call Name Name)
+dup_of words =
+    if length words == 3
+    then (name_of (nth_word words 1) >>= λ name. name_of (nth_word words 2) >>= λ object. Some (Dup name object))
+    else None
+
+-- resize NAME NUM, or NAME NUM NUM
+unfoldable pub resize_of : List (List ℕ) → Option (Call Name Name)
+resize_of words =
+    if length words == 3
+    then (name_of (nth_word words 1) >>= λ name. number_of (nth_word words 2) >>= λ size.
+    Some (Resize name (shape.One size)))
+    else if length words == 4
+    then (name_of (nth_word words 1) >>= λ name. number_of (nth_word words 2) >>= λ rows.
+    number_of (nth_word words 3) >>= λ cols. Some (Resize name (shape.Two rows cols)))
     else None
 
 -- the name that follows the first word, where nothing else does
@@ -240,8 +298,6 @@ reduce_of words =
     Some (Reduce name monoid))
     else None
 
--- ---- operations: C MASK ACCUM .. DESC
-
 -- `-`: no mask, no accumulator, no flags
 abbrev pub is_none_word : List ℕ → Bool
 is_none_word word = bytes_eq word (codes "-")
@@ -249,6 +305,14 @@ is_none_word word = bytes_eq word (codes "-")
 -- `-`, or what a word says
 abbrev pub perhaps : {A : Type 0} → (List ℕ → Option A) → List ℕ → Option (Option A)
 perhaps read word = if is_none_word word then Some None else (read word >>= λ x. Some (Some x))
+
+-- build NAME DUP TUPLE..
+unfoldable pub build_of : List (List ℕ) → Option (Call Name Name)
+build_of words = if not (nat_le 3 (length words)) then None else
+    (name_of (nth_word words 1) >>= λ name. perhaps op_name_of (nth_word words 2) >>= λ dup.
+    tuples_of (drop 3 words) >>= λ tuples. Some (Build name dup tuples))
+
+-- ---- operations: C MASK ACCUM .. DESC
 
 abbrev pub no_flags : Desc
 no_flags = record { replace = false; structure = false; complement = false; turn_first = false; turn_second = false }
@@ -269,11 +333,8 @@ flags_added desc [] = Some desc
 flags_added desc (word ∷ words) = flag_added desc word >>= λ more. flags_added more words
 
 -- `-`, or flags with commas between them, each at most once
-abbrev pub flags_of : List ℕ → Option Desc
-flags_of word = if is_none_word word then Some no_flags else flags_added no_flags (slice_split (λ b. b == 44) word)
-
 unfoldable pub desc_of : List ℕ → Option Desc
-desc_of word = where_it desc_has_come (flags_of word)
+desc_of word = if is_none_word word then Some no_flags else flags_added no_flags (items_of word)
 
 -- C, MASK, ACCUM and the last word, DESC
 unfoldable pub out_of_words : List (List ℕ) → Option (Out Name)
@@ -347,6 +408,32 @@ reduce_rows_of words =
     Some (OfOne (ReduceRows monoid) a))
     else None
 
+-- A
+unfoldable pub transpose_of : List (List ℕ) → Option (Operation Name)
+transpose_of words =
+    if length words == 6 then (name_of (nth_word words 4) >>= λ a. Some (OfOne Transpose a)) else None
+
+-- LIST, or LIST LIST, before DESC
+unfoldable pub region_of : List (List ℕ) → Option Region
+region_of words =
+    if length words == 7 then (indices_of (nth_word words 5) >>= λ indices. Some (region.One indices))
+    else if length words == 8
+    then (indices_of (nth_word words 5) >>= λ rows. indices_of (nth_word words 6) >>= λ cols.
+    Some (region.Two rows cols))
+    else None
+
+-- A LIST, or A LIST LIST
+unfoldable pub extract_of : List (List ℕ) → Option (Operation Name)
+extract_of words = region_of words >>= λ region. name_of (nth_word words 4) >>= λ a. Some (OfOne (Extract region) a)
+
+-- A LIST, or A LIST LIST
+unfoldable pub assign_of : List (List ℕ) → Option (Operation Name)
+assign_of words = region_of words >>= λ region. name_of (nth_word words 4) >>= λ a. Some (OfOne (Assign region) a)
+
+-- VALUE LIST, or VALUE LIST LIST
+unfoldable pub fill_of : List (List ℕ) → Option (Operation Name)
+fill_of words = region_of words >>= λ region. value_of_word (nth_word words 4) >>= λ value. Some (Fill value region)
+
 -- whether the first word is a name
 abbrev pub is_called : List (List ℕ) → List ℕ → Bool
 is_called words name = bytes_eq (nth_word words 0) name
@@ -362,6 +449,15 @@ one_input_of words =
     else if is_called words (codes "reducerows") then reduce_rows_of words
     else None
 
+-- ..of one that moves entries
+unfoldable pub moving_of : List (List ℕ) → Option (Operation Name)
+moving_of words =
+    if is_called words (codes "transpose") then transpose_of words
+    else if is_called words (codes "extract") then extract_of words
+    else if is_called words (codes "assign") then assign_of words
+    else if is_called words (codes "fill") then fill_of words
+    else one_input_of words
+
 -- ..and of any operation
 unfoldable pub operation_of : List (List ℕ) → Option (Operation Name)
 operation_of words =
@@ -370,19 +466,16 @@ operation_of words =
     else if is_called words (codes "vxm") then multiply_of VectorMatrix words
     else if is_called words (codes "ewiseadd") then combine_of Union words
     else if is_called words (codes "ewisemult") then combine_of Intersection words
-    else one_input_of words
+    else moving_of words
 
 unfoldable pub operate_of : List (List ℕ) → Option (Call Name Name)
 operate_of words = operation_of words >>= λ operation. out_of_words words >>= λ out.
     Some (Operate out operation)
 
--- what the words of a line call
-unfoldable pub call_of : List (List ℕ) → Option (Call Name Name)
-call_of words =
-    if is_called words (codes "matrix") then matrix_of words
-    else if is_called words (codes "vector") then vector_of words
-    else if is_called words (codes "free") then free_of words
-    else if is_called words (codes "clear") then clear_of words
+-- what the words of a line call, by the first word: of a call on entries, or an operation
+unfoldable pub entry_call_of : List (List ℕ) → Option (Call Name Name)
+entry_call_of words =
+    if is_called words (codes "build") then build_of words
     else if is_called words (codes "set") then set_of words
     else if is_called words (codes "remove") then remove_of words
     else if is_called words (codes "get") then get_of words
@@ -390,6 +483,17 @@ call_of words =
     else if is_called words (codes "print") then print_of words
     else if is_called words (codes "reduce") then reduce_of words
     else operate_of words
+
+-- ..and of any call
+unfoldable pub call_of : List (List ℕ) → Option (Call Name Name)
+call_of words =
+    if is_called words (codes "matrix") then matrix_of words
+    else if is_called words (codes "vector") then vector_of words
+    else if is_called words (codes "dup") then dup_of words
+    else if is_called words (codes "free") then free_of words
+    else if is_called words (codes "clear") then clear_of words
+    else if is_called words (codes "resize") then resize_of words
+    else entry_call_of words
 
 -- ---- one line
 

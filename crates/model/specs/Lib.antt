@@ -1,12 +1,14 @@
-pub mod Come
+pub mod Builds
 pub mod ElementWise
 pub mod Entries
 pub mod Fault
 pub mod Grammar
+pub mod Indices
 pub mod Object
 pub mod Operations
 pub mod Product
 pub mod Reductions
+pub mod Regions
 pub mod Renamed
 pub mod Run
 pub mod Runs

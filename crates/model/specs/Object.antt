@@ -48,6 +48,12 @@ is_of_kind (place.One i) (One n) = true
 is_of_kind (place.Two i j) (Two m n) = true
 is_of_kind _ _ = false
 
+-- whether two places have as many indices
+abbrev pub same_length : Place → Place → Bool
+same_length (place.One i) (place.One k) = true
+same_length (place.Two i j) (place.Two k l) = true
+same_length _ _ = false
+
 -- whether each index is below its dimension
 abbrev pub is_inside : Place → Shape → Bool
 is_inside (place.One i) (One n) = nat_lt i n

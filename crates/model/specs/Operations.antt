@@ -1,22 +1,26 @@
 -- What each operation computes of its inputs, before it is accumulated and written back.
-use Rattle.std.specs.Prelude.{ℕ}
+use Rattle.std.specs.Prelude.{ℕ, Bool, true}
 use Rattle.algebra.specs.declared.operator_names.OpName.{OpName}
 use Rattle.algebra.specs.declared.operator_names.RingName.{RingName}
 use Rattle.algebra.specs.Functions.{function_domain}
+use Rattle.algebra.specs.Value.{word_of}
 use Rattle.model.specs.declared.call.Form.{Form}
 use Rattle.model.specs.declared.call.Form.TheVariants.{MatrixMatrix, MatrixVector, VectorMatrix}
 use Rattle.model.specs.declared.call.OneInput.{OneInput}
-use Rattle.model.specs.declared.call.OneInput.TheVariants.{Apply, Select, ReduceRows}
+use Rattle.model.specs.declared.call.OneInput.TheVariants.{Apply, Select, ReduceRows, Transpose, Extract, Assign}
 use Rattle.model.specs.declared.call.Operation.{Operation}
-use Rattle.model.specs.declared.call.Operation.TheVariants.{OfOne, OfTwo}
+use Rattle.model.specs.declared.call.Operation.TheVariants.{Fill, OfOne, OfTwo}
 use Rattle.model.specs.declared.call.Positions.{Positions}
 use Rattle.model.specs.declared.call.Positions.TheVariants.{Union, Intersection}
 use Rattle.model.specs.declared.call.TwoInputs.{TwoInputs}
 use Rattle.model.specs.declared.call.TwoInputs.TheVariants.{Combine, Multiply}
+use Rattle.model.specs.declared.shape.Shape.{Shape}
+use Rattle.model.specs.declared.shape.Signature.{Signature}
 use Rattle.model.specs.ElementWise.{applied, intersection, selected, union}
-use Rattle.model.specs.Object.{Content, Object, cols_of, in_domain, turned_content}
+use Rattle.model.specs.Object.{Content, Object, cols_of, in_domain, rows_of, turned_content}
 use Rattle.model.specs.Product.{product}
 use Rattle.model.specs.Reductions.{row_sums}
+use Rattle.model.specs.Regions.{cols_in, extracted, filled, is_listed, placed, rows_in}
 use Rattle.model.specs.Table.{inner_size}
 
 -- The product of two factors of a form, over at most n terms. A vector is a column; as the first factor it is a
@@ -30,17 +34,33 @@ abbrev pub combined : Positions → OpName → Object → Object → Content
 combined Union op a b = union op a b
 combined Intersection op a b = intersection op a b
 
-abbrev pub computed_of_one : OneInput → Object → Content
-computed_of_one (Apply function) a = applied function (in_domain (function_domain function) a)
-computed_of_one (Select op scalar) a = selected op scalar a
-computed_of_one (ReduceRows monoid) a = row_sums monoid (cols_of a.shape) (in_domain monoid.domain a)
+-- of an output of a shape, at whose positions an assignment puts its input
+abbrev pub computed_of_one : Shape → OneInput → Object → Content
+computed_of_one shape (Apply function) a = applied function (in_domain (function_domain function) a)
+computed_of_one shape (Select op scalar) a = selected op scalar a
+computed_of_one shape (ReduceRows monoid) a = row_sums monoid (cols_of a.shape) (in_domain monoid.domain a)
+computed_of_one shape Transpose a = turned_content a.content
+computed_of_one shape (Extract region) a =
+    extracted (rows_of a.shape) (cols_of a.shape) (rows_in region) (cols_in region) a.content
+computed_of_one shape (Assign region) a =
+    placed (rows_of shape) (cols_of shape) (rows_in region) (cols_in region) a.content
 
 abbrev pub computed_of_two : TwoInputs → Object → Object → Content
 computed_of_two (Multiply form ring) a b =
     multiplied form ring (inner_size form a.shape) (in_domain ring.domain a) (in_domain ring.domain b)
 computed_of_two (Combine positions op) a b = combined positions op a b
 
--- in the domain that the table gives
-unfoldable pub operation : Operation Object → Content
-operation (OfOne computes a) = computed_of_one computes a
-operation (OfTwo computes a b) = computed_of_two computes a b
+-- in the domain that the table gives, of an output of a domain and a shape
+unfoldable pub operation : Signature → Operation Object → Content
+operation c (Fill value region) =
+    filled (rows_of c.shape) (cols_of c.shape) (rows_in region) (cols_in region) (word_of c.domain value)
+operation c (OfOne computes a) = computed_of_one c.shape computes a
+operation c (OfTwo computes a b) = computed_of_two computes a b
+
+-- the positions of an output of a shape that an operation writes: all, but for an assignment those of its region
+abbrev pub is_written_by : {K : Type 0} → Shape → Operation K → ℕ → ℕ → Bool
+is_written_by shape (Fill value region) i j =
+    is_listed (rows_of shape) (cols_of shape) (rows_in region) (cols_in region) i j
+is_written_by shape (OfOne (Assign region) a) i j =
+    is_listed (rows_of shape) (cols_of shape) (rows_in region) (cols_in region) i j
+is_written_by shape _ i j = true

@@ -5,13 +5,15 @@ use Rattle.std.specs.List.{flat_map}
 use Rattle.std.specs.Option.{option_map_or}
 use Rattle.std.specs.Str.{bytes_eq}
 use Rattle.model.specs.declared.call.Call.{Call}
-use Rattle.model.specs.declared.call.Call.TheVariants.{Create, Free, Get, Nvals, Print, Reduce}
+use Rattle.model.specs.declared.call.Call.TheVariants.{Create, Dup, Free, Resize, Get, Nvals, Print, Reduce}
+use Rattle.model.specs.declared.shape.Shape.{Shape}
 use Rattle.model.specs.declared.status.Status.TheVariants as status
 use Rattle.model.specs.Entries.{entries_of}
 use Rattle.model.specs.Fault.{fault_of, found_object}
 use Rattle.model.specs.Grammar.{Name, Reading, Silent, Malformed, Called, readings_of}
 use Rattle.model.specs.Object.{Content, Object, col_of, cols_of, empty_object, row_of, rows_of}
 use Rattle.model.specs.Reductions.{sum_in}
+use Rattle.model.specs.Regions.{cut_to}
 use Rattle.model.specs.Renamed.{output_of, renamed}
 use Rattle.model.specs.Text.{Answer, answer_text, canonical_lines, value_text}
 use Rattle.model.specs.WriteBack.{left_by}
@@ -55,10 +57,16 @@ without_object same env name = record {
 abbrev pub with_content : {K : Type 0} → (K → K → Bool) → Environment K → K → Content → Environment K
 with_content same env name c = with_object same env name (record (object_at env name) { content = c }) env.count
 
--- what an accepted call leaves: one more object, one less, or another map in its output; `same` tells whether
--- two names are the same
+-- an object in another shape, with the entries that fit it
+abbrev pub resized : Object → Shape → Object
+resized o shape = record o { shape = shape; content = cut_to (rows_of shape) (cols_of shape) o.content }
+
+-- what an accepted call leaves: one more object, one less, one of another shape, or another map in its output;
+-- `same` tells whether two names are the same
 unfoldable pub effect : {K : Type 0} → (K → K → Bool) → Environment K → Call K K → Environment K
 effect same env (Create name domain shape) = with_object same env name (empty_object domain shape) (env.count + 1)
+effect same env (Dup name object) = with_object same env name (object_at env object) (env.count + 1)
+effect same env (Resize name shape) = with_object same env name (resized (object_at env name) shape) env.count
 effect same env (Free name) = without_object same env name
 effect same env call = option_map_or (λ name. with_content same env name (left_by (on_objects env call)))
     (output_of call) env

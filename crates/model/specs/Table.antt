@@ -1,25 +1,28 @@
--- The table of operations: the kinds of their inputs, what must be compatible and what must fit, and the
--- shape and the domain of what each computes.
-use Rattle.std.specs.Prelude.{ℕ, ◌==◌, ◌&&◌, not, Bool, true, if◌then◌else◌}
+-- The table of operations: the kinds of their inputs, what must be compatible, what must fit and lie inside, and
+-- the shape and the domain of what each computes.
+use Rattle.std.specs.Prelude.{ℕ, ℤ, ◌*◌, ◌==◌, ◌&&◌, not, Bool, true, if◌then◌else◌}
 use Rattle.algebra.specs.declared.functions.FunctionName.TheVariants.{First}
 use Rattle.algebra.specs.Functions.{function_answer, has_value, offers_function, takes}
 use Rattle.algebra.specs.IndexOperators.{offers_index, scalar_domain, takes_index}
 use Rattle.algebra.specs.Operators.{answer_domain, combines_by, offers, offers_semiring}
-use Rattle.algebra.specs.Value.{are_compatible, is_value_of}
+use Rattle.algebra.specs.Value.{are_compatible, is_built_in, is_value_of}
 use Rattle.model.specs.declared.call.Desc.{Desc}
 use Rattle.model.specs.declared.call.Form.{Form}
 use Rattle.model.specs.declared.call.Form.TheVariants.{MatrixMatrix, MatrixVector, VectorMatrix}
 use Rattle.model.specs.declared.call.OneInput.{OneInput}
-use Rattle.model.specs.declared.call.OneInput.TheVariants.{Apply, Select, ReduceRows}
+use Rattle.model.specs.declared.call.OneInput.TheVariants.{Apply, Select, ReduceRows, Transpose, Extract, Assign}
 use Rattle.model.specs.declared.call.Operation.{Operation}
-use Rattle.model.specs.declared.call.Operation.TheVariants.{OfOne, OfTwo}
+use Rattle.model.specs.declared.call.Operation.TheVariants.{Fill, OfOne, OfTwo}
 use Rattle.model.specs.declared.call.Plan.{Plan}
+use Rattle.model.specs.declared.call.Region.{Region}
 use Rattle.model.specs.declared.call.TwoInputs.{TwoInputs}
 use Rattle.model.specs.declared.call.TwoInputs.TheVariants.{Combine, Multiply}
 use Rattle.model.specs.declared.shape.Shape.{Shape}
 use Rattle.model.specs.declared.shape.Shape.TheVariants.{One, Two}
 use Rattle.model.specs.declared.shape.Signature.{Signature}
-use Rattle.model.specs.Object.{cols_of, is_matrix, rows_of, same_kind, same_shape}
+use Rattle.model.specs.Indices.{count_of}
+use Rattle.model.specs.Object.{cols_of, is_matrix, rows_of, same_kind, same_shape, turned_shape}
+use Rattle.model.specs.Regions.{cols_in, has_no_repeat, is_region_of, lies_inside, rows_in, shape_in}
 
 -- whether factors are of the kinds that a product's form says
 abbrev pub are_factors : Form → Shape → Shape → Bool
@@ -38,31 +41,61 @@ product_shape MatrixMatrix a b = Two (rows_of a) (cols_of b)
 product_shape MatrixVector a b = One (rows_of a)
 product_shape VectorMatrix a b = One (cols_of b)
 
--- what an operation says of its one input
-abbrev pub plan_of_one : OneInput → Signature → Plan
-plan_of_one (Apply function) a = record {
+-- what an operation says of its output and its one input
+abbrev pub plan_of_one : Signature → OneInput → Signature → Plan
+plan_of_one c (Apply function) a = record {
   kinds = true;
   compatible = takes function a.domain;
   fits = true;
+  inside = true;
   values = has_value function;
   shape = a.shape;
   domain = function_answer function;
 }
-plan_of_one (Select op scalar) a = record {
+plan_of_one c (Select op scalar) a = record {
   kinds = true;
   compatible = takes_index op.kind op.domain a.domain;
   fits = true;
+  inside = true;
   values = is_value_of (scalar_domain op.kind op.domain) scalar;
   shape = a.shape;
   domain = a.domain;
 }
-plan_of_one (ReduceRows monoid) a = record {
+plan_of_one c (ReduceRows monoid) a = record {
   kinds = is_matrix a.shape;
   compatible = are_compatible a.domain monoid.domain;
   fits = true;
+  inside = true;
   values = true;
   shape = One (rows_of a.shape);
   domain = monoid.domain;
+}
+plan_of_one c Transpose a = record {
+  kinds = is_matrix a.shape;
+  compatible = true;
+  fits = true;
+  inside = true;
+  values = true;
+  shape = turned_shape a.shape;
+  domain = a.domain;
+}
+plan_of_one c (Extract region) a = record {
+  kinds = is_region_of region a.shape;
+  compatible = true;
+  fits = true;
+  inside = lies_inside a.shape region;
+  values = true;
+  shape = shape_in a.shape region;
+  domain = a.domain;
+}
+plan_of_one c (Assign region) a = record {
+  kinds = is_region_of region a.shape && is_region_of region c.shape;
+  compatible = true;
+  fits = same_shape a.shape (shape_in c.shape region);
+  inside = lies_inside c.shape region;
+  values = has_no_repeat region;
+  shape = c.shape;
+  domain = a.domain;
 }
 
 -- ..and of its two inputs
@@ -71,6 +104,7 @@ plan_of_two (Multiply form ring) a b = record {
   kinds = are_factors form a.shape b.shape;
   compatible = are_compatible a.domain ring.domain && are_compatible b.domain ring.domain;
   fits = inner_size form a.shape == rows_of b.shape;
+  inside = true;
   values = true;
   shape = product_shape form a.shape b.shape;
   domain = answer_domain ring.multiply ring.domain;
@@ -79,26 +113,48 @@ plan_of_two (Combine positions op) a b = record {
   kinds = same_kind a.shape b.shape;
   compatible = are_compatible a.domain op.domain && are_compatible b.domain op.domain;
   fits = same_shape a.shape b.shape;
+  inside = true;
   values = true;
   shape = a.shape;
   domain = answer_domain op.kind op.domain;
 }
 
-abbrev pub plan_of : Operation Signature → Plan
-plan_of (OfOne computes a) = plan_of_one computes a
-plan_of (OfTwo computes a b) = plan_of_two computes a b
+-- ..and of a region of its output, where it has no input
+abbrev pub plan_of_fill : Signature → ℤ → Region → Plan
+plan_of_fill c value region = record {
+  kinds = is_region_of region c.shape;
+  compatible = is_built_in c.domain;
+  fits = true;
+  inside = lies_inside c.shape region;
+  values = is_value_of c.domain value;
+  shape = c.shape;
+  domain = c.domain;
+}
 
--- whether there is the operator that an operation names
+abbrev pub plan_of : Signature → Operation Signature → Plan
+plan_of c (Fill value region) = plan_of_fill c value region
+plan_of c (OfOne computes a) = plan_of_one c computes a
+plan_of c (OfTwo computes a b) = plan_of_two computes a b
+
+-- the number of positions that an operation fills with one value, counted as often as lists name them
+abbrev pub filled_by : {K : Type 0} → Shape → Operation K → ℕ
+filled_by shape (Fill value region) =
+    count_of (rows_of shape) (rows_in region) * count_of (cols_of shape) (cols_in region)
+filled_by shape _ = 0
+
+-- whether there is the operator that an operation names, if it names one
 abbrev pub offers_one : OneInput → Bool
 offers_one (Apply function) = offers_function function
 offers_one (Select op scalar) = offers_index op.kind op.domain
 offers_one (ReduceRows monoid) = offers (combines_by monoid.kind) monoid.domain
+offers_one _ = true
 
 abbrev pub offers_two : TwoInputs → Bool
 offers_two (Multiply form ring) = offers_semiring ring.add ring.multiply ring.domain
 offers_two (Combine positions op) = offers op.kind op.domain
 
 abbrev pub is_offered : {K : Type 0} → Operation K → Bool
+is_offered (Fill value region) = true
 is_offered (OfOne computes a) = offers_one computes
 is_offered (OfTwo computes a b) = offers_two computes
 
@@ -114,6 +170,7 @@ turns_one _ desc = desc.turn_first
 
 -- an operation whose inputs are turned as the flags say
 abbrev pub turned : {K : Type 0} → (K → K) → Desc → Operation K → Operation K
+turned turn desc (Fill value region) = Fill value region
 turned turn desc (OfOne computes a) = OfOne computes (turned_if turn (turns_one computes desc) a)
 turned turn desc (OfTwo computes a b) =
     OfTwo computes (turned_if turn desc.turn_first a) (turned_if turn desc.turn_second b)

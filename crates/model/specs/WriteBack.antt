@@ -7,14 +7,15 @@ use Rattle.algebra.specs.declared.operator_names.OpName.{OpName}
 use Rattle.algebra.specs.Operators.{eval_of}
 use Rattle.algebra.specs.Value.{cast_of, word_of}
 use Rattle.model.specs.declared.call.Call.{Call}
-use Rattle.model.specs.declared.call.Call.TheVariants.{Set, Remove, Operate}
+use Rattle.model.specs.declared.call.Call.TheVariants.{Build, Set, Remove, Operate}
 use Rattle.model.specs.declared.call.Desc.{Desc}
 use Rattle.model.specs.declared.call.Operation.{Operation}
 use Rattle.model.specs.declared.call.Out.{Out}
+use Rattle.model.specs.Builds.{built}
 use Rattle.model.specs.Fault.{plan_in}
 use Rattle.model.specs.Object.{Content, Object, cast_content, col_of, no_content, row_of, signature_of, turned_object}
 use Rattle.model.specs.Object.{with_entry, without_entry}
-use Rattle.model.specs.Operations.{operation}
+use Rattle.model.specs.Operations.{is_written_by, operation}
 use Rattle.model.specs.Renamed.{renamed_operation}
 use Rattle.model.specs.Table.{turned}
 
@@ -43,23 +44,30 @@ abbrev pub accumulated_by : Option OpName → Option ℕ → Option ℕ → Opti
 accumulated_by None old new = new
 accumulated_by (Some op) old new = accumulated op old new
 
--- the output, of values in its domain: what is computed stands in the mask set, and outside it what was
--- there, or nothing (GrB_REPLACE)
-abbrev pub written : Out Object → Content → Content
-written out values = λ i j.
-    if mask_set out i j then accumulated_by out.accum (out.c.content i j) (values i j)
+-- the output with values in its domain at some positions, and what was there at the others
+abbrev pub landed : Out Object → (ℕ → ℕ → Bool) → Content → Content
+landed out is_written values = λ i j.
+    if is_written i j then accumulated_by out.accum (out.c.content i j) (values i j) else out.c.content i j
+
+-- what stands in the mask set, and outside it what was there, or nothing (GrB_REPLACE)
+abbrev pub masked : Out Object → Content → Content
+masked out z = λ i j.
+    if mask_set out i j then z i j
     else if out.desc.replace then None
     else out.c.content i j
 
 -- what an operation leaves in its output
 unfoldable pub result_of : Out Object → Operation Object → Content
 result_of out inputs =
-    let plan = plan_in out.desc (renamed_operation signature_of inputs) in
-    written out (cast_content plan.domain out.c.domain (operation (turned turned_object out.desc inputs)))
+    let c = signature_of out.c in
+    let plan = plan_in c out.desc (renamed_operation signature_of inputs) in
+    let values = cast_content plan.domain c.domain (operation c (turned turned_object out.desc inputs)) in
+    masked out (landed out (is_written_by c.shape inputs) values)
 
 -- what a call leaves in the object into which it writes
 abbrev pub left_by : {N : Type 0} → Call Object N → Content
 left_by (Set o place value) = with_entry o.content (row_of place) (col_of place) (word_of o.domain value)
 left_by (Remove o place) = without_entry o.content (row_of place) (col_of place)
+left_by (Build o dup tuples) = built dup o.domain tuples
 left_by (Operate out inputs) = result_of out inputs
 left_by _ = no_content

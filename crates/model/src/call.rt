@@ -1,6 +1,6 @@
 //! The calls, generic in how they name objects.
 
-use crate::{Place, Shape};
+use crate::{IndexList, Place, Shape, TupleList};
 use algebra::{Domain, FunctionName, IndexName, MonoidName, OpName, RingName};
 
 /// The flags of a descriptor (`GrB_Descriptor`).
@@ -48,8 +48,15 @@ pub enum Positions {
     Intersection,
 }
 
+/// The rows and the columns that a call names by lists: of a vector, or of a matrix.
+#[derive(Drop)]
+pub enum Region {
+    One(IndexList),
+    Two(IndexList, IndexList),
+}
+
 /// What an operation computes of one input.
-#[derive(Clone, Copy)]
+#[derive(Drop)]
 pub enum OneInput {
     /// A function of each entry (`GrB_apply`).
     Apply(FunctionName),
@@ -57,6 +64,28 @@ pub enum OneInput {
     Select { op: IndexName, scalar: i128 },
     /// The sum of each row (`GrB_reduce` to a vector).
     ReduceRows(MonoidName),
+    /// The transpose (`GrB_transpose`).
+    Transpose,
+    /// The entries at the positions of a region, in the order of its lists (`GrB_extract`).
+    Extract(Region),
+    /// The entries, put at the positions of a region of the output (`GrB_assign`).
+    Assign(Region),
+}
+
+impl OneInput {
+    ghost use Rattle.std.specs.Prelude.{◌≡◌};
+    ghost use Rattle.model.specs.Table.{turns_one};
+
+    /// Whether a descriptor's flags turn the input; where the first operand is a plain value, the input is
+    /// the second.
+    pub fn is_turned(&self, desc: Desc) -> bool
+        ensures { result ≡ turns_one self.now desc }
+    {
+        match self {
+            OneInput::Apply(FunctionName::First { .. }) => desc.turn_second,
+            _ => desc.turn_first,
+        }
+    }
 }
 
 /// What an operation computes of two inputs.
@@ -70,21 +99,29 @@ pub enum TwoInputs {
 
 /// An operation on its inputs. How many they are is all that looks up, checks and renames objects, so
 /// that these have a case for each number and not for each operation.
-#[derive(Clone, Copy)]
+#[derive(Drop)]
 pub enum Operation<K> {
+    /// A value at each position of a region of the output (`GrB_assign` of a constant).
+    Fill { value: i128, region: Region },
     OfOne { computes: OneInput, a: K },
     OfTwo { computes: TwoInputs, a: K, b: K },
 }
 
 /// A call. `K` is how it names objects, and `N` how it names one that it makes: in a script both are
 /// words; in a session objects have numbers, and a new one has none yet.
-#[derive(Clone, Copy)]
+#[derive(Drop)]
 pub enum Call<K, N> {
     /// Makes an object without entries (`GrB_Matrix_new`, `GrB_Vector_new`).
     Create {
         name: N,
         domain: Domain,
         shape: Shape,
+    },
+    /// Makes an object with the domain, the shape and the entries of another (`GrB_Matrix_dup`,
+    /// `GrB_Vector_dup`).
+    Dup {
+        name: N,
+        object: K,
     },
     /// Frees an object (`GrB_free`).
     Free {
@@ -93,6 +130,19 @@ pub enum Call<K, N> {
     /// Removes all entries (`GrB_Matrix_clear`, `GrB_Vector_clear`).
     Clear {
         object: K,
+    },
+    /// Gives an object another shape, in which the entries stay that fit it (`GrB_Matrix_resize`,
+    /// `GrB_Vector_resize`).
+    Resize {
+        object: K,
+        shape: Shape,
+    },
+    /// Puts values at positions of an object without entries; those of one position are combined in the
+    /// order of the list (`GrB_Matrix_build`, `GrB_Vector_build`).
+    Build {
+        object: K,
+        dup: Option<OpName>,
+        tuples: TupleList,
     },
     /// Sets an entry (`GrB_Matrix_setElement`, `GrB_Vector_setElement`).
     Set {
@@ -132,13 +182,15 @@ pub enum Call<K, N> {
 }
 
 /// What the table of operations says of one operation on its inputs: whether they are of the right
-/// kinds, whether their domains and their shapes fit, whether its plain values are of their domains,
-/// and the shape and the domain of what it computes.
+/// kinds, whether their domains and their shapes fit, whether its indices are inside the shapes that
+/// they are of, whether its plain values are of their domains and no index is repeated that may stand
+/// once, and the shape and the domain of what it computes.
 #[derive(Clone, Copy)]
 pub struct Plan {
     pub kinds: bool,
     pub compatible: bool,
     pub fits: bool,
+    pub inside: bool,
     pub values: bool,
     pub shape: Shape,
     pub domain: Domain,

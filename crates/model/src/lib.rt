@@ -3,17 +3,19 @@
 #![tactic(auto)]
 
 mod call;
-mod come;
 mod entry;
+mod indices;
 mod limits;
 mod memory;
 mod shape;
 mod status;
+mod tuples;
 
-pub use call::{Call, Desc, Form, OneInput, Operation, Out, Plan, Positions, TwoInputs};
-pub use come::domain_has_come;
+pub use call::{Call, Desc, Form, OneInput, Operation, Out, Plan, Positions, Region, TwoInputs};
 pub use entry::Entry;
-pub use limits::{GREATEST_DIMENSION, LONGEST_LINE, LONGEST_NAME, MOST_OBJECTS};
+pub use indices::IndexList;
+pub use limits::{GREATEST_DIMENSION, LONGEST_LINE, LONGEST_NAME, MOST_FILLED, MOST_OBJECTS};
 pub use memory::NoMemory;
 pub use shape::{Place, Shape, Signature};
 pub use status::Status;
+pub use tuples::{Tuple, TupleList};

@@ -11,3 +11,6 @@ pub const LONGEST_NAME: usize = 32;
 
 /// The greatest length of a call's line, in bytes, without its line end.
 pub const LONGEST_LINE: usize = 65_536;
+
+/// The greatest number of positions that a call fills with one value.
+pub const MOST_FILLED: u64 = 16_777_216;

@@ -2,6 +2,7 @@
 ghost use Rattle.std.specs.Prelude.{◌≡◌};
 ghost use Rattle.model.specs.Fault.{are_dimensions, is_dimension};
 ghost use Rattle.model.specs.Object.{cols_of, is_inside, is_matrix, is_of_kind, row_of, col_of, rows_of, same_kind};
+ghost use Rattle.model.specs.Object.{same_length};
 ghost use Rattle.model.specs.Object.{same_shape, turned_shape};
 
 use crate::limits::GREATEST_DIMENSION;
@@ -121,6 +122,16 @@ impl Place {
     {
         match (self, shape) {
             (Place::One(_), Shape::One(_)) | (Place::Two(_, _), Shape::Two(_, _)) => true,
+            _ => false,
+        }
+    }
+
+    /// Whether another has as many indices.
+    pub const fn is_like(self, other: Place) -> bool
+        ensures { result ≡ same_length self other }
+    {
+        match (self, other) {
+            (Place::One(_), Place::One(_)) | (Place::Two(_, _), Place::Two(_, _)) => true,
             _ => false,
         }
     }
