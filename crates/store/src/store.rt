@@ -63,6 +63,16 @@ impl Store {
         Store { rows, cols, lists }
     }
 
+    /// All rows as a block, which takes the lists over without a copy.
+    pub fn into_block(self) -> RowBlock
+        ensures first { result.first ≡ 0 }
+        ensures past { result.past ≡ self.rows }
+        ensures cols { result.cols ≡ self.cols }
+        ensures content { (i j : ℕ) → block_content result i j ≡ content_of self i j }
+    {
+        RowBlock::of_fibers(0, self.rows, self.cols, self.lists)
+    }
+
     /// A store with the same shape and entries, in memory of its own.
     pub fn try_clone(&self) -> Result<Store, NoMemory>
         ensures { IfOk result (λ store. store ≡ self.now) }

@@ -1,0 +1,4 @@
+mod BuildLaws
+mod EditLaws
+mod GatherLaws
+mod JoinLaws

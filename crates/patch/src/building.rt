@@ -1,0 +1,51 @@
+//! Stores that are built of tuples.
+ghost use Rattle.std.specs.Prelude.{◌≡◌, ℕ, IfOk, map, true};
+ghost use Rattle.std.specs.Option.{option_map};
+ghost use Rattle.algebra.specs.OperatorNames.{op_named};
+ghost use Rattle.model.specs.Builds.{are_inside, are_values_of, built, entry_of};
+ghost use Rattle.model.specs.Object.{cols_of, rows_of};
+ghost use Rattle.store.specs.Stored.{content_of};
+
+use crate::runs::block_of_sorted;
+use algebra::{BinaryOp, Domain};
+use model::{Entry, NoMemory, Shape, Tuple, TupleList};
+use std::alloc::Global;
+use store::Store;
+
+/// The store of a shape that tuples make, with values of a domain (`GrB_Matrix_build`,
+/// `GrB_Vector_build`). The values of one position are joined by an operator in the order of the list;
+/// without one the last stands. Its time follows the number of tuples, which the list keeps sorted.
+pub fn build(
+    alloc: Global,
+    shape: Shape,
+    domain: Domain,
+    dup: Option<BinaryOp>,
+    tuples: &TupleList,
+) -> Result<Store, NoMemory>
+    requires inside { are_inside shape tuples.now ≡ true }
+    requires values { are_values_of domain tuples.now ≡ true }
+    ensures rows { IfOk result (λ store. store.rows ≡ rows_of shape) }
+    ensures cols { IfOk result (λ store. store.cols ≡ cols_of shape) }
+    ensures content { IfOk result (λ store. (i j : ℕ) → content_of store i j
+        ≡ built (option_map op_named dup) domain tuples.now i j) }
+{
+    let (rows, cols) = (shape.rows(), shape.cols());
+    let entries = entries_of(alloc, tuples.sorted(), domain)?;
+    let block = block_of_sorted(alloc, entries, dup, 0..rows, cols)?;
+    Ok(Store::from_block(rows, block))
+}
+
+/// The entries of tuples, with words of a domain.
+fn entries_of(alloc: Global, tuples: &[Tuple], domain: Domain) -> Result<Vec<Entry>, NoMemory>
+    ensures { IfOk result (λ entries. entries.items ≡ map (entry_of domain) tuples.now) }
+{
+    let entries = tuples
+        .iter()
+        .map(|tuple| Entry {
+            row: tuple.place.row(),
+            col: tuple.place.col(),
+            word: domain.wrapped(tuple.value),
+        })
+        .collect(alloc)?;
+    Ok(entries)
+}

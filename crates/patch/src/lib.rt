@@ -1,0 +1,13 @@
+//! Entries in any order made into rows, builds, and edits that wait beside a store.
+#![tactic(auto)]
+
+mod along;
+mod building;
+mod edits;
+mod gathering;
+mod merging;
+mod runs;
+
+pub use building::build;
+pub use edits::{Edit, settle};
+pub use gathering::gather;

@@ -1,0 +1,79 @@
+//! Many edits of a store at once.
+ghost use Rattle.std.specs.Prelude.{◌≡◌, ℕ, IfOk, map};
+ghost use Rattle.std.specs.List.{All, AllPairs};
+ghost use Rattle.store.specs.Stored.{content_of};
+ghost use Rattle.patch.specs.Edits.{IsInside, edited, removal_entry, set_entry};
+ghost use Rattle.patch.specs.Runs.{IsNotBehind};
+
+use crate::Edit;
+use crate::runs::block_of_sorted;
+use masks::{MaskView, write_back};
+use model::{Entry, NoMemory};
+use std::alloc::Global;
+use store::Store;
+
+/// A store after edits, which come row by row. It writes all entries anew.
+pub(crate) fn merge(alloc: Global, store: &Store, edits: &[Edit]) -> Result<Store, NoMemory>
+    requires inside { All (IsInside store.now.rows store.now.cols) edits.now }
+    requires order { AllPairs IsNotBehind (map set_entry edits.now) }
+    ensures rows { IfOk result (λ merged. merged.rows ≡ store.now.rows) }
+    ensures cols { IfOk result (λ merged. merged.cols ≡ store.now.cols) }
+    ensures content { IfOk result (λ merged. (i j : ℕ)
+        → content_of merged i j ≡ edited edits.now (content_of store.now) i j) }
+{
+    let (rows, cols) = (store.rows(), store.cols());
+    let words = block_of_sorted(alloc, set_entries(alloc, edits)?, None, 0..rows, cols)?;
+    let removals = block_of_sorted(alloc, removal_entries(alloc, edits)?, None, 0..rows, cols)?;
+    let removals = Store::from_block(rows, removals);
+    let is_set = MaskView {
+        store: Some(&removals),
+        valued: true,
+        complement: true,
+    };
+    let kept = write_back(alloc, store, words, is_set, None, true)?;
+    let is_edited = MaskView {
+        store: Some(&removals),
+        valued: false,
+        complement: false,
+    };
+    let block = write_back(alloc, store, kept, is_edited, None, false)?;
+    Ok(Store::from_block(rows, block))
+}
+
+/// The entries that edits set.
+fn set_entries(alloc: Global, edits: &[Edit]) -> Result<Vec<Entry>, NoMemory>
+    ensures { IfOk result (λ entries. entries.items ≡ map set_entry edits.now) }
+{
+    let entries = edits.iter().map(|edit| set_entry(*edit)).collect(alloc)?;
+    Ok(entries)
+}
+
+/// Entries where edits stand, with the words 1 for removals and 0 for others.
+fn removal_entries(alloc: Global, edits: &[Edit]) -> Result<Vec<Entry>, NoMemory>
+    ensures { IfOk result (λ entries. entries.items ≡ map removal_entry edits.now) }
+{
+    let entries = edits
+        .iter()
+        .map(|edit| removal_entry(*edit))
+        .collect(alloc)?;
+    Ok(entries)
+}
+
+/// The entry that an edit sets; where it removes one, the word is 0.
+fn set_entry(edit: Edit) -> Entry
+    ensures { result ≡ set_entry edit }
+{
+    match edit {
+        Edit::Set(row, col, word) => Entry { row, col, word },
+        Edit::Remove(row, col) => Entry { row, col, word: 0 },
+    }
+}
+
+/// An entry where an edit stands, with the word 1 where it removes one, and else 0.
+fn removal_entry(edit: Edit) -> Entry
+    ensures { result ≡ removal_entry edit }
+{
+    let (row, col) = edit.place();
+    let word = matches!(edit, Edit::Remove(_, _)) as u64;
+    Entry { row, col, word }
+}

@@ -1,0 +1,15 @@
+pub mod ColumnFibers
+pub mod ColumnPlaces
+pub mod Counts
+pub mod Extracts
+pub mod FillLaws
+pub mod Gathering
+pub mod Going
+pub mod ListLaws
+pub mod Made
+pub mod PickLaws
+pub mod PlaceLaws
+pub mod RowWords
+pub mod Scatters
+pub mod SideLaws
+pub mod Walked

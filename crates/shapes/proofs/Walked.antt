@@ -1,0 +1,198 @@
+-- Walks along the rows of a store: what is left of the map.
+use Rattle.std.proofs.Common.{◌≡◌, ◌≢◌, ℕ, ◌+◌, ◌<◌, ◌≤◌, Bool, true, false, cond, ◌&&◌, eqb, ltb, List, [], ◌∷◌, ◌++◌, length, zero, suc, get_or, Option, Some, None, refl, sym, ◌∙◌, ap, subst, inl, inr, arith}
+use Rattle.std.specs.Option.{option_map, option_to_list}
+use Rattle.std.specs.List.{All, cons_option, filter, filter_map}
+use Rattle.std.proofs.lemmas.Bool.Decides.{nat_tests}
+use Rattle.std.proofs.lemmas.Bool.{cases_lt, cases_Bool, eq-eqb, eqb-true, ne_eqb, false≢true}
+use Rattle.std.proofs.lemmas.List.{get_or_default}
+use Rattle.std.proofs.lemmas.List.Elements.{All-cons, All-head, All-nil, All-tail, All-weaker}
+use Rattle.model.specs.declared.entry.Entry.{Entry}
+use Rattle.model.specs.Entries.{InOrder, IsInside, Precedes, count_from, entries_between, entry_at, row_entries, word_at}
+use Rattle.model.specs.Object.{Content, IsWithin}
+use Rattle.store.specs.Fibers.{entries_along}
+use Rattle.store.specs.Stored.{AreIn}
+use Rattle.store.specs.Walks.{IsFirstRow}
+use Rattle.shapes.specs.Rows.{IsRowOf, IsWalk}
+use Rattle.store.proofs.Content.{word_at-in_row}
+use Rattle.store.proofs.FlatLaws.{all_rows}
+use Rattle.store.proofs.Order.{all_append_left, all_append_right, all_pairs_cons, all_pairs_nil}
+use Rattle.store.proofs.Walks.{cols_rise}
+use Rattle.store.proofs.PartLaws.{none_there, word_before, word_behind}
+use Rattle.store.proofs.Places.{length_row, row_at}
+use Rattle.store.proofs.Positions.{word_at-here, word_at-skip}
+use Rattle.store.proofs.RowEntries.{entries_between-inside, entries_between-row, row_entries-column, row_entries-inside}
+
+-- ---- words of rows
+
+pub no_column : (a b : Bool) → b ≡ false → (a && b) ≡ false
+no_column true b h = h
+no_column false b h = refl
+
+eqb_no : (a b : ℕ) → eqb a b ≡ false → a ≢ b
+eqb_no a b other same = absurd (false≢true (sym other ∙ eq-eqb a b same))
+
+one_there : (i j : ℕ) (e : Entry) (rest : List Entry) (o : Option ℕ) → e ∷ rest ≡ option_to_list (option_map (entry_at i j) o) → o ≡ Some e.word
+one_there i j e rest None is = absurd (let no = ap length is in omega (arith, no))
+one_there i j e rest (Some w) is = sym (ap (λ (es : List Entry). Some (get_or es 0 (entry_at 0 0 0)).word) is)
+
+-- of entries of one row, the word at a column is that of the entry there
+word_in_column : (i j : ℕ) (es : List Entry) (o : Option ℕ) → All (λ e. e.row ≡ i) es → filter (λ e. eqb e.col j) es ≡ option_to_list (option_map (entry_at i j) o) → word_at es i j ≡ o
+unfolding word_at
+word_in_column i j [] None row is = refl
+word_in_column i j [] (Some w) row is = absurd (let no = ap length is in omega (arith, no))
+word_in_column i j (e ∷ es) o row is = elim (cases_Bool (eqb e.col j)) [
+  | inl at ↦
+      let here : (eqb i e.row && eqb j e.col) ≡ true = rw (eq-eqb i e.row (sym (All-head (λ e. e.row ≡ i) e es row)), eq-eqb j e.col (sym (eqb-true e.col j at))) refl in
+      word_at-here i j e es here ∙ sym (one_there i j e (filter (λ e. eqb e.col j) es) o (rw at at is))
+  | inr away ↦
+      let other : (eqb i e.row && eqb j e.col) ≡ false = no_column (eqb i e.row) (eqb j e.col) (ne_eqb j e.col (λ same. absurd (eqb_no e.col j away (sym same)))) in
+      word_at-skip i j e es other ∙ word_in_column i j es o (All-tail (λ e. e.row ≡ i) e es row) (rw away at is)
+]
+
+-- the words of a map's row are those of its entries
+pub word_at-row_entries : (cols : ℕ) (c : Content) (i j : ℕ) → word_at (row_entries cols c i) i j ≡ cond (ltb j cols) (c i j) None
+word_at-row_entries cols c i j =
+    word_in_column i j (row_entries cols c i) (cond (ltb j cols) (c i j) None)
+    (All-weaker (λ (e : Entry). (e.row ≡ i) × (e.col < cols)) (λ (e : Entry). e.row ≡ i) (λ e p. p.0) (row_entries cols c i) (row_entries-inside cols c i))
+    (row_entries-column cols c i j)
+
+-- a map has nothing in columns behind its shape
+pub only_inside : (rows cols : ℕ) (c : Content) (i j : ℕ) → IsWithin rows cols c → cond (ltb j cols) (c i j) None ≡ c i j
+only_inside rows cols c i j within = elim (cases_Bool (ltb j cols)) [
+  | inl inside ↦ rw inside refl
+  | inr outside ↦ rw outside (sym (within i j (no_column (ltb i rows) (ltb j cols) outside)))
+]
+
+-- ---- a walk
+
+pub walk_from : (c : Content) (rows cols first past : ℕ) (rest : List Entry) → IsWithin rows cols c → rest ≡ entries_between first past cols c → IsWalk c first past cols rest
+walk_from c rows cols first past rest within is = record {
+  inside = subst (AreIn first past cols) (sym is) (entries_between-inside first past cols c);
+  words = λ i j low high.
+      ap (λ es. word_at es i j) is
+      ∙ sym (word_at-in_row i j (entries_between first past cols c))
+      ∙ ap (λ es. word_at es i j) (entries_between-row first past cols c i low high)
+      ∙ word_at-row_entries cols c i j ∙ only_inside rows cols c i j within;
+}
+
+-- the first row of a walk, and what is left behind it
+pub record IsStep (c : Content) (next past cols index : ℕ) (cs ws : List ℕ) (others : List Entry) : Type 0 where
+  pub low : next ≤ index
+  pub high : index < past
+  pub inside : All (λ col. col < cols) cs
+  pub words : (j : ℕ) → word_at (entries_along index cs ws) index j ≡ c index j
+  pub gap : (i j : ℕ) → next ≤ i → i < index → c i j ≡ None
+  pub left : IsWalk c (index + 1) past cols others
+
+-- what holds of the columns of a row's entries
+cols_have : (P : ℕ → Type 0) (index : ℕ) (cs ws : List ℕ) → length ws ≡ length cs → All (λ e. P e.col) (entries_along index cs ws) → All P cs
+cols_have P index cs ws lengths h k d within =
+    let at = row_at index cs ws k (entry_at 0 0 0) lengths within in
+    let here : P (get_or (entries_along index cs ws) k (entry_at 0 0 0)).col = h k (entry_at 0 0 0) (omega (arith, length_row index cs ws lengths)) in
+    rw (get_or_default cs k d 0 within) (subst (λ (e : Entry). P e.col) at here)
+
+pub walk_step : (c : Content) (next past cols index : ℕ) (cs ws : List ℕ) (rest others : List Entry) → IsWalk c next past cols rest → IsFirstRow index cs ws rest others → IsStep c next past cols index cs ws others
+walk_step c next past cols index cs ws rest others here starts =
+    let row = entries_along index cs ws in
+    let all : AreIn next past cols (row ++ others) = subst (AreIn next past cols) starts.whole here.inside in
+    let P : Entry → Type 0 = λ e. ((next ≤ e.row) × (e.row < past)) × (e.col < cols) in
+    let ours = all_append_left P row others all in
+    let theirs = all_append_right P row others all in
+    let d = entry_at 0 0 0 in
+    let some : 0 < length row = omega (arith, length_row index cs ws starts.lengths, starts.some) in
+    let one : (get_or row 0 d).row ≡ index = all_rows index cs ws 0 d some in
+    let first = ours 0 d some in
+    let rows_are = all_rows index cs ws in
+    let low : next ≤ index = subst (λ r. next ≤ r) one first.0.0 in
+    let high : index < past = subst (λ r. r < past) one first.0.1 in
+    let split = λ (i j : ℕ). ap (λ es. word_at es i j) starts.whole in
+    record {
+      low = low;
+      high = high;
+      inside = cols_have (λ col. col < cols) index cs ws starts.lengths (All-weaker P (λ (e : Entry). e.col < cols) (λ e p. p.1) row ours);
+      words = λ j.
+          sym (word_before index j row others (All-weaker (λ (e : Entry). index < e.row) (λ (e : Entry). index ≢ e.row) (λ e p q. omega arith) others starts.behind))
+          ∙ sym (split index j) ∙ here.words index j low high;
+      gap = λ i j from below.
+          sym (here.words i j from (omega arith)) ∙ split i j
+          ∙ word_behind i j row others (All-weaker (λ (e : Entry). e.row ≡ index) (λ (e : Entry). i ≢ e.row) (λ e p q. omega arith) row rows_are)
+          ∙ none_there i j others (All-weaker (λ (e : Entry). index < e.row) (λ (e : Entry). i ≢ e.row) (λ e p q. omega arith) others starts.behind);
+      left = record {
+        inside = λ k d within. let a = theirs k d within in let b = starts.behind k d within in ((omega arith, a.0.1), a.1);
+        words = λ i j from below.
+            sym (word_behind i j row others (All-weaker (λ (e : Entry). e.row ≡ index) (λ (e : Entry). i ≢ e.row) (λ e p q. omega arith) row rows_are))
+            ∙ sym (split i j) ∙ here.words i j (omega arith) below;
+      };
+    }
+
+-- where nothing is left of a walk, the map has nothing in the rows behind it
+pub walk_end : (c : Content) (next past cols : ℕ) (rest : List Entry) → IsWalk c next past cols rest → rest ≡ [] → (i j : ℕ) → next ≤ i → i < past → c i j ≡ None
+unfolding word_at
+walk_end c next past cols rest here none i j low high = sym (here.words i j low high) ∙ ap (λ es. word_at es i j) none
+
+-- ---- one row
+
+-- the entries of a row in some columns, of which none is below the first
+columns_from : (c : Content) (i n first : ℕ) → All (λ e. (e.row ≡ i) × (first ≤ e.col)) (filter_map (λ k. option_map (entry_at i k) (c i k)) (count_from first n))
+unfolding count_from
+columns_from c i zero first = All-nil (λ (e : Entry). (e.row ≡ i) × (first ≤ e.col))
+columns_from c i (suc n) first =
+    let P : Entry → Type 0 = λ e. (e.row ≡ i) × (first ≤ e.col) in
+    let rest = filter_map (λ k. option_map (entry_at i k) (c i k)) (count_from (first + 1) n) in
+    let later : All P rest = All-weaker (λ (e : Entry). (e.row ≡ i) × (first + 1 ≤ e.col)) P (λ e p. let low = p.1 in (p.0, omega arith)) rest (columns_from c i n (first + 1)) in
+    elim (c i first) as (λ o. All P (cons_option (option_map (entry_at i first) o) rest)) [
+      | None ↦ later
+      | Some w ↦ All-cons P (entry_at i first w) rest (refl, omega arith) later
+    ]
+
+pub columns_rise : (c : Content) (i n first : ℕ) → InOrder (filter_map (λ k. option_map (entry_at i k) (c i k)) (count_from first n))
+unfolding count_from
+columns_rise c i zero first = all_pairs_nil Precedes
+columns_rise c i (suc n) first =
+    let rest = filter_map (λ k. option_map (entry_at i k) (c i k)) (count_from (first + 1) n) in
+    let later = columns_rise c i n (first + 1) in
+    elim (c i first) as (λ o. InOrder (cons_option (option_map (entry_at i first) o) rest)) [
+      | None ↦ later
+      | Some w ↦ all_pairs_cons Precedes (entry_at i first w) rest (All-weaker (λ (e : Entry). (e.row ≡ i) × (first + 1 ≤ e.col)) (Precedes (entry_at i first w)) (λ e p. let low = p.1 in inr (sym p.0, omega arith)) rest (columns_from c i n (first + 1))) later
+    ]
+
+-- the columns and words of a map's row
+pub row_is : (rows cols : ℕ) (c : Content) (i : ℕ) (cs ws : List ℕ) → IsWithin rows cols c → length ws ≡ length cs → entries_along i cs ws ≡ row_entries cols c i → IsRowOf c i cols cs ws
+row_is rows cols c i cs ws within lengths is = record {
+  lengths = lengths;
+  rising = cols_rise i cs ws lengths (subst InOrder (sym is) (columns_rise c i cols 0));
+  inside = cols_have (λ col. col < cols) i cs ws lengths (subst (All (λ (e : Entry). e.col < cols)) (sym is) (All-weaker (λ (e : Entry). (e.row ≡ i) × (e.col < cols)) (λ (e : Entry). e.col < cols) (λ e p. p.1) (row_entries cols c i) (row_entries-inside cols c i)));
+  words = λ j. ap (λ es. word_at es i j) is ∙ word_at-row_entries cols c i j ∙ only_inside rows cols c i j within;
+}
+
+-- ---- all rows
+
+-- the words of all entries of a map
+pub all_words : (rows cols : ℕ) (c : Content) (i j : ℕ) → IsWithin rows cols c → word_at (entries_between 0 rows cols c) i j ≡ c i j
+all_words rows cols c i j within = elim (cases_lt i rows) [
+  | inl inside ↦ (walk_from c rows cols 0 rows (entries_between 0 rows cols c) within refl).words i j (omega arith) inside
+  | inr outside ↦
+      let none : (ltb i rows && ltb j cols) ≡ false = let out : ltb i rows ≡ false = grind (arith, nat_tests) in rw out refl in
+      none_there i j (entries_between 0 rows cols c) (All-weaker (λ (e : Entry). ((0 ≤ e.row) × (e.row < rows)) × (e.col < cols)) (λ (e : Entry). i ≢ e.row) (λ e p same. let less = p.0.1 in omega arith) (entries_between 0 rows cols c) (entries_between-inside 0 rows cols c))
+      ∙ sym (within i j none)
+]
+
+-- what the first row of entries inside a shape has, and those behind it
+pub record IsInsideRow (rows cols index : ℕ) (cs : List ℕ) (others : List Entry) : Type 0 where
+  pub row : index < rows
+  pub inside : All (λ col. col < cols) cs
+  pub left : IsInside rows cols others
+
+pub first_inside : (rows cols index : ℕ) (cs ws : List ℕ) (rest others : List Entry) → IsInside rows cols rest → IsFirstRow index cs ws rest others → IsInsideRow rows cols index cs others
+first_inside rows cols index cs ws rest others inside starts =
+    let row = entries_along index cs ws in
+    let P : Entry → Type 0 = λ e. (e.row < rows) × (e.col < cols) in
+    let all : All P (row ++ others) = subst (All P) starts.whole inside in
+    let ours = all_append_left P row others all in
+    let d = entry_at 0 0 0 in
+    let some : 0 < length row = omega (arith, length_row index cs ws starts.lengths, starts.some) in
+    record {
+      row = subst (λ r. r < rows) (all_rows index cs ws 0 d some) (ours 0 d some).0;
+      inside = cols_have (λ col. col < cols) index cs ws starts.lengths (All-weaker P (λ (e : Entry). e.col < cols) (λ e p. p.1) row ours);
+      left = all_append_right P row others all;
+    }

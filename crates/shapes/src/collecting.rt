@@ -1,0 +1,122 @@
+//! Entries at a long list of columns.
+ghost use Rattle.std.specs.Prelude.{◌≡◌, ◌++◌, ◌<◌, ◌≤◌, ℕ, length, map, true, IfOk, OnOk};
+ghost use Rattle.model.specs.Entries.{entry_at};
+ghost use Rattle.model.specs.Indices.{All, These, are_below};
+ghost use Rattle.model.specs.Regions.{extracted};
+ghost use Rattle.store.specs.Fibers.{entries_along};
+ghost use Rattle.store.specs.Stored.{block_content, content_of};
+ghost use Rattle.shapes.specs.Collects.{collected, index_content};
+
+use crate::rows::{find_row, walk_rows};
+use model::{Entry, NoMemory};
+use patch::gather;
+use std::alloc::Global;
+use std::ops::Range;
+use store::{RowBlock, Store};
+
+/// The rows in a range of a store at a list of columns. Its time follows the list, the entries of these
+/// rows, each with a search in the list, and what is found.
+pub(crate) fn collect_all(
+    alloc: Global,
+    a: &Store,
+    cols: &[u64],
+    range: Range<u64>,
+) -> Result<RowBlock, NoMemory>
+    requires cols { are_below a.now.cols (These cols.now) ≡ true }
+    requires start { range.start ≤ range.end }
+    requires end { range.end ≤ a.now.rows }
+    ensures first { IfOk result (λ block. block.first ≡ range.start) }
+    ensures past { IfOk result (λ block. block.past ≡ range.end) }
+    ensures cols { IfOk result (λ block. block.cols ≡ length cols.now) }
+    ensures words { IfOk result (λ block. (i j : ℕ) → range.start ≤ i → i < range.end → block_content block i j
+        ≡ extracted a.now.rows a.now.cols All (These cols.now) (content_of a.now) i j) }
+{
+    let places = place_columns(alloc, a.cols(), cols)?;
+    let mut entries = Vec::new(alloc);
+    let mut rest = walk_rows(a, range.start..range.end);
+    while let Some((row, others)) = rest.split_first() {
+        collect_row(&mut entries, row.index, row.cols, row.words, &places)?;
+        rest = others;
+    }
+    gather(alloc, entries, None, range, cols.len() as u64)
+}
+
+/// The rows at a range of a list of rows, at a list of columns.
+pub(crate) fn collect_listed(
+    alloc: Global,
+    a: &Store,
+    rows: &[u64],
+    cols: &[u64],
+    range: Range<u64>,
+) -> Result<RowBlock, NoMemory>
+    requires rows { are_below a.now.rows (These rows.now) ≡ true }
+    requires cols { are_below a.now.cols (These cols.now) ≡ true }
+    requires start { range.start ≤ range.end }
+    requires end { range.end ≤ length rows.now }
+    ensures first { IfOk result (λ block. block.first ≡ range.start) }
+    ensures past { IfOk result (λ block. block.past ≡ range.end) }
+    ensures cols { IfOk result (λ block. block.cols ≡ length cols.now) }
+    ensures words { IfOk result (λ block. (i j : ℕ) → range.start ≤ i → i < range.end → block_content block i j
+        ≡ extracted a.now.rows a.now.cols (These rows.now) (These cols.now) (content_of a.now) i j) }
+{
+    let places = place_columns(alloc, a.cols(), cols)?;
+    let mut entries = Vec::new(alloc);
+    for index in range.start..range.end {
+        let (row_cols, words) = find_row(a, rows[index as usize]);
+        collect_row(&mut entries, index, row_cols, words, &places)?;
+    }
+    gather(alloc, entries, None, range, cols.len() as u64)
+}
+
+/// The places of a list's columns as a store, in the row of each column.
+fn place_columns(alloc: Global, size: u64, cols: &[u64]) -> Result<Store, NoMemory>
+    requires { are_below size (These cols.now) ≡ true }
+    ensures cols { IfOk result (λ places. places.cols ≡ length cols.now) }
+    ensures content { IfOk result (λ places. (i j : ℕ) → content_of places i j ≡ index_content cols.now i j) }
+{
+    let mut entries = Vec::with_capacity(alloc, cols.len())?;
+    for k in 0..cols.len() {
+        entries.push(Entry {
+            row: cols[k],
+            col: k as u64,
+            word: 0,
+        })?;
+    }
+    let block = gather(alloc, entries, None, 0..size, cols.len() as u64)?;
+    Ok(Store::from_block(size, block))
+}
+
+/// Puts what a row has at the columns that stand in a store of places, as entries of another row, behind
+/// the entries.
+fn collect_row(
+    entries: &mut Vec<Entry>,
+    index: u64,
+    cols: &[u64],
+    words: &[u64],
+    places: &Store,
+) -> Result<(), NoMemory>
+    requires { length words.now ≡ length cols.now }
+    ensures { OnOk result (entries.new.items ≡ entries.old.items
+        ++ collected index places.now.cols (content_of places.now) (entries_along 0 cols.now words.now)) }
+{
+    for k in 0..cols.len() {
+        let (found, _) = places.row(cols[k]);
+        put_word(entries, index, found, words[k])?;
+    }
+    Ok(())
+}
+
+/// Puts a word at each of some columns of a row behind the entries.
+fn put_word(entries: &mut Vec<Entry>, index: u64, cols: &[u64], word: u64) -> Result<(), NoMemory>
+    ensures { OnOk result (entries.new.items ≡ entries.old.items
+        ++ map (λ col. entry_at index col word) cols.now) }
+{
+    for col in cols {
+        entries.push(Entry {
+            row: index,
+            col: *col,
+            word,
+        })?;
+    }
+    Ok(())
+}
