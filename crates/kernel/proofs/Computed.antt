@@ -24,7 +24,7 @@ use Rattle.calls.specs.Steps.{called}
 use Rattle.elementwise.specs.Alone.{alone_by}
 use Rattle.elementwise.specs.Sums.{folded}
 use Rattle.elementwise.specs.Tests.{passes_by}
-use Rattle.kernel.specs.Evaluated.{AreInputs, computed, object_in, output_of}
+use Rattle.kernel.specs.Evaluated.{AreStraight, computed, object_in, output_of}
 use Rattle.kernel.specs.Factors.{inner_of}
 use Rattle.kernel.proofs.Accepted.{step-accepts}
 use Rattle.kernel.proofs.FactorLaws.{FitTogether, IsShaped, fit_together, inner-shaped}
@@ -43,10 +43,10 @@ use Rattle.model.proofs.StoredLaws.{applied-stored, intersection-stored, multipl
 use Rattle.store.specs.Stored.{Stored, content_of}
 
 -- what a step that is known computes
-of_step : (recipe : Recipe) (step : Step) (object : Role → Object) → recipe.step ≡ step → (i j : ℕ) → operation (renamed_operation object (called step)) i j ≡ computed recipe object i j
-of_step recipe step object is i j = ap (λ (s : Step). operation (renamed_operation object (called s)) i j) (sym is)
+pub of_step : (recipe : Recipe) (step : Step) (object : Role → Object) → recipe.step ≡ step → (i j : ℕ) → operation (output_of recipe) (renamed_operation object (called step)) i j ≡ computed recipe object i j
+of_step recipe step object is i j = ap (λ (s : Step). operation (output_of recipe) (renamed_operation object (called s)) i j) (sym is)
 
-module _ (recipe : Recipe) (stored : Role → Stored) (are : AreInputs recipe stored) where
+module _ (recipe : Recipe) (stored : Role → Stored) (are : AreStraight recipe stored) where
   abbrev object : Role → Object
   object = object_in recipe stored
 
@@ -59,7 +59,7 @@ module _ (recipe : Recipe) (stored : Role → Stored) (are : AreInputs recipe st
   module _ (form : Form) (ring : Semiring) (is : recipe.step ≡ Multiply form ring) where
     pub factors-fit : FitTogether form (stored role.First) (stored role.Second) (output_of recipe).shape
     factors-fit =
-        let accepts = step-accepts recipe (Multiply form ring) is in
+        let accepts = step-accepts recipe (Multiply form ring) are.desc is in
         fit_together form (stored role.First) (stored role.Second) (signature role.First).shape (signature role.Second).shape (output_of recipe).shape
         (shaped role.First) (shaped role.Second) accepts.kinds (eqb-true _ _ accepts.fits) accepts.shape
 
@@ -67,7 +67,7 @@ module _ (recipe : Recipe) (stored : Role → Stored) (are : AreInputs recipe st
         ≡ computed recipe object i j
     unfolding operation
     product-computed i j =
-        let accepts = step-accepts recipe (Multiply form ring) is in
+        let accepts = step-accepts recipe (Multiply form ring) are.desc is in
         let name = ring_named ring in
         let compatible = and_parts (are_compatible (signature role.First).domain name.domain) (are_compatible (signature role.Second).domain name.domain) accepts.compatible in
         ap (λ (n : ℕ). multiplied form name n (content_of (stored role.First)) (content_of (stored role.Second)) i j) (inner-shaped form (stored role.First) (signature role.First).shape (shaped role.First))
@@ -77,18 +77,18 @@ module _ (recipe : Recipe) (stored : Role → Stored) (are : AreInputs recipe st
   module _ (op : BinaryOp) where
     pub same_cols : (positions : Positions) → recipe.step ≡ Combine positions op → (stored role.First).cols ≡ (stored role.Second).cols
     same_cols positions is =
-        let accepts = step-accepts recipe (Combine positions op) is in
+        let accepts = step-accepts recipe (Combine positions op) are.desc is in
         are.cols role.First ∙ (same_shape-rows (signature role.First).shape (signature role.Second).shape accepts.fits).1 ∙ sym (are.cols role.Second)
 
     pub combined-cols : (positions : Positions) → recipe.step ≡ Combine positions op → (stored role.First).cols ≡ cols_of (output_of recipe).shape
     combined-cols positions is =
-        are.cols role.First ∙ (same_shape-rows (signature role.First).shape (output_of recipe).shape (step-accepts recipe (Combine positions op) is).shape).1
+        are.cols role.First ∙ (same_shape-rows (signature role.First).shape (output_of recipe).shape (step-accepts recipe (Combine positions op) are.desc is).shape).1
 
     pub union-computed : recipe.step ≡ Combine Union op → (i j : ℕ)
         → of_either (alone_by op) (alone_by op) (eval_of op.kind op.domain) (content_of (stored role.First) i j) (content_of (stored role.Second) i j) ≡ computed recipe object i j
     unfolding operation
     union-computed is i j =
-        let accepts = step-accepts recipe (Combine Union op) is in
+        let accepts = step-accepts recipe (Combine Union op) are.desc is in
         let compatible = and_parts (are_compatible (signature role.First).domain op.domain) (are_compatible (signature role.Second).domain op.domain) accepts.compatible in
         sym (union-stored (op_named op) (object role.First) (object role.Second) compatible.0 compatible.1 (are.objects role.First).words (are.objects role.Second).words i j)
         ∙ of_step recipe (Combine Union op) object is i j
@@ -97,7 +97,7 @@ module _ (recipe : Recipe) (stored : Role → Stored) (are : AreInputs recipe st
         → of_both (eval_of op.kind op.domain) (content_of (stored role.First) i j) (content_of (stored role.Second) i j) ≡ computed recipe object i j
     unfolding operation
     intersection-computed is i j =
-        let accepts = step-accepts recipe (Combine Intersection op) is in
+        let accepts = step-accepts recipe (Combine Intersection op) are.desc is in
         let compatible = and_parts (are_compatible (signature role.First).domain op.domain) (are_compatible (signature role.Second).domain op.domain) accepts.compatible in
         sym (intersection-stored (op_named op) (object role.First) (object role.Second) compatible.0 compatible.1 (are.objects role.First).words (are.objects role.Second).words i j)
         ∙ of_step recipe (Combine Intersection op) object is i j
@@ -106,34 +106,34 @@ module _ (recipe : Recipe) (stored : Role → Stored) (are : AreInputs recipe st
       → applied (function_named function) (content_of (stored role.First)) i j ≡ computed recipe object i j
   unfolding operation
   applied-computed function is i j =
-      sym (applied-stored (function_named function) (object role.First) (step-accepts recipe (Apply function) is).compatible (are.objects role.First).words i j)
+      sym (applied-stored (function_named function) (object role.First) (step-accepts recipe (Apply function) are.desc is).compatible (are.objects role.First).words i j)
       ∙ of_step recipe (Apply function) object is i j
 
   pub applied-cols : (function : Function) → recipe.step ≡ Apply function → (stored role.First).cols ≡ cols_of (output_of recipe).shape
   applied-cols function is =
-      are.cols role.First ∙ (same_shape-rows (signature role.First).shape (output_of recipe).shape (step-accepts recipe (Apply function) is).shape).1
+      are.cols role.First ∙ (same_shape-rows (signature role.First).shape (output_of recipe).shape (step-accepts recipe (Apply function) are.desc is).shape).1
 
   pub selected-computed : (op : IndexOp) (scalar : ℤ) → recipe.step ≡ Select op scalar → (i j : ℕ)
       → kept_where (passes_by op (word_of (scalar_domain op.kind op.domain) scalar)) (content_of (stored role.First)) i j ≡ computed recipe object i j
   unfolding operation
   selected-computed op scalar is i j =
-      sym (selected-stored (index_named op) (word_of (scalar_domain op.kind op.domain) scalar) (object role.First) (step-accepts recipe (Select op scalar) is).compatible (are.objects role.First).words i j)
+      sym (selected-stored (index_named op) (word_of (scalar_domain op.kind op.domain) scalar) (object role.First) (step-accepts recipe (Select op scalar) are.desc is).compatible (are.objects role.First).words i j)
       ∙ of_step recipe (Select op scalar) object is i j
 
   pub selected-cols : (op : IndexOp) (scalar : ℤ) → recipe.step ≡ Select op scalar → (stored role.First).cols ≡ cols_of (output_of recipe).shape
   selected-cols op scalar is =
-      are.cols role.First ∙ (same_shape-rows (signature role.First).shape (output_of recipe).shape (step-accepts recipe (Select op scalar) is).shape).1
+      are.cols role.First ∙ (same_shape-rows (signature role.First).shape (output_of recipe).shape (step-accepts recipe (Select op scalar) are.desc is).shape).1
 
   module _ (monoid : Monoid) (is : recipe.step ≡ ReduceRows monoid) where
     pub sums-cols : 1 ≡ cols_of (output_of recipe).shape
-    sums-cols = (same_shape-rows (One (rows_of (signature role.First).shape)) (output_of recipe).shape (step-accepts recipe (ReduceRows monoid) is).shape).1
+    sums-cols = (same_shape-rows (One (rows_of (signature role.First).shape)) (output_of recipe).shape (step-accepts recipe (ReduceRows monoid) are.desc is).shape).1
 
     -- the sum of a row, of its words as they are stored
     row_sum : (words : List ℕ) → All (IsWordOf (signature role.First).domain) words → folded monoid words ≡ sum_of monoid.kind monoid.op.domain (map (cast_of (signature role.First).domain monoid.op.domain) words)
     row_sum [] all = refl
     row_sum (word ∷ words) all =
         let offered : offers (combines_by monoid.kind) monoid.op.domain ≡ true = rw (← monoid.combines) monoid.op.offered in
-        sym (sum-stored monoid.kind (signature role.First).domain monoid.op.domain word words offered (step-accepts recipe (ReduceRows monoid) is).compatible all)
+        sym (sum-stored monoid.kind (signature role.First).domain monoid.op.domain word words offered (step-accepts recipe (ReduceRows monoid) are.desc is).compatible all)
 
     pub sums-computed : (i j : ℕ) → cond (j == 0) (folded monoid (row_words (stored role.First).cols (content_of (stored role.First)) i)) None ≡ computed recipe object i j
     unfolding operation

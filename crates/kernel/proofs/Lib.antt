@@ -1,5 +1,10 @@
 pub mod Accepted
 pub mod Computed
 pub mod FactorLaws
+pub mod FlippedLaws
+pub mod FlippedRecipes
 pub mod MaskLaws
+pub mod Moved
+pub mod Spread
+pub mod StraightLaws
 pub mod Wholes

@@ -1,9 +1,10 @@
 -- What is computed counts at the positions of the mask alone.
-use Rattle.std.proofs.Common.{◌≡◌, ◌∙◌, ℕ, ◌<◌, ◌≤◌, true, cond, Some, None, Result, Ok, Err, sym, ap, inl, inr}
+use Rattle.std.proofs.Common.{◌≡◌, ◌∙◌, ℕ, ◌<◌, ◌≤◌, Bool, true, false, cond, if◌then◌else◌, is_none, Option, refl, Some, None, Result, Ok, Err, sym, ap, inl, inr}
 use Rattle.std.specs.Prelude.{IfOk}
 use Rattle.std.specs.Option.{option_map}
 use Rattle.std.proofs.lemmas.Bool.{cases_Bool}
 use Rattle.algebra.specs.declared.domain.Domain.{Domain}
+use Rattle.algebra.specs.declared.operator_names.OpName.{OpName}
 use Rattle.algebra.specs.Value.{IsWordOf, cast_of}
 use Rattle.kernel.specs.Blocks.{AgreesUnder, HasRows}
 use Rattle.masks.specs.declared.view.MaskView.{MaskView}
@@ -11,7 +12,7 @@ use Rattle.masks.specs.Masks.{lets_through}
 use Rattle.masks.specs.Writes.{inside_of, written_at, written_by}
 use Rattle.model.specs.declared.call.Out.{Out}
 use Rattle.model.specs.Object.{AreWordsOf, Content, Object, cast_content}
-use Rattle.model.specs.WriteBack.{mask_set, written}
+use Rattle.model.specs.WriteBack.{accumulated, accumulated_by, landed, mask_set, masked}
 use Rattle.store.specs.Stored.{Block, block_content}
 
 -- rows of what a mask lets through of a map that is the same
@@ -34,9 +35,13 @@ written-same mask out t all i j same =
           ap (λ is_in. write is_in (out.c.content i j) (t i j)) outside ∙ sym (ap (λ is_in. write is_in (out.c.content i j) (all i j)) outside)
     ]
 
+-- values that are accumulated everywhere, and stand in the mask set
+abbrev pub written_all : Out Object → Content → Content
+written_all out all = masked out (landed out (λ i j. true) all)
+
 pub written-masked : (mask : MaskView) (out : Out Object) (t all : Content) (i j : ℕ) → mask_set out i j ≡ lets_through mask i j
     → (lets_through mask i j ≡ true → t i j ≡ all i j)
-    → written_by mask out.accum out.desc.replace out.c.content t i j ≡ written out all i j
+    → written_by mask out.accum out.desc.replace out.c.content t i j ≡ written_all out all i j
 written-masked mask out t all i j same is =
     written-same mask out t all i j is
     ∙ ap (λ is_in. written_at out.accum out.desc.replace is_in (out.c.content i j) (all i j)) (sym same)
@@ -65,4 +70,69 @@ agrees-cast mask first past cols from to c block result words agrees is_first is
   words = λ i j low high inside.
       let here = agrees.words i j low high inside in
       content i j (λ word stored. words i j word (sym here ∙ stored)) ∙ ap (option_map (cast_of from to)) here;
+}
+
+-- ---- outside a region
+
+abbrev spread_at : Bool → Option OpName → Option ℕ → Option ℕ → Option ℕ
+spread_at here accum old new = if here then new else if is_none accum then old else None
+
+accumulated-nothing : (op : OpName) (old : Option ℕ) → old ≡ accumulated op old None
+accumulated-nothing op None = refl
+accumulated-nothing op (Some x) = refl
+
+-- what stays outside a region is what is accumulated there
+landed-at : (here : Bool) (accum : Option OpName) (old new : Option ℕ) → (if here then accumulated_by accum old new else old) ≡ accumulated_by accum old (spread_at here accum old new)
+landed-at true accum old new = refl
+landed-at false None old new = refl
+landed-at false (Some op) old new = accumulated-nothing op old
+
+pub landed-spread : (out : Out Object) (is_written : ℕ → ℕ → Bool) (values : Content) (i j : ℕ)
+    → masked out (landed out is_written values) i j ≡ written_all out (λ i j. spread_at (is_written i j) out.accum (out.c.content i j) (values i j)) i j
+landed-spread out is_written values i j =
+    ap (λ z. if mask_set out i j then z else if out.desc.replace then None else out.c.content i j) (landed-at (is_written i j) out.accum (out.c.content i j) (values i j))
+
+-- rows of a map that is the same
+pub agrees-rows : (mask : MaskView) (first past cols cols' : ℕ) (c d : Content) (block : Block) → cols ≡ cols' → ((i j : ℕ) → c i j ≡ d i j)
+    → HasRows first past cols c block → AgreesUnder mask first past cols' d block
+agrees-rows mask first past cols cols' c d block same_cols same has = record {
+  first_is = has.first_is;
+  past_is = has.past_is;
+  cols_are = has.cols_are ∙ same_cols;
+  words = λ i j low high inside. has.words i j low high ∙ same i j;
+}
+
+-- rows of what is computed, and outside a region what is there
+pub agrees-over : (mask : MaskView) (first past cols : ℕ) (is_written : ℕ → ℕ → Bool) (old c d : Content) (block new : Block) → AgreesUnder mask first past cols c block
+    → new.first ≡ block.first → new.past ≡ block.past → new.cols ≡ block.cols
+    → ((i j : ℕ) → block.first ≤ i → i < block.past → block_content new i j ≡ (if is_written i j then block_content block i j else old i j))
+    → ((i j : ℕ) → (if is_written i j then c i j else old i j) ≡ d i j)
+    → AgreesUnder mask first past cols d new
+agrees-over mask first past cols is_written old c d block new agrees is_first is_past is_cols words same = record {
+  first_is = is_first ∙ agrees.first_is;
+  past_is = is_past ∙ agrees.past_is;
+  cols_are = is_cols ∙ agrees.cols_are;
+  words = λ i j low high inside.
+      words i j (rw agrees.first_is low) (rw agrees.past_is high)
+      ∙ ap (λ x. if is_written i j then x else old i j) (agrees.words i j low high inside) ∙ same i j;
+}
+
+-- ..where there is memory for them
+pub if_over : {E : Type 0} (result : Result Block E) (mask : MaskView) (first past cols : ℕ) (is_written : ℕ → ℕ → Bool) (old c d : Content) (block : Block) → AgreesUnder mask first past cols c block
+    → IfOk result (λ new. new.first ≡ block.first) → IfOk result (λ new. new.past ≡ block.past) → IfOk result (λ new. new.cols ≡ block.cols)
+    → IfOk result (λ new. (i j : ℕ) → block.first ≤ i → i < block.past → block_content new i j ≡ (if is_written i j then block_content block i j else old i j))
+    → ((i j : ℕ) → (if is_written i j then c i j else old i j) ≡ d i j)
+    → IfOk result (AgreesUnder mask first past cols d)
+if_over (Ok new) mask first past cols is_written old c d block agrees is_first is_past is_cols words same =
+    agrees-over mask first past cols is_written old c d block new agrees is_first is_past is_cols words same
+if_over (Err e) mask first past cols is_written old c d block agrees is_first is_past is_cols words same = tt
+
+-- rows that agree with a map agree with one that is the same
+pub agrees-same : (mask : MaskView) (first past cols : ℕ) (c d : Content) (block : Block) → ((i j : ℕ) → c i j ≡ d i j)
+    → AgreesUnder mask first past cols c block → AgreesUnder mask first past cols d block
+agrees-same mask first past cols c d block same agrees = record {
+  first_is = agrees.first_is;
+  past_is = agrees.past_is;
+  cols_are = agrees.cols_are;
+  words = λ i j low high inside. agrees.words i j low high inside ∙ same i j;
 }

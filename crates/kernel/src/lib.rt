@@ -2,8 +2,11 @@
 #![tactic(auto)]
 
 mod computing;
+mod flipping;
+mod moving;
 mod output;
 mod piece;
 mod product;
+mod turning;
 
 pub use piece::{eval_piece, join};

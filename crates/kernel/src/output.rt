@@ -4,7 +4,7 @@ ghost use Rattle.std.specs.Option.{option_map};
 ghost use Rattle.algebra.specs.OperatorNames.{op_named};
 ghost use Rattle.calls.specs.Roles.{role_of};
 ghost use Rattle.kernel.specs.Blocks.{HasShape};
-ghost use Rattle.kernel.specs.Evaluated.{AreInputs, object_in, output_of};
+ghost use Rattle.kernel.specs.Evaluated.{AreStraight, object_in, output_of};
 ghost use Rattle.masks.specs.Masks.{lets_through};
 ghost use Rattle.model.specs.Object.{cols_of, rows_of};
 ghost use Rattle.model.specs.Renamed.{renamed_out};
@@ -16,8 +16,8 @@ use masks::MaskView;
 use store::Store;
 
 /// The positions that a recipe writes.
-pub(crate) fn mask_of<'a>(recipe: &Recipe, stores: &Roles<&'a Store>) -> MaskView<'a>
-    requires { AreInputs recipe.now (λ role. (role_of stores.now role).now) }
+pub(crate) fn mask_of<'a>(recipe: &Recipe<'_>, stores: &Roles<&'a Store>) -> MaskView<'a>
+    requires { AreStraight recipe.now (λ role. (role_of stores.now role).now) }
     ensures set { (i j : ℕ) → mask_set (renamed_out (object_in recipe.now (λ role. (role_of stores.now role).now))
         recipe.now.out) i j ≡ lets_through result i j }
     ensures shape { HasShape (rows_of (output_of recipe.now).shape) (cols_of (output_of recipe.now).shape) result }
@@ -35,7 +35,7 @@ pub(crate) fn mask_of<'a>(recipe: &Recipe, stores: &Roles<&'a Store>) -> MaskVie
 }
 
 /// The operator that accumulates, where there is one.
-pub(crate) fn accumulator_of(recipe: &Recipe) -> Option<BinaryOp>
+pub(crate) fn accumulator_of(recipe: &Recipe<'_>) -> Option<BinaryOp>
     ensures { option_map op_named result ≡ recipe.now.out.accum }
 {
     let op = recipe.out.accum?;

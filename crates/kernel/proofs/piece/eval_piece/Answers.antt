@@ -1,26 +1,34 @@
--- What is computed is written back at the positions of the mask.
-use Rattle.std.proofs.Common.{◌∙◌, sym}
+-- A recipe means the same of exchanged factors, and of inputs that are turned.
+use Rattle.std.proofs.Common.{◌≡◌, ◌∙◌, Bor, ap}
 use Rattle.std.proofs.lemmas.Result.{IfOk-weaker}
 use Rattle.calls.specs.declared.role.Role.{Role}
+use Rattle.calls.specs.declared.role.Roles.{Roles}
 use Rattle.calls.specs.Roles.{role_of}
-use Rattle.kernel.specs.Evaluated.{computed_in, object_in}
-use Rattle.kernel.proofs.Accepted.{recipe-means}
-use Rattle.kernel.proofs.MaskLaws.{written-masked}
-use Rattle.model.specs.Renamed.{renamed_out}
-use Rattle.store.specs.Stored.{Stored, block_content}
+use Rattle.kernel.specs.Flipped.{exchanged}
+use Rattle.kernel.proofs.FlippedRecipes.{AreExchanged, flipped-meaning, flipped-straight}
+use Rattle.store.specs.Stored.{Stored}
 use Rattle.kernel.proofs.piece.eval_piece.Goals as goal
 
-pub returns-clause-words : goal.returns-clause-words
-returns-clause-words c =
-    let recipe = c.args.recipe.now in
-    let stored : Role → Stored = λ role. (role_of c.args.stores.now role).now in
-    let object = object_in recipe stored in
-    let out = renamed_out object recipe.out in
-    let t = c.in_ok-t.t in
-    let rows = c.in_ok-t.ensures in
-    let given = rw (c.of-old.ensures, c.accumulator_of.ensures, rows.first_is, rows.past_is) at c.write_back.ensures.words in
-    IfOk-weaker c.write_back.result _ _
-    (λ block words i j low high. words i j low high
-    ∙ written-masked c.mask_of-mask.result out (block_content t) (computed_in recipe object) i j (c.mask_of-mask.ensures.set i j) (rows.words i j low high)
-    ∙ sym (recipe-means recipe stored i j))
-    given
+abbrev lent_in : Roles (Bor Stored) → Role → Stored
+lent_in stores role = (role_of stores role).now
+
+stores_exchanged : (old new : Roles (Bor Stored)) → new ≡ exchanged old → AreExchanged (lent_in old) (lent_in new)
+stores_exchanged old new is = record {
+  old_is = ap (λ (r : Roles (Bor Stored)). r.old.now) is;
+  mask_is = ap (λ (r : Roles (Bor Stored)). r.mask.now) is;
+  first_is = ap (λ (r : Roles (Bor Stored)). r.first.now) is;
+  second_is = ap (λ (r : Roles (Bor Stored)). r.second.now) is;
+}
+
+pub eval_straight-requires-clause-inputs : goal.eval_straight-requires-clause-inputs
+eval_straight-requires-clause-inputs c =
+    let old = c.args.stores.now in
+    let new = c.exchanged.result in
+    flipped-straight c.args.recipe.now c.in-Some.recipe c.in-Some.ensures (lent_in old) (lent_in new) (stores_exchanged old new c.exchanged.ensures) c.requires.inputs
+
+pub returns-in-Some-clause-words : goal.returns-in-Some-clause-words
+returns-in-Some-clause-words c =
+    let old = c.args.stores.now in
+    let new = c.exchanged.result in
+    let same = flipped-meaning c.args.recipe.now c.in-Some.recipe c.in-Some.ensures (lent_in old) (lent_in new) (stores_exchanged old new c.exchanged.ensures) in
+    IfOk-weaker c.eval_straight.result _ _ (λ block words i j low high. words i j low high ∙ same i j) c.eval_straight.ensures.words
