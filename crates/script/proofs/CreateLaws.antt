@@ -13,14 +13,14 @@ use Rattle.std.proofs.lemmas.Bool.{cases_Bool, eqb-true, true≢false}
 use Rattle.std.proofs.lemmas.Slice.Eq.{bytes_eq-Decides}
 use Rattle.algebra.specs.declared.domain.Domain.{Domain}
 use Rattle.calls.specs.declared.obj.Obj.{Obj}
-use Rattle.model.specs.declared.call.Call.TheVariants.{Create}
+use Rattle.model.specs.declared.call.Call.TheVariants.{Create, Dup}
 use Rattle.model.specs.declared.shape.Shape.{Shape}
 use Rattle.model.specs.declared.status.Status.{Status}
 use Rattle.model.specs.declared.status.Status.TheVariants as status
-use Rattle.model.specs.Fault.{early_fault, fault_of}
+use Rattle.model.specs.Fault.{early_fault, fault_of, found_object}
 use Rattle.model.specs.Grammar.{Name}
 use Rattle.model.specs.Object.{Object, empty_object}
-use Rattle.model.specs.Run.{Environment, effect, seen, with_object, without_object}
+use Rattle.model.specs.Run.{Environment, effect, object_at, seen, with_object, without_object}
 use Rattle.model.proofs.EnvironmentLaws.{environments_equal}
 use Rattle.script.proofs.NameLaws.{AreDistinct, count-left, own_number, same_number}
 use Rattle.script.specs.Named.{through}
@@ -128,30 +128,28 @@ created-distinct number new senv name o adds there unused distinct a b q is_a is
 made_there : (senv : Environment Obj) (o q : Obj) (object : Object) (count : ℕ) → is_some (senv.find_object q) ≡ true → is_some ((with_object same_object senv o object count).find_object q) ≡ true
 made_there senv o q object count h = elim (cases_Bool (o.0 == q.0)) [ inl same ↦ rw same refl | inr apart ↦ rw apart h ]
 
-pub created-there : (number new : Name → Option Obj) (senv made : Environment Obj) (name : Name) (o : Obj) (domain : Domain) (shape : Shape)
+pub created-there : (number new : Name → Option Obj) (senv made : Environment Obj) (name : Name) (o : Obj) (object : Object)
     → ((q : Name) → new q ≡ cond (bytes_eq name q) (Some o) (number q))
     → ((n : Name) (q : Obj) → number n ≡ Some q → is_some (senv.find_object q) ≡ true)
-    → made ≡ effect same_object senv (Create o domain shape)
+    → made ≡ with_object same_object senv o object (senv.count + 1)
     → (n : Name) (q : Obj) → new n ≡ Some q → is_some (made.find_object q) ≡ true
-unfolding effect
-created-there number new senv made name o domain shape adds there is n q stands =
+created-there number new senv made name o object adds there is n q stands =
     ap (λ (env : Environment Obj). is_some (env.find_object q)) is ∙ elim (cases_Bool (bytes_eq name n)) [
       | inl same ↦
           let one : Some o ≡ Some q = rw same at (sym (adds n) ∙ stands) in
           let same_o : o ≡ q = cc in
           let number_is : (o.0 == q.0) ≡ true = rw same_o (own_number q.0) in
           rw number_is refl
-      | inr apart ↦ made_there senv o q (empty_object domain shape) (senv.count + 1) (there n q (rw apart at (sym (adds n) ∙ stands)))
+      | inr apart ↦ made_there senv o q object (senv.count + 1) (there n q (rw apart at (sym (adds n) ∙ stands)))
     ]
 
 -- ---- an object that goes again
 
-pub gone_again : (senv made freed : Environment Obj) (o : Obj) (domain : Domain) (shape : Shape) → senv.find_object o ≡ None
-    → made ≡ effect same_object senv (Create o domain shape) → freed ≡ without_object same_object made o → freed ≡ senv
-unfolding effect
-gone_again senv made freed o domain shape unused is left =
+pub gone_again : (senv made freed : Environment Obj) (o : Obj) (object : Object) → senv.find_object o ≡ None
+    → made ≡ with_object same_object senv o object (senv.count + 1) → freed ≡ without_object same_object made o → freed ≡ senv
+gone_again senv made freed o object unused is left =
     left ∙ ap (λ (env : Environment Obj). without_object same_object env o) is
-    ∙ environments_equal (without_object same_object (with_object same_object senv o (empty_object domain shape) (senv.count + 1)) o) senv
+    ∙ environments_equal (without_object same_object (with_object same_object senv o object (senv.count + 1)) o) senv
     (λ q. elim (cases_Bool (o.0 == q.0)) [
       | inl same ↦ let one : o ≡ q = same_number o q (eqb-true o.0 q.0 same) in rw same (sym (rw one at unused))
       | inr apart ↦ rw apart refl
@@ -163,13 +161,65 @@ pub get_by_text-unchanged : {X Y : Type 0} (old new : BTreeMap (String Y) X) (na
 get_by_text-unchanged {X = X} {Y = Y} old new name same = ap (λ (es : List (String Y × X)). lookup (is_at (λ k. slice_cmp nat_cmp name (string_bytes k))) es) same
 
 -- ..whatever freeing it said, since it was there
-pub freed_again : {T : Type 0} (result : Result T Status) (senv made freed : Environment Obj) (o : Obj) (domain : Domain) (shape : Shape) → senv.find_object o ≡ None
-    → made ≡ effect same_object senv (Create o domain shape)
+pub freed_again : {T : Type 0} (result : Result T Status) (senv made freed : Environment Obj) (o : Obj) (object : Object) → senv.find_object o ≡ None
+    → made ≡ with_object same_object senv o object (senv.count + 1)
     → MatchResult result (λ x. is_some (made.find_object o) ≡ true) (λ s. (s ≡ status.UninitializedObject) × (made.find_object o ≡ None))
     → OnOk result (freed ≡ without_object same_object made o) → OnErr result (freed ≡ made) → freed ≡ senv
+freed_again (Ok x) senv made freed o object unused is there left kept = gone_again senv made freed o object unused is left
+freed_again (Err s) senv made freed o object unused is there left kept =
+    let here : (with_object same_object senv o object (senv.count + 1)).find_object o ≡ Some object = rw (own_number o.0) refl in
+    let found : made.find_object o ≡ Some object = ap (λ (env : Environment Obj). env.find_object o) is ∙ here in
+    absurd (let e : None ≡ Some object = sym there.1 ∙ found in cc)
+
+-- ---- what is made
+
+pub create-makes : (senv made : Environment Obj) (o : Obj) (domain : Domain) (shape : Shape) → made ≡ effect same_object senv (Create o domain shape)
+    → made ≡ with_object same_object senv o (empty_object domain shape) (senv.count + 1)
 unfolding effect
-freed_again (Ok x) senv made freed o domain shape unused is there left kept = gone_again senv made freed o domain shape unused is left
-freed_again (Err s) senv made freed o domain shape unused is there left kept =
-    let here : (with_object same_object senv o (empty_object domain shape) (senv.count + 1)).find_object o ≡ Some (empty_object domain shape) = rw (own_number o.0) refl in
-    let found : made.find_object o ≡ Some (empty_object domain shape) = ap (λ (env : Environment Obj). env.find_object o) is ∙ here in
-    absurd (let e : None ≡ Some (empty_object domain shape) = sym there.1 ∙ found in cc)
+create-makes senv made o domain shape is = is
+
+pub dup-makes : (senv made : Environment Obj) (o from : Obj) → made ≡ effect same_object senv (Dup o from)
+    → made ≡ with_object same_object senv o (object_at senv from) (senv.count + 1)
+unfolding effect
+dup-makes senv made o from is = is
+
+-- ---- copies under a name
+
+taken_copy : (count : ℕ) (taken : Bool) (from : Option Object) → taken ≡ true → fault_of count (Dup taken from) ≡ Some status.NameTaken
+unfolding early_fault
+taken_copy count taken from h = rw h refl
+
+pub dup-taken : (number : Name → Option Obj) (senv : Environment Obj) (name from : Name)
+    → ((n : Name) (o : Obj) → number n ≡ Some o → is_some (senv.find_object o) ≡ true) → is_some (number name) ≡ true
+    → fault_of senv.count (seen (through number senv) (Dup name from)) ≡ Some status.NameTaken
+dup-taken number senv name from there taken =
+    taken_copy senv.count (is_some (option_and_then senv.find_object (number name))) (option_and_then senv.find_object (number from)) (there_through number senv (number name) (there name) taken)
+
+copy_of_none : (count : ℕ) (taken : Bool) → taken ≡ false → fault_of count (Dup taken None) ≡ Some status.UninitializedObject
+unfolding early_fault
+copy_of_none count taken h = rw h refl
+
+pub dup-missing : (number : Name → Option Obj) (senv : Environment Obj) (name from : Name) → is_some (number name) ≡ false → number from ≡ None
+    → fault_of senv.count (seen (through number senv) (Dup name from)) ≡ Some status.UninitializedObject
+dup-missing number senv name from free none =
+    ap (λ (found : Option Obj). fault_of senv.count (Dup (is_some (option_and_then senv.find_object (number name))) (option_and_then senv.find_object found))) none
+    ∙ copy_of_none senv.count (is_some (option_and_then senv.find_object (number name))) (free_name senv (number name) free)
+
+-- where the name is free, and the other stands for an object, the fault is the session's
+pub dup-fault : (number : Name → Option Obj) (session : Session) (name from : Name) (q : Obj) → made_in session < 2 ^ 64 - 1 → is_some (number name) ≡ false → number from ≡ Some q
+    → fault_of (environment_of session).count (seen (through number (environment_of session)) (Dup name from)) ≡ fault_in session (Dup (next_object session) q)
+dup-fault number session name from q small free is =
+    let senv = environment_of session in
+    ap (λ taken. fault_of senv.count (Dup taken (option_and_then senv.find_object (number from)))) (free_name senv (number name) free)
+    ∙ ap (λ (found : Option Obj). fault_of senv.count (Dup false (option_and_then senv.find_object found))) is
+    ∙ ap (λ (n : ℕ). fault_of n (Dup false (senv.find_object q))) (sym (count-left session small))
+
+pub dup-effect : (number new : Name → Option Obj) (senv made : Environment Obj) (name from : Name) (o q : Obj)
+    → ((n : Name) → new n ≡ cond (bytes_eq name n) (Some o) (number n))
+    → ((n : Name) (p : Obj) → number n ≡ Some p → is_some (senv.find_object p) ≡ true) → senv.find_object o ≡ None → number from ≡ Some q
+    → made ≡ effect same_object senv (Dup o q)
+    → through new made ≡ effect bytes_eq (through number senv) (Dup name from)
+unfolding effect
+dup-effect number new senv made name from o q adds there unused stands is =
+    ap (through new) is ∙ created number new senv name o (object_at senv q) (senv.count + 1) adds there unused
+    ∙ ap (λ (found : Option Obj). with_object bytes_eq (through number senv) name (found_object (option_and_then senv.find_object found)) (senv.count + 1)) (sym stands)

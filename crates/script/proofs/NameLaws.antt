@@ -9,18 +9,20 @@ use Rattle.std.proofs.lemmas.Slice.Eq.{bytes_eq-Decides}
 use Rattle.calls.specs.Checks.{known_call}
 use Rattle.calls.specs.declared.obj.Obj.{Obj}
 use Rattle.model.specs.declared.call.Call.{Call}
-use Rattle.model.specs.declared.call.Call.TheVariants.{Create, Free, Clear, Set, Remove, Get, Nvals, Print, Reduce, Operate}
+use Rattle.model.specs.declared.call.Call.TheVariants.{Create, Dup, Free, Clear, Resize, Build, Set, Remove, Get, Nvals, Print, Reduce, Operate}
 use Rattle.model.specs.declared.call.Operation.{Operation}
-use Rattle.model.specs.declared.call.Operation.TheVariants.{OfOne, OfTwo}
+use Rattle.model.specs.declared.call.Operation.TheVariants.{Fill, OfOne, OfTwo}
 use Rattle.model.specs.declared.call.Out.{Out}
 use Rattle.model.specs.declared.shape.Signature.{Signature}
 use Rattle.model.specs.declared.status.Status.TheVariants as status
-use Rattle.model.specs.Fault.{are_there, early_fault, fault_of, found_object}
+use Rattle.algebra.specs.Value.{word_of}
+use Rattle.model.specs.Builds.{built}
+use Rattle.model.specs.Fault.{are_there, early_fault, fault_of, found_object, no_object}
 use Rattle.model.specs.Grammar.{Name}
-use Rattle.model.specs.Object.{Object, signature_of}
+use Rattle.model.specs.Object.{Object, col_of, no_content, row_of, signature_of, with_entry, without_entry}
 use Rattle.model.specs.Renamed.{inputs_of, objects_of, output_of, outputs_of, renamed, renamed_operation, renamed_out}
-use Rattle.model.specs.Run.{Environment, data_lines_of, effect, object_at, on_objects, seen, with_content, with_object}
-use Rattle.model.specs.WriteBack.{left_by, result_of}
+use Rattle.model.specs.Run.{Environment, data_lines_of, effect, object_at, on_objects, resized, seen, with_object}
+use Rattle.model.specs.WriteBack.{result_of}
 use Rattle.model.proofs.EnvironmentLaws.{environments_equal}
 use Rattle.model.proofs.RenamedLaws.{renamed_twice}
 use Rattle.script.specs.Named.{changes_names, through}
@@ -38,8 +40,11 @@ along {L = L} {A = A} number h k call r e =
 
 seen-unmade : {K : Type 0} (env : Environment K) (call : Call K K) → changes_names call ≡ false → seen env call ≡ renamed env.find_object (λ name. false) call
 seen-unmade env (Create name domain shape) h = absurd (true≢false h)
+seen-unmade env (Dup name o) h = absurd (true≢false h)
 seen-unmade env (Free o) h = refl
 seen-unmade env (Clear o) h = refl
+seen-unmade env (Resize o shape) h = refl
+seen-unmade env (Build o dup tuples) h = refl
 seen-unmade env (Set o p value) h = refl
 seen-unmade env (Remove o p) h = refl
 seen-unmade env (Get o p) h = refl
@@ -69,6 +74,10 @@ fault-along number session call r small known e =
 -- ---- a name that stands for nothing
 
 there_renamed-out : {K X : Type 0} (f : K → Option X) (out : Out K) (operation : Operation K) → list_all is_some (outputs_of (renamed_out f out) ++ inputs_of (renamed_operation f operation)) ≡ list_all (λ k. is_some (f k)) (outputs_of out ++ inputs_of operation)
+there_renamed-out {K = K} f out (Fill value region) =
+    elim out.mask as (λ (mask : Option K). let o : Out K = record out { mask = mask } in
+    list_all is_some (outputs_of (renamed_out f o) ++ inputs_of (renamed_operation f (Fill value region))) ≡ list_all (λ k. is_some (f k)) (outputs_of o ++ inputs_of (Fill value region)))
+    [ None ↦ refl | Some m ↦ refl ]
 there_renamed-out {K = K} f out (OfOne computes a) =
     elim out.mask as (λ (mask : Option K). let o : Out K = record out { mask = mask } in
     list_all is_some (outputs_of (renamed_out f o) ++ inputs_of (renamed_operation f (OfOne computes a))) ≡ list_all (λ k. is_some (f k)) (outputs_of o ++ inputs_of (OfOne computes a)))
@@ -80,8 +89,11 @@ there_renamed-out {K = K} f out (OfTwo computes a b) =
 
 pub there_renamed : {K X A B : Type 0} (f : K → Option X) (k : A → B) (call : Call K A) → are_there (renamed f k call) ≡ list_all (λ name. is_some (f name)) (objects_of call)
 there_renamed f k (Create name domain shape) = refl
+there_renamed f k (Dup name o) = refl
 there_renamed f k (Free o) = refl
 there_renamed f k (Clear o) = refl
+there_renamed f k (Resize o shape) = refl
+there_renamed f k (Build o dup tuples) = refl
 there_renamed f k (Set o p value) = refl
 there_renamed f k (Remove o p) = refl
 there_renamed f k (Get o p) = refl
@@ -107,8 +119,11 @@ fewer {X = X} {Y = Y} f g (name ∷ names) none h =
 early-missing : (count : ℕ) (call : Call (Option Signature) Bool) → changes_names call ≡ false → are_there call ≡ false → early_fault count call ≡ Some status.UninitializedObject
 unfolding early_fault
 early-missing count (Create name domain shape) known h = absurd (true≢false known)
+early-missing count (Dup name o) known h = absurd (true≢false known)
 early-missing count (Free o) known h = rw h refl
 early-missing count (Clear o) known h = rw h refl
+early-missing count (Resize o shape) known h = rw h refl
+early-missing count (Build o dup tuples) known h = rw h refl
 early-missing count (Set o p value) known h = rw h refl
 early-missing count (Remove o p) known h = rw h refl
 early-missing count (Get o p) known h = rw h refl
@@ -119,8 +134,11 @@ early-missing count (Operate out operation) known h = rw h refl
 
 pub names_renamed : {K L A B : Type 0} (f : K → L) (k : A → B) (call : Call K A) → changes_names (renamed f k call) ≡ changes_names call
 names_renamed f k (Create name domain shape) = refl
+names_renamed f k (Dup name o) = refl
 names_renamed f k (Free o) = refl
 names_renamed f k (Clear o) = refl
+names_renamed f k (Resize o shape) = refl
+names_renamed f k (Build o dup tuples) = refl
 names_renamed f k (Set o p value) = refl
 names_renamed f k (Remove o p) = refl
 names_renamed f k (Get o p) = refl
@@ -156,18 +174,36 @@ own_mask None = refl
 own_mask (Some k) = refl
 
 own_operation : {K : Type 0} (operation : Operation K) → renamed_operation (λ k. k) operation ≡ operation
+own_operation (Fill value region) = refl
 own_operation (OfOne computes a) = refl
 own_operation (OfTwo computes a b) = refl
 
 pub own_number : (n : ℕ) → (n == n) ≡ true
 own_number n = grind (arith, nat_tests)
 
+-- the object under which a call puts another, and what it puts there
+abbrev pub put_to : {K N : Type 0} → Call K N → Option K
+put_to (Resize o shape) = Some o
+put_to call = output_of call
+
+abbrev pub put_by : {N : Type 0} → Call Object N → Object
+put_by (Resize o shape) = resized o shape
+put_by (Clear o) = record o { content = no_content }
+put_by (Build o dup tuples) = record o { content = built dup o.domain tuples }
+put_by (Set o p value) = record o { content = with_entry o.content (row_of p) (col_of p) (word_of o.domain value) }
+put_by (Remove o p) = record o { content = without_entry o.content (row_of p) (col_of p) }
+put_by (Operate out operation) = record out.c { content = result_of out operation }
+put_by _ = no_object
+
 pub effect-unmade : {K : Type 0} (same : K → K → Bool) (env : Environment K) (call : Call K K) → changes_names call ≡ false
-    → effect same env call ≡ option_map_or (λ name. with_content same env name (left_by (on_objects env call))) (output_of call) env
+    → effect same env call ≡ option_map_or (λ name. with_object same env name (put_by (on_objects env call)) env.count) (put_to call) env
 unfolding effect
 effect-unmade same env (Create name domain shape) h = absurd (true≢false h)
+effect-unmade same env (Dup name o) h = absurd (true≢false h)
 effect-unmade same env (Free o) h = absurd (true≢false h)
 effect-unmade same env (Clear o) h = refl
+effect-unmade same env (Resize o shape) h = refl
+effect-unmade same env (Build o dup tuples) h = refl
 effect-unmade same env (Set o p value) h = refl
 effect-unmade same env (Remove o p) h = refl
 effect-unmade same env (Get o p) h = refl
@@ -176,22 +212,28 @@ effect-unmade same env (Print o) h = refl
 effect-unmade same env (Reduce o monoid) h = refl
 effect-unmade same env (Operate out operation) h = refl
 
-pub output_renamed : {K L A B : Type 0} (f : K → L) (k : A → B) (call : Call K A) → output_of (renamed f k call) ≡ option_map f (output_of call)
-output_renamed f k (Create name domain shape) = refl
-output_renamed f k (Free o) = refl
-output_renamed f k (Clear o) = refl
-output_renamed f k (Set o p value) = refl
-output_renamed f k (Remove o p) = refl
-output_renamed f k (Get o p) = refl
-output_renamed f k (Nvals o) = refl
-output_renamed f k (Print o) = refl
-output_renamed f k (Reduce o monoid) = refl
-output_renamed f k (Operate out operation) = refl
+pub put_renamed : {K L A B : Type 0} (f : K → L) (k : A → B) (call : Call K A) → put_to (renamed f k call) ≡ option_map f (put_to call)
+put_renamed f k (Create name domain shape) = refl
+put_renamed f k (Dup name o) = refl
+put_renamed f k (Free o) = refl
+put_renamed f k (Clear o) = refl
+put_renamed f k (Resize o shape) = refl
+put_renamed f k (Build o dup tuples) = refl
+put_renamed f k (Set o p value) = refl
+put_renamed f k (Remove o p) = refl
+put_renamed f k (Get o p) = refl
+put_renamed f k (Nvals o) = refl
+put_renamed f k (Print o) = refl
+put_renamed f k (Reduce o monoid) = refl
+put_renamed f k (Operate out operation) = refl
 
-pub left_renamed : {A B : Type 0} (k : A → B) (call : Call Object A) → left_by (renamed (λ o. o) k call) ≡ left_by call
+pub left_renamed : {A B : Type 0} (k : A → B) (call : Call Object A) → put_by (renamed (λ o. o) k call) ≡ put_by call
 left_renamed k (Create name domain shape) = refl
+left_renamed k (Dup name o) = refl
 left_renamed k (Free o) = refl
 left_renamed k (Clear o) = refl
+left_renamed k (Resize o shape) = refl
+left_renamed k (Build o dup tuples) = refl
 left_renamed k (Set o p value) = refl
 left_renamed k (Remove o p) = refl
 left_renamed k (Get o p) = refl
@@ -199,14 +241,17 @@ left_renamed k (Nvals o) = refl
 left_renamed k (Print o) = refl
 left_renamed k (Reduce o monoid) = refl
 left_renamed k (Operate out operation) =
-    ap (λ (mask : Option Object). let o : Out Object = record { c = out.c; mask = mask; accum = out.accum; desc = out.desc } in result_of o (renamed_operation (λ o. o) operation)) (own_mask out.mask)
-    ∙ ap (λ (o : Operation Object). result_of out o) (own_operation operation)
+    ap (λ (mask : Option Object). let o : Out Object = record { c = out.c; mask = mask; accum = out.accum; desc = out.desc } in let left : Object = record out.c { content = result_of o (renamed_operation (λ o. o) operation) } in left) (own_mask out.mask)
+    ∙ ap (λ (o : Operation Object). let left : Object = record out.c { content = result_of out o } in left) (own_operation operation)
 
 pub data_renamed : {A B : Type 0} (k : A → B) (call : Call Object A) → data_lines_of (renamed (λ o. o) k call) ≡ data_lines_of call
 unfolding data_lines_of
 data_renamed k (Create name domain shape) = refl
+data_renamed k (Dup name o) = refl
 data_renamed k (Free o) = refl
 data_renamed k (Clear o) = refl
+data_renamed k (Resize o shape) = refl
+data_renamed k (Build o dup tuples) = refl
 data_renamed k (Set o p value) = refl
 data_renamed k (Remove o p) = refl
 data_renamed k (Get o p) = refl

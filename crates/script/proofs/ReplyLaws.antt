@@ -7,18 +7,17 @@ use Rattle.std.specs.Str.{bytes_eq}
 use Rattle.std.proofs.lemmas.Bool.{true≢false}
 use Rattle.calls.specs.declared.obj.Obj.{Obj}
 use Rattle.model.specs.declared.call.Call.{Call}
-use Rattle.model.specs.declared.call.Call.TheVariants.{Create, Free, Clear, Set, Remove, Get, Nvals, Print, Reduce, Operate}
+use Rattle.model.specs.declared.call.Call.TheVariants.{Create, Dup, Free, Clear, Resize, Build, Set, Remove, Get, Nvals, Print, Reduce, Operate}
 use Rattle.model.specs.declared.status.Status.{Status}
 use Rattle.model.specs.declared.status.Status.TheVariants as status
 use Rattle.model.specs.Fault.{are_there, fault_of}
 use Rattle.model.specs.Grammar.{Name}
-use Rattle.model.specs.Object.{Content, Object}
-use Rattle.model.specs.Renamed.{output_of, renamed}
-use Rattle.model.specs.Run.{Environment, data_lines_of, effect, object_at, on_objects, seen, with_content}
+use Rattle.model.specs.Object.{Object}
+use Rattle.model.specs.Renamed.{renamed}
+use Rattle.model.specs.Run.{with_object, Environment, data_lines_of, effect, object_at, on_objects, seen}
 use Rattle.model.specs.Text.{canonical_lines}
-use Rattle.model.specs.WriteBack.{left_by}
 use Rattle.model.proofs.RenamedLaws.{renamed_twice}
-use Rattle.script.proofs.NameLaws.{AreDistinct, names_renamed, data_renamed, effect-unmade, fault-along, fault-missing, left_renamed, on_objects-along, output_renamed, place-along, there_renamed}
+use Rattle.script.proofs.NameLaws.{AreDistinct, data_renamed, effect-unmade, fault-along, fault-missing, left_renamed, names_renamed, on_objects-along, place-along, put_by, put_renamed, put_to, there_renamed}
 use Rattle.script.specs.declared.names.Names.{Names}
 use Rattle.script.specs.Named.{Asks, HasLines, environment_in, changes_names, number_in, reply_lines, through}
 use Rattle.script.specs.Replied.{IsReplied}
@@ -55,15 +54,14 @@ own_option : {K : Type 0} (o : Option K) → option_map (λ k. k) o ≡ o
 own_option None = refl
 own_option (Some k) = refl
 
-placed : (number : Name → Option Obj) (senv : Environment Obj) (content : Content) (found : Option Name) (made : Option Obj) → AreDistinct number → option_map Some made ≡ option_map number found
-    → through number (option_map_or (λ o. with_content same_object senv o content) made senv)
-    ≡ option_map_or (λ name. with_content bytes_eq (through number senv) name content) found (through number senv)
-placed number senv content None None distinct e = refl
-placed number senv content None (Some o) distinct e = absurd (cc)
-placed number senv content (Some name) None distinct e = absurd (cc)
-placed number senv content (Some name) (Some o) distinct e =
-    let is : number name ≡ Some o = cc in
-    place-along number senv name o (record (object_at senv o) { content = content }) senv.count distinct is ∙ rw is refl
+placed : (number : Name → Option Obj) (senv : Environment Obj) (object : Object) (found : Option Name) (made : Option Obj) → AreDistinct number → option_map Some made ≡ option_map number found
+    → through number (option_map_or (λ o. with_object same_object senv o object senv.count) made senv)
+    ≡ option_map_or (λ name. with_object bytes_eq (through number senv) name object senv.count) found (through number senv)
+placed number senv object None None distinct e = refl
+placed number senv object None (Some o) distinct e = absurd (cc)
+placed number senv object (Some name) None distinct e = absurd (cc)
+placed number senv object (Some name) (Some o) distinct e =
+    let is : number name ≡ Some o = cc in place-along number senv name o object senv.count distinct is
 
 pub effect-along : (number : Name → Option Obj) (session : Session) (new : Environment Obj) (call : Call Name Name) (r : Call Obj Name) → changes_names call ≡ false → AreDistinct number
     → renamed Some (λ n. n) r ≡ renamed number (λ n. n) call → new ≡ effect same_object (environment_of session) (numbered session r)
@@ -72,14 +70,14 @@ effect-along number session new call r known distinct e is =
     let senv = environment_of session in
     let env = through number senv in
     let r' = numbered session r in
-    let left : left_by (on_objects env call) ≡ left_by (on_objects senv r') = objects_along left_by left_by left_renamed number session call r e in
-    let outputs : option_map Some (output_of r) ≡ option_map number (output_of call) =
-    sym (output_renamed Some (λ n. n) r) ∙ ap output_of e ∙ output_renamed number (λ n. n) call in
-    let own : output_of r' ≡ output_of r = output_renamed (λ (o : Obj). o) (λ (n : Name). record { 0 = session.next }) r ∙ own_option (output_of r) in
+    let left : put_by (on_objects env call) ≡ put_by (on_objects senv r') = objects_along put_by put_by left_renamed number session call r e in
+    let outputs : option_map Some (put_to r) ≡ option_map number (put_to call) =
+    sym (put_renamed Some (λ n. n) r) ∙ ap put_to e ∙ put_renamed number (λ n. n) call in
+    let own : put_to r' ≡ put_to r = put_renamed (λ (o : Obj). o) (λ (n : Name). record { 0 = session.next }) r ∙ own_option (put_to r) in
     ap (through number) (is ∙ effect-unmade same_object senv r' (known_along number session call r known e)
-    ∙ ap (λ (o : Option Obj). option_map_or (λ o. with_content same_object senv o (left_by (on_objects senv r'))) o senv) own)
-    ∙ placed number senv (left_by (on_objects senv r')) (output_of call) (output_of r) distinct outputs
-    ∙ ap (λ (c : Content). option_map_or (λ name. with_content bytes_eq env name c) (output_of call) env) (sym left)
+    ∙ ap (λ (o : Option Obj). option_map_or (λ o. with_object same_object senv o (put_by (on_objects senv r')) senv.count) o senv) own)
+    ∙ placed number senv (put_by (on_objects senv r')) (put_to call) (put_to r) distinct outputs
+    ∙ ap (λ (x : Object). option_map_or (λ name. with_object bytes_eq env name x env.count) (put_to call) env) (sym left)
     ∙ sym (effect-unmade bytes_eq env call known)
 
 -- an object that is there stays
@@ -87,15 +85,15 @@ stays_put : (test : Bool) (x : Object) (o : Option Object) → is_some o ≡ tru
 stays_put true x o h = refl
 stays_put false x o h = h
 
-stays_in : (senv : Environment Obj) (content : Content) (made : Option Obj) (q : Obj) → is_some (senv.find_object q) ≡ true
-    → is_some ((option_map_or (λ o. with_content same_object senv o content) made senv).find_object q) ≡ true
-stays_in senv content None q h = h
-stays_in senv content (Some o) q h = stays_put (same_object o q) (record (object_at senv o) { content = content }) (senv.find_object q) h
+stays_in : (senv : Environment Obj) (object : Object) (made : Option Obj) (q : Obj) → is_some (senv.find_object q) ≡ true
+    → is_some ((option_map_or (λ o. with_object same_object senv o object senv.count) made senv).find_object q) ≡ true
+stays_in senv object None q h = h
+stays_in senv object (Some o) q h = stays_put (same_object o q) object (senv.find_object q) h
 
 pub stays : (senv new : Environment Obj) (call : Call Obj Obj) (q : Obj) → changes_names call ≡ false → new ≡ effect same_object senv call → is_some (senv.find_object q) ≡ true → is_some (new.find_object q) ≡ true
 stays senv new call q known is h =
     ap (λ (env : Environment Obj). is_some (env.find_object q)) (is ∙ effect-unmade same_object senv call known)
-    ∙ stays_in senv (left_by (on_objects senv call)) (output_of call) q h
+    ∙ stays_in senv (put_by (on_objects senv call)) (put_to call) q h
 
 -- ---- what it answers
 
@@ -103,9 +101,14 @@ lines_answered : (senv new : Environment Obj) (call : Call Obj Obj) (reply : Rep
     → reply_lines new reply ≡ data_lines_of (on_objects senv call)
 unfolding data_lines_of effect
 lines_answered senv new (Create name domain shape) reply known is answers = absurd (true≢false known)
+lines_answered senv new (Dup name o) reply known is answers = absurd (true≢false known)
 lines_answered senv new (Free o) reply known is answers = absurd (true≢false known)
 lines_answered senv new (Clear o) Done known is answers = refl
 lines_answered senv new (Clear o) _ known is answers = absurd answers
+lines_answered senv new (Resize o shape) Done known is answers = refl
+lines_answered senv new (Resize o shape) _ known is answers = absurd answers
+lines_answered senv new (Build o dup tuples) Done known is answers = refl
+lines_answered senv new (Build o dup tuples) _ known is answers = absurd answers
 lines_answered senv new (Remove o p) Done known is answers = refl
 lines_answered senv new (Remove o p) _ known is answers = absurd answers
 lines_answered senv new (Set o p value) Done known is answers = refl
@@ -143,6 +146,9 @@ reads_answered senv new _ _ is answers has = absurd answers
 made_after-most : {T : Type 0} (old : Session) (result : Result T Status) (call : Call Obj Obj) → made_after old result call ≤ made_in old + 1
 made_after-most old (Err s) call = omega arith
 made_after-most old (Ok x) (Create name domain shape) = omega arith
+made_after-most old (Ok x) (Dup name o) = omega arith
+made_after-most old (Ok x) (Resize o shape) = omega arith
+made_after-most old (Ok x) (Build o dup tuples) = omega arith
 made_after-most old (Ok x) (Free o) = omega arith
 made_after-most old (Ok x) (Clear o) = omega arith
 made_after-most old (Ok x) (Set o p value) = omega arith

@@ -1,5 +1,5 @@
 -- Texts put together from their parts.
-use Rattle.std.proofs.Common.{◌≡◌, ℕ, ◌+◌, ◌<◌, List, [], ◌∷◌, ◌++◌, ◌∙◌, append_assoc, arith, get_or, length, map, subst, take, Result, Ok, Err, OnErr, OnOk}
+use Rattle.std.proofs.Common.{◌≡◌, ℕ, ◌+◌, ◌<◌, List, [], ◌∷◌, ◌++◌, ◌∙◌, append_assoc, arith, get_or, length, map, subst, take, Result, Ok, Err, OnErr, OnOk, is_ok, true}
 use Rattle.std.specs.List.{All, flat_map}
 use Rattle.std.proofs.lemmas.List.{append-nil, get_or_default, map-append, take_more}
 use Rattle.std.proofs.lemmas.List.Concat.{flat_map-append}
@@ -22,6 +22,11 @@ object_text (Err refused) out texted sized written banner size lines e f g = tt
 pub on_err : {T E P : Type 0} (r : Result T E) → P → OnErr r P
 on_err (Ok x) p = tt
 on_err (Err e) p = p
+
+-- what holds on success holds of a success
+pub holds_where_ok : {T E P : Type 0} (r : Result T E) → is_ok r ≡ true → OnOk r P → P
+holds_where_ok (Ok x) ok p = p
+holds_where_ok (Err e) ok p = absurd (cc)
 
 -- the lines of entries behind a text
 abbrev pub lines_of : Domain → List Entry → List ℕ → List ℕ

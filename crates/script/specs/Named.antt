@@ -5,7 +5,7 @@ use Rattle.std.specs.Fmt.{signed_decimal}
 use Rattle.std.specs.Option.{option_and_then}
 use Rattle.calls.specs.declared.obj.Obj.{Obj}
 use Rattle.model.specs.declared.call.Call.{Call}
-use Rattle.model.specs.declared.call.Call.TheVariants.{Create, Free}
+use Rattle.model.specs.declared.call.Call.TheVariants.{Create, Dup, Free}
 use Rattle.model.specs.Grammar.{Name}
 use Rattle.model.specs.Run.{Environment, object_at}
 use Rattle.model.specs.Runs.{State}
@@ -32,6 +32,7 @@ state_in names = record { environment = environment_in names }
 -- the call gives a name to a new object, or takes one away
 abbrev pub changes_names : {K N : Type 0} → Call K N → Bool
 changes_names (Create name domain shape) = true
+changes_names (Dup name object) = true
 changes_names (Free object) = true
 changes_names _ = false
 

@@ -49,44 +49,45 @@ impl Names {
     /// Does a call, and writes the data lines of its answer. An error leaves the objects as they were;
     /// what it leaves at the text's end is no answer.
     #[tactic(auto, unfolding(model::specs::Run::data_lines_of))]
-    pub fn perform(&mut self, call: &Call<&str, &str>, text: &mut Vec<u8>) -> Result<(), Status>
+    pub fn perform(&mut self, call: Call<&str, &str>, text: &mut Vec<u8>) -> Result<(), Status>
         requires { made_in self.old.session < 2 ^ 64 - 1 }
-        ensures { IsAnswered self.old self.new (renamed (λ name. name.now) (λ name. name.now) call.now)
+        ensures { IsAnswered self.old self.new (renamed (λ name. name.now) (λ name. name.now) call.entry)
             text.old.items text.new.items result }
     {
-        match *call {
+        match call {
             Call::Create {
                 name,
                 domain,
                 shape,
             } => self.create(name, domain, shape),
+            Call::Dup { name, object } => self.dup(name, object),
             Call::Free { object } => self.free(object),
-            _ => self.perform_known(call, text),
+            call => self.perform_known(call, text),
         }
     }
 
     /// Does a call on objects that are there, and writes the data lines of its answer.
-    fn perform_known(&mut self, call: &Call<&str, &str>, text: &mut Vec<u8>) -> Result<(), Status>
+    fn perform_known(&mut self, call: Call<&str, &str>, text: &mut Vec<u8>) -> Result<(), Status>
         requires made { made_in self.old.session < 2 ^ 64 - 1 }
-        requires known { changes_names call.now ≡ false }
-        ensures { IsAnswered self.old self.new (renamed (λ name. name.now) (λ name. name.now) call.now)
+        requires known { changes_names call ≡ false }
+        ensures { IsAnswered self.old self.new (renamed (λ name. name.now) (λ name. name.now) call.entry)
             text.old.items text.new.items result }
     {
         let reply = self.reply(call)?;
-        write_reply(&self.session, reply, text)?;
+        write_reply(&mut self.session, reply, text)?;
         Ok(())
     }
 
     /// Does a call on objects that are there, and gives what it answers.
-    fn reply(&mut self, call: &Call<&str, &str>) -> Result<Reply, Status>
+    fn reply(&mut self, call: Call<&str, &str>) -> Result<Reply, Status>
         requires made { made_in self.old.session < 2 ^ 64 - 1 }
-        requires known { changes_names call.now ≡ false }
-        ensures { IsReplied self.old self.new (renamed (λ name. name.now) (λ name. name.now) call.now) result }
+        requires known { changes_names call ≡ false }
+        ensures { IsReplied self.old self.new (renamed (λ name. name.now) (λ name. name.now) call.entry) result }
     {
         let Some(call) = self.resolved(call) else {
             return Err(Status::UninitializedObject);
         };
-        self.session.perform(&call)
+        self.session.perform(call)
     }
 
     /// Makes an object under a new name.
@@ -107,6 +108,32 @@ impl Names {
         if let Err(_) = self.numbers.insert(name, object) {
             // Without room for its name the object goes again.
             let _ = self.session.free(object);
+            return Err(Status::OutOfMemory);
+        }
+        Ok(())
+    }
+
+    /// Makes an object under a new name, with the domain, the shape and the entries of another.
+    fn dup(&mut self, name: &str, object: &str) -> Result<(), Status>
+        requires { made_in self.old.session < 2 ^ 64 - 1 }
+        ensures status { Ends (fault_of (environment_in self.old).count
+            (seen (environment_in self.old) (Call.Dup name.now object.now))) result }
+        ensures effect { OnOk result (environment_in self.new
+            ≡ effect bytes_eq (environment_in self.old) (Call.Dup name.now object.now)) }
+        ensures kept { OnErr result (environment_in self.new ≡ environment_in self.old) }
+        ensures made { made_in self.new.session ≤ made_in self.old.session + 1 }
+    {
+        if self.number(name).is_some() {
+            return Err(Status::NameTaken);
+        }
+        let Some(object) = self.number(object) else {
+            return Err(Status::UninitializedObject);
+        };
+        let name = String::from_str(self.alloc, name)?;
+        let made = self.session.dup(object)?;
+        if let Err(_) = self.numbers.insert(name, made) {
+            // Without room for its name the object goes again.
+            let _ = self.session.free(made);
             return Err(Status::OutOfMemory);
         }
         Ok(())

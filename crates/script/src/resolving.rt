@@ -5,31 +5,38 @@ ghost use Rattle.model.specs.Renamed.{inputs_of, outputs_of, renamed, renamed_op
 ghost use Rattle.calls.specs.Checks.{IsMissing};
 
 use crate::names::Names;
-use algebra::{Domain, MonoidName};
-use model::{Call, Operation, Out, Place, Shape};
+use algebra::{Domain, MonoidName, OpName};
+use model::{Call, Operation, Out, Place, Shape, TupleList};
 use session::Obj;
 
 impl Names {
     ghost use Rattle.script.specs.Named.{number_in};
 
     /// The object of a name.
-    fn number(&self, name: &str) -> Option<Obj>
+    pub(crate) fn number(&self, name: &str) -> Option<Obj>
         ensures { result ≡ number_in self.now name.now }
     {
         self.numbers.get(name).copied()
     }
 
     /// A call on the objects of its names; None where one stands for none.
-    pub fn resolved<'a>(&self, call: &Call<&str, &'a str>) -> Option<Call<Obj, &'a str>>
-        ensures { let found = renamed (λ name. number_in self.now name.now) (λ name. name) call.now in
+    pub fn resolved<'a>(&self, call: Call<&str, &'a str>) -> Option<Call<Obj, &'a str>>
+        ensures { let found = renamed (λ name. number_in self.now name.now) (λ name. name) call.entry in
             MatchOption result (are_there found ≡ false) (λ call. renamed Some (λ name. name) call ≡ found) }
     {
-        let resolved = match *call {
+        let resolved = match call {
             Call::Create {
                 name,
                 domain,
                 shape,
             } => created(name, domain, shape),
+            Call::Dup { name, object } => dup(name, self.number(object)?),
+            Call::Resize { object, shape } => resize(self.number(object)?, shape),
+            Call::Build {
+                object,
+                dup,
+                tuples,
+            } => build(self.number(object)?, dup, tuples),
             Call::Free { object } => Call::Free {
                 object: self.number(object)?,
             },
@@ -41,14 +48,8 @@ impl Names {
                 place,
                 value,
             } => set(self.number(object)?, place, value),
-            Call::Remove { object, place } => Call::Remove {
-                object: self.number(object)?,
-                place,
-            },
-            Call::Get { object, place } => Call::Get {
-                object: self.number(object)?,
-                place,
-            },
+            Call::Remove { object, place } => remove(self.number(object)?, place),
+            Call::Get { object, place } => get(self.number(object)?, place),
             Call::Nvals { object } => Call::Nvals {
                 object: self.number(object)?,
             },
@@ -58,7 +59,7 @@ impl Names {
             Call::Reduce { object, monoid } => reduce(self.number(object)?, monoid),
             Call::Operate { out, operation } => Call::Operate {
                 out: self.resolved_out(&out)?,
-                operation: self.resolved_operation(&operation)?,
+                operation: self.resolved_operation(operation)?,
             },
         };
         Some(resolved)
@@ -81,11 +82,12 @@ impl Names {
         })
     }
 
-    fn resolved_operation(&self, operation: &Operation<&str>) -> Option<Operation<Obj>>
-        ensures { let found = renamed_operation (λ name. number_in self.now name.now) operation.now in
+    fn resolved_operation(&self, operation: Operation<&str>) -> Option<Operation<Obj>>
+        ensures { let found = renamed_operation (λ name. number_in self.now name.now) operation.entry in
             MatchOption result (IsMissing (inputs_of found)) (λ operation. renamed_operation Some operation ≡ found) }
     {
-        match *operation {
+        match operation {
+            Operation::Fill { value, region } => Some(Operation::Fill { value, region }),
             Operation::OfOne { computes, a } => {
                 let a = self.number(a)?;
                 Some(Operation::OfOne { computes, a })
@@ -110,6 +112,24 @@ const fn created<N>(name: N, domain: Domain, shape: Shape) -> Call<Obj, N>
     }
 }
 
+/// A copy of an object.
+const fn dup<K, N>(name: N, object: K) -> Call<K, N>
+    ensures { result ≡ Call.Dup name object }
+{
+    Call::Dup { name, object }
+}
+
+/// An object built of tuples.
+fn build<K, N>(object: K, dup: Option<OpName>, tuples: TupleList) -> Call<K, N>
+    ensures { result ≡ Call.Build object dup tuples }
+{
+    Call::Build {
+        object,
+        dup,
+        tuples,
+    }
+}
+
 /// An entry set in an object.
 const fn set<K, N>(object: K, place: Place, value: i128) -> Call<K, N>
     ensures { result ≡ Call.Set object place value }
@@ -119,6 +139,27 @@ const fn set<K, N>(object: K, place: Place, value: i128) -> Call<K, N>
         place,
         value,
     }
+}
+
+/// Another shape of an object.
+const fn resize<K, N>(object: K, shape: Shape) -> Call<K, N>
+    ensures { result ≡ Call.Resize object shape }
+{
+    Call::Resize { object, shape }
+}
+
+/// An entry removed from an object.
+const fn remove<K, N>(object: K, place: Place) -> Call<K, N>
+    ensures { result ≡ Call.Remove object place }
+{
+    Call::Remove { object, place }
+}
+
+/// An entry asked for.
+const fn get<K, N>(object: K, place: Place) -> Call<K, N>
+    ensures { result ≡ Call.Get object place }
+{
+    Call::Get { object, place }
 }
 
 /// The sum of an object.

@@ -86,7 +86,7 @@ fn answer_line(
         Ok(Line::Silent) => Ok(()),
         Ok(Line::Call(call)) => {
             text::write_status(text, number, Status::Ok)?;
-            match names.perform(&call, text) {
+            match names.perform(call, text) {
                 Ok(()) => Ok(()),
                 Err(status) => {
                     text.clear();

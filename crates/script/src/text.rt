@@ -4,7 +4,7 @@ ghost use Rattle.std.specs.Fmt.{signed_decimal};
 ghost use Rattle.std.specs.List.{All, flat_map};
 ghost use Rattle.model.specs.Entries.{entry_at};
 ghost use Rattle.model.specs.Text.{canonical_lines, ended, entry_line, size_line, status_name, value_text};
-ghost use Rattle.session.specs.Objects.{object_of};
+ghost use Rattle.session.specs.Objects.{stored_object};
 ghost use Rattle.store.specs.Fibers.{entries_along};
 
 use algebra::Domain;
@@ -47,9 +47,9 @@ pub fn write_value_line(out: &mut Vec<u8>, value: i128) -> Result<(), AllocError
     Ok(())
 }
 
-/// Appends an object's canonical text.
+/// Appends the canonical text of an object on which no edits wait.
 pub fn write_object(out: &mut Vec<u8>, held: &Held) -> Result<(), AllocError>
-    ensures { OnOk result (out.new.items ≡ out.old.items ++ flat_map ended (canonical_lines (object_of held.now))) }
+    ensures { OnOk result (out.new.items ≡ out.old.items ++ flat_map ended (canonical_lines (stored_object held.now))) }
 {
     let store = &held.store;
     out.extend_from_slice(BANNER)?;

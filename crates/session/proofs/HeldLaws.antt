@@ -1,42 +1,126 @@
 -- Objects in which a value was set, or from which one was removed.
-use Rattle.std.proofs.Common.{◌≡◌, ◌∙◌, ℕ, true, Result, Ok, Err, refl, ap}
-use Rattle.std.specs.Prelude.{OnErr, OnOk, ℤ}
+use Rattle.std.proofs.Common.{◌≡◌, ◌∙◌, ℕ, ◌==◌, not, arith, ◌∷◌, ◌++◌, [], false, true, List, length, Option, Result, Ok, Err, refl, sym, subst, ap}
+use Rattle.std.specs.Prelude.{ℤ, ◌<◌, OnErr, OnOk}
+use Rattle.std.specs.List.{All}
+use Rattle.std.proofs.lemmas.Bool.{ne_eqb}
+use Rattle.std.proofs.lemmas.List.Elements.{All-push, All-weaker}
+use Rattle.std.proofs.lemmas.List.Sums.{fold-append}
 use Rattle.algebra.specs.declared.domain.Domain.{Domain}
-use Rattle.algebra.specs.Value.{word_of}
+use Rattle.algebra.specs.Value.{is_value_of, word_of}
 use Rattle.model.specs.declared.shape.Place.{Place}
 use Rattle.model.specs.declared.shape.Shape.{Shape}
-use Rattle.model.specs.Object.{Content, IsObject, Object, col_of, is_inside, row_of, with_entry, without_entry}
-use Rattle.model.proofs.ObjectLaws.{objects_equal, removed-is_object, set-is_object}
-use Rattle.session.specs.Objects.{with_value, without_value}
+use Rattle.algebra.specs.declared.operator_names.OpName.{OpName}
+use Rattle.model.specs.declared.tuples.Tuple.{Tuple}
+use Rattle.model.specs.Builds.{built}
+use Rattle.model.specs.Entries.{entries_of}
+use Rattle.model.specs.Fault.{has_entries}
+use Rattle.model.specs.Object.{Content, IsObject, Object, col_of, cols_of, is_inside, row_of, rows_of}
+use Rattle.model.specs.Regions.{cut_to}
+use Rattle.model.specs.Run.{resized}
+use Rattle.model.proofs.BuildLaws.{built-is_object}
+use Rattle.model.proofs.ObjectLaws.{objects_equal, set-is_object}
+use Rattle.model.proofs.RegionLaws.{cut_to-within, cut_to-words}
+use Rattle.patch.specs.declared.edits.Edit.{Edit}
+use Rattle.patch.specs.declared.edits.Edit.TheVariants.{Set, Remove}
+use Rattle.patch.specs.Edits.{IsInside, edited, edited_once, place_of}
+use Rattle.session.proofs.SessionLaws.{BuildsOn}
+use Rattle.session.specs.declared.held.Held.{Held}
+use Rattle.session.specs.Waiting.{AreInside}
+use Rattle.session.specs.Objects.{object_of, stored_object, with_value, without_value}
+use Rattle.store.specs.Stored.{content_of}
 
--- the object is still one, whether or not there was memory for the value
-pub held-set : {T E : Type 0} (r : Result T E) (domain : Domain) (shape : Shape) (old new : Content) (p : Place) (value : ℤ) (word : ℕ)
-    → (let o : Object = record { domain = domain; shape = shape; content = old } in IsObject o) → is_inside p shape ≡ true → word ≡ word_of domain value
-    → OnOk r ((i j : ℕ) → new i j ≡ with_entry old (row_of p) (col_of p) word i j) → OnErr r ((i j : ℕ) → new i j ≡ old i j)
-    → let o : Object = record { domain = domain; shape = shape; content = new } in IsObject o
-held-set (Ok x) domain shape old new p value word is inside named set kept =
-    let before : Object = record { domain = domain; shape = shape; content = old } in
-    let after : Object = record { domain = domain; shape = shape; content = new } in
-    let same : after ≡ with_value before p value =
-    objects_equal after (with_value before p value) refl refl (λ i j. set i j ∙ ap (λ w. with_entry old (row_of p) (col_of p) w i j) named) in
-    rw same (set-is_object before p value is inside)
-held-set (Err e) domain shape old new p value word is inside named set kept =
-    let before : Object = record { domain = domain; shape = shape; content = old } in
-    let after : Object = record { domain = domain; shape = shape; content = new } in
-    let same : after ≡ before = objects_equal after before refl refl kept in
-    rw same is
+-- ---- edits that wait
 
--- the object without an entry is still one
-pub held-removed : (domain : Domain) (shape : Shape) (old new : Content) (p : Place)
-    → (let o : Object = record { domain = domain; shape = shape; content = old } in IsObject o)
-    → ((i j : ℕ) → new i j ≡ without_entry old (row_of p) (col_of p) i j)
-    → let o : Object = record { domain = domain; shape = shape; content = new } in IsObject o
-held-removed domain shape old new p is removed =
-    let before : Object = record { domain = domain; shape = shape; content = old } in
-    let after : Object = record { domain = domain; shape = shape; content = new } in
-    let same : after ≡ without_value before p = objects_equal after (without_value before p) refl refl removed in
-    rw same (removed-is_object before p is)
+-- one more edit is done last
+edited-pushed : (es : List Edit) (e : Edit) (c : Content) → edited (es ++ e ∷ []) c ≡ edited_once (edited es c) e
+edited-pushed es e c = fold-append edited_once c es (e ∷ [])
 
-pub on_err_pointwise : {T E : Type 0} {S : Type 0} (r : Result T E) (content : S → Content) (old new : S) → OnErr r (new ≡ old) → OnErr r ((i j : ℕ) → content new i j ≡ content old i j)
-on_err_pointwise (Ok x) content old new same = tt
-on_err_pointwise (Err e) content old new same = λ i j. ap (λ s. content s i j) same
+-- the object with a value set last
+pub set-last : (domain : Domain) (shape : Shape) (es : List Edit) (c : Content) (p : Place) (value : ℤ) (i j word : ℕ) → i ≡ row_of p → j ≡ col_of p → word ≡ word_of domain value
+    → (let o : Object = record { domain = domain; shape = shape; content = edited es c } in
+    let new : Object = record { domain = domain; shape = shape; content = edited (es ++ Set i j word ∷ []) c } in new ≡ with_value o p value)
+set-last domain shape es c p value i j word row col named =
+    ap (λ (d : Content). let new : Object = record { domain = domain; shape = shape; content = d } in new) (edited-pushed es (Set i j word) c ∙ rw (row, col, named) refl)
+
+-- the object with an entry removed last
+pub removed-last : (domain : Domain) (shape : Shape) (es : List Edit) (c : Content) (p : Place) (i j : ℕ) → i ≡ row_of p → j ≡ col_of p
+    → (let o : Object = record { domain = domain; shape = shape; content = edited es c } in
+    let new : Object = record { domain = domain; shape = shape; content = edited (es ++ Remove i j ∷ []) c } in new ≡ without_value o p)
+removed-last domain shape es c p i j row col =
+    ap (λ (d : Content). let new : Object = record { domain = domain; shape = shape; content = d } in new) (edited-pushed es (Remove i j) c ∙ rw (row, col) refl)
+
+-- what is held is an object also with one more edit, whether or not there was memory for it
+pub pushed-inside : {T E : Type 0} (r : Result T E) (es new : List Edit) (rows cols : ℕ) (e : Edit) → OnOk r (new ≡ es ++ e ∷ []) → OnErr r (new ≡ es)
+    → (place_of e).0 < rows → (place_of e).1 < cols → AreInside rows cols es → AreInside rows cols new
+pushed-inside (Ok x) es new rows cols e pushed kept row col inside = subst (AreInside rows cols) (sym pushed) (All-push (λ f. ((place_of f).0 < rows) × ((place_of f).1 < cols)) es e inside (row, col))
+pushed-inside (Err x) es new rows cols e pushed kept row col inside = subst (AreInside rows cols) (sym kept) inside
+
+pub pushed-set : {T E : Type 0} (r : Result T E) (domain : Domain) (shape : Shape) (es new : List Edit) (c : Content) (p : Place) (value : ℤ) (i j word : ℕ)
+    → OnOk r (new ≡ es ++ Set i j word ∷ []) → OnErr r (new ≡ es) → i ≡ row_of p → j ≡ col_of p → word ≡ word_of domain value → is_inside p shape ≡ true → is_value_of domain value ≡ true
+    → (let o : Object = record { domain = domain; shape = shape; content = edited es c } in IsObject o) → let o : Object = record { domain = domain; shape = shape; content = edited new c } in IsObject o
+pushed-set (Ok x) domain shape es new c p value i j word pushed kept row col named inside valued is =
+    let o : Object = record { domain = domain; shape = shape; content = edited es c } in
+    rw (pushed, set-last domain shape es c p value i j word row col named) (set-is_object o p value is inside)
+pushed-set (Err x) domain shape es new c p value i j word pushed kept row col named inside valued is = rw kept is
+
+-- what is held is the same where its edits mean the same of its store
+pub same-meaning : (domain : Domain) (shape : Shape) (es fs : List Edit) (c d : Content) → ((i j : ℕ) → edited es c i j ≡ edited fs d i j)
+    → (let old : Object = record { domain = domain; shape = shape; content = edited fs d } in
+    let new : Object = record { domain = domain; shape = shape; content = edited es c } in new ≡ old)
+same-meaning domain shape es fs c d same =
+    let old : Object = record { domain = domain; shape = shape; content = edited fs d } in
+    let new : Object = record { domain = domain; shape = shape; content = edited es c } in
+    objects_equal new old refl refl same
+
+inside_by_place : (rows cols : ℕ) (e : Edit) → ((place_of e).0 < rows) × ((place_of e).1 < cols) → IsInside rows cols e
+inside_by_place rows cols (Set i j word) is = is
+inside_by_place rows cols (Remove i j) is = is
+
+place_by_inside : (rows cols : ℕ) (e : Edit) → IsInside rows cols e → ((place_of e).0 < rows) × ((place_of e).1 < cols)
+place_by_inside rows cols (Set i j word) is = is
+place_by_inside rows cols (Remove i j) is = is
+
+-- edits are inside where their positions are
+pub all_inside : (rows cols : ℕ) (es : List Edit) → AreInside rows cols es → All (IsInside rows cols) es
+all_inside rows cols es = All-weaker (λ e. ((place_of e).0 < rows) × ((place_of e).1 < cols)) (IsInside rows cols) (inside_by_place rows cols) es
+
+pub places_inside : (rows cols : ℕ) (es : List Edit) → All (IsInside rows cols) es → AreInside rows cols es
+places_inside rows cols es = All-weaker (IsInside rows cols) (λ e. ((place_of e).0 < rows) × ((place_of e).1 < cols)) (place_by_inside rows cols) es
+
+-- no edits wait: the object is the store's
+pub settled-is : (held : Held) → held.edits.items ≡ [] → object_of held ≡ stored_object held
+settled-is held none = ap (λ (es : List Edit). let o : Object = record { domain = held.domain; shape = held.shape; content = edited es (content_of held.store) } in o) none
+
+-- ---- other stores
+
+-- the object in another shape, with the entries that fit it, is one
+pub held-resized : (o : Object) (shape : Shape) (content : Content) → IsObject o → ((i j : ℕ) → content i j ≡ cut_to (rows_of shape) (cols_of shape) o.content i j)
+    → IsObject (record o { shape = shape; content = content })
+held-resized o shape content is cut =
+    let after : Object = record o { shape = shape; content = content } in
+    let same : after ≡ resized o shape = objects_equal after (resized o shape) refl refl cut in
+    let new : IsObject (resized o shape) = record {
+      within = cut_to-within (rows_of shape) (cols_of shape) o.content;
+      words = cut_to-words o.domain (rows_of shape) (cols_of shape) o.content is.words;
+    } in
+    rw same new
+
+-- what is built of accepted tuples is one
+pub held-built : (o : Object) (dup : Option OpName) (tuples : List Tuple) (content : Content) → BuildsOn o dup tuples → ((i j : ℕ) → content i j ≡ built dup o.domain tuples i j)
+    → IsObject (record o { content = content })
+held-built o dup tuples content builds is =
+    let after : Object = record o { content = content } in
+    let made : Object = record o { content = built dup o.domain tuples } in
+    let same : after ≡ made = objects_equal after made refl refl is in
+    rw same (built-is_object o dup tuples builds.joins builds.inside)
+
+-- an object whose store has no entry has none
+pub empty-object : (o : Object) (rows cols n : ℕ) → n ≡ length (entries_of rows cols o.content) → n ≡ 0 → rows ≡ rows_of o.shape → cols ≡ cols_of o.shape → has_entries o ≡ false
+empty-object o rows cols n is zero r c = rw (← r, ← c, ← is, zero) refl
+
+positive : (n : ℕ) → 0 < n → not (n == 0) ≡ true
+positive n more = rw (ne_eqb n 0 (λ e. let none : n ≡ 0 = e in absurd (omega arith))) refl
+
+-- ..and one whose store has some has some
+pub full-object : (o : Object) (rows cols n : ℕ) → n ≡ length (entries_of rows cols o.content) → 0 < n → rows ≡ rows_of o.shape → cols ≡ cols_of o.shape → has_entries o ≡ true
+full-object o rows cols n is more r c = rw (← r, ← c, ← is) (positive n more)

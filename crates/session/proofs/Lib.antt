@@ -2,3 +2,4 @@ pub mod HeldLaws
 pub mod PerformedLaws
 pub mod ResultLaws
 pub mod SessionLaws
+pub mod TableLaws

@@ -1,23 +1,27 @@
 -- Calls that were performed.
-use Rattle.std.proofs.Common.{◌≡◌, ◌∙◌, ℕ, ◌+◌, Bool, true, false, cond, Option, Some, None, is_some, Result, Ok, Err, MatchResult, refl, sym, ap, inr}
+use Rattle.std.proofs.Common.{◌≡◌, ◌∙◌, ℕ, ◌+◌, Bool, true, false, cond, List, Option, Some, None, is_some, Result, Ok, Err, MatchResult, refl, sym, ap, inr}
 use Rattle.std.specs.Prelude.{OnErr, OnOk}
 use Rattle.std.specs.Prelude.{ℤ}
 use Rattle.std.specs.Option.{option_map, option_map_or}
 use Rattle.algebra.specs.declared.domain.Domain.{Domain}
 use Rattle.algebra.specs.declared.operator_names.MonoidName.{MonoidName}
+use Rattle.algebra.specs.declared.operator_names.OpName.{OpName}
 use Rattle.calls.specs.Checks.{known_call}
 use Rattle.calls.specs.declared.obj.Obj.{Obj}
 use Rattle.model.specs.declared.call.Call.{Call}
-use Rattle.model.specs.declared.call.Call.TheVariants.{Create, Free, Clear, Set, Remove, Get, Nvals, Print, Reduce, Operate}
+use Rattle.model.specs.declared.call.Call.TheVariants.{Create, Dup, Free, Clear, Resize, Build, Set, Remove, Get, Nvals, Print, Reduce, Operate}
 use Rattle.model.specs.declared.call.Operation.{Operation}
 use Rattle.model.specs.declared.call.Out.{Out}
 use Rattle.model.specs.declared.shape.Place.{Place}
 use Rattle.model.specs.declared.shape.Shape.{Shape}
 use Rattle.model.specs.declared.status.Status.{Status}
 use Rattle.model.specs.declared.status.Status.TheVariants as status
-use Rattle.model.specs.Fault.{early_fault, found_object, late_fault}
+use Rattle.model.specs.declared.tuples.Tuple.{Tuple}
+use Rattle.model.specs.Builds.{built}
+use Rattle.model.specs.Fault.{early_fault, found_object, has_entries, late_fault}
+use Rattle.model.specs.Regions.{cut_to}
 use Rattle.model.specs.declared.shape.Signature.{Signature}
-use Rattle.model.specs.Object.{Content, Object, col_of, empty_object, row_of, signature_of}
+use Rattle.model.specs.Object.{Content, Object, col_of, cols_of, empty_object, row_of, rows_of, signature_of}
 use Rattle.model.proofs.RenamedLaws.{operation_twice, out_twice}
 use Rattle.model.specs.Renamed.{renamed_operation, renamed_out}
 use Rattle.model.specs.Run.{effect, object_at, with_content, with_object, without_object}
@@ -64,6 +68,57 @@ pub performed-remove : {T : Type 0} (old new : Session) (o : Obj) (p : Place) (x
 unfolding effect
 performed-remove old new o p x accepted left made = performed old new (Remove o p) x (no_late _ accepted) left made
 
+pub performed-dup : {T : Type 0} (old new : Session) (from : Obj) (object : Object) (x : T)
+    → early_fault (count_in old) (Dup false (known_in old from)) ≡ None
+    → environment_of new ≡ with_object same_object (environment_of old) (next_object old) object ((environment_of old).count + 1)
+    → object ≡ object_at (environment_of old) from → made_in new ≡ made_in old + 1 → IsPerformed old new (Dup (next_object old) from) (Ok x)
+unfolding effect
+performed-dup old new from object x accepted left same made =
+    performed old new (Dup (next_object old) from) x (no_late (early_fault (count_in old) (Dup false (known_in old from))) accepted)
+    (left ∙ ap (λ (o : Object). with_object same_object (environment_of old) (next_object old) o ((environment_of old).count + 1)) same) made
+
+pub performed-resize : {T : Type 0} (old new : Session) (o : Obj) (shape : Shape) (content : Content) (x : T)
+    → early_fault (count_in old) (known_call {N = Obj} (known_in old) (Resize o shape)) ≡ None
+    → environment_of new ≡ with_object same_object (environment_of old) o (record (object_at (environment_of old) o) { shape = shape; content = content }) (environment_of old).count
+    → ((i j : ℕ) → content i j ≡ cut_to (rows_of shape) (cols_of shape) (object_at (environment_of old) o).content i j)
+    → made_in new ≡ made_in old → IsPerformed old new (Resize o shape) (Ok x)
+unfolding effect
+performed-resize old new o shape content x accepted left cut made =
+    performed old new (Resize o shape) x (no_late _ accepted)
+    (left ∙ (λ t. with_object same_object (environment_of old) o (record (object_at (environment_of old) o) { shape = shape; content = λ i j. cut i j t }) (environment_of old).count)) made
+
+-- a build of an object without entries has no fault that depends on values
+no_late_build : (early : Option Status) (o : Object) (dup : Option OpName) (tuples : List Tuple) → early ≡ None → has_entries o ≡ false
+    → option_map_or Some early (late_fault {N = Obj} (Build o dup tuples)) ≡ None
+no_late_build early o dup tuples accepted empty = rw (accepted, empty) refl
+
+late_build : (early : Option Status) (o : Object) (dup : Option OpName) (tuples : List Tuple) → early ≡ None → has_entries o ≡ true
+    → option_map_or Some early (late_fault {N = Obj} (Build o dup tuples)) ≡ Some status.OutputNotEmpty
+late_build early o dup tuples accepted full = rw (accepted, full) refl
+
+pub performed-build : {T : Type 0} (old new : Session) (o : Obj) (dup : Option OpName) (tuples : List Tuple) (content : Content) (x : T)
+    → early_fault (count_in old) (known_call {N = Obj} (known_in old) (Build o dup tuples)) ≡ None
+    → has_entries (object_at (environment_of old) o) ≡ false
+    → environment_of new ≡ with_content same_object (environment_of old) o content
+    → ((i j : ℕ) → content i j ≡ built dup (object_at (environment_of old) o).domain tuples i j)
+    → made_in new ≡ made_in old → IsPerformed old new (Build o dup tuples) (Ok x)
+unfolding effect
+performed-build old new o dup tuples content x accepted empty left is made =
+    performed old new (Build o dup tuples) x (no_late_build _ (object_at (environment_of old) o) dup tuples accepted empty)
+    (left ∙ (λ t. with_content same_object (environment_of old) o (λ i j. is i j t))) made
+
+-- ..and of one with entries has
+pub refused-build : {T : Type 0} (session new : Session) (o : Obj) (dup : Option OpName) (tuples : List Tuple)
+    → early_fault (count_in session) (known_call {N = Obj} (known_in session) (Build o dup tuples)) ≡ None
+    → has_entries (object_at (environment_of session) o) ≡ true → environment_of new ≡ environment_of session → made_in new ≡ made_in session
+    → IsPerformed {T = T} session new (Build o dup tuples) (Err status.OutputNotEmpty)
+refused-build session new o dup tuples accepted full kept made = record {
+  status = inr (late_build _ (object_at (environment_of session) o) dup tuples accepted full);
+  effect = tt;
+  kept = kept;
+  made = made;
+}
+
 -- an object is freed where it is there, and else there is a fault
 pub performed-free : {T : Type 0} (old new : Session) (o : Obj) (r : Result T Status)
     → MatchResult r (λ x. is_some ((environment_of old).find_object o) ≡ true) (λ s. (s ≡ status.UninitializedObject) × ((environment_of old).find_object o ≡ None))
@@ -85,25 +140,43 @@ found_value : (early : Option Status) (o : Option Object) (x : Object) (p : Plac
     → option_map_or Some early (late_fault {N = Obj} (Get (found_object o) p)) ≡ None
 found_value early o x p word accepted there stored = rw (accepted, there, stored) refl
 
-pub performed-get : {T : Type 0} (session : Session) (o : Obj) (p : Place) (object : Object) (word : ℕ) (x : T)
-    → early_fault (count_in session) (known_call {N = Obj} (known_in session) (Get o p)) ≡ None
-    → (environment_of session).find_object o ≡ Some object → object.content (row_of p) (col_of p) ≡ Some word → IsPerformed session session (Get o p) (Ok x)
+-- a call that only reads leaves all objects as they were
+pub performed-get : {T : Type 0} (old new : Session) (o : Obj) (p : Place) (object : Object) (word : ℕ) (x : T)
+    → early_fault (count_in old) (known_call {N = Obj} (known_in old) (Get o p)) ≡ None
+    → (environment_of old).find_object o ≡ Some object → object.content (row_of p) (col_of p) ≡ Some word
+    → environment_of new ≡ environment_of old → made_in new ≡ made_in old → IsPerformed old new (Get o p) (Ok x)
 unfolding effect
-performed-get session o p object word x accepted there stored =
-    performed session session (Get o p) x (found_value _ ((environment_of session).find_object o) object p word accepted there stored) refl refl
+performed-get old new o p object word x accepted there stored kept made =
+    performed old new (Get o p) x (found_value _ ((environment_of old).find_object o) object p word accepted there stored) kept made
 
-pub performed-nvals : {T : Type 0} (session : Session) (o : Obj) (x : T) → early_fault (count_in session) (known_call {N = Obj} (known_in session) (Nvals o)) ≡ None → IsPerformed session session (Nvals o) (Ok x)
+absent_value : (early : Option Status) (o : Option Object) (x : Object) (p : Place) → early ≡ None → o ≡ Some x → x.content (row_of p) (col_of p) ≡ None
+    → option_map_or Some early (late_fault {N = Obj} (Get (found_object o) p)) ≡ Some status.NoValue
+absent_value early o x p accepted there none = rw (accepted, there, none) refl
+
+pub refused-get : {T : Type 0} (old new : Session) (o : Obj) (p : Place) (object : Object)
+    → early_fault (count_in old) (known_call {N = Obj} (known_in old) (Get o p)) ≡ None
+    → (environment_of old).find_object o ≡ Some object → object.content (row_of p) (col_of p) ≡ None
+    → environment_of new ≡ environment_of old → made_in new ≡ made_in old → IsPerformed {T = T} old new (Get o p) (Err status.NoValue)
+refused-get old new o p object accepted there none kept made = record {
+  status = inr (absent_value _ ((environment_of old).find_object o) object p accepted there none);
+  effect = tt;
+  kept = kept;
+  made = made;
+}
+
+pub performed-nvals : {T : Type 0} (old new : Session) (o : Obj) (x : T) → early_fault (count_in old) (known_call {N = Obj} (known_in old) (Nvals o)) ≡ None
+    → environment_of new ≡ environment_of old → made_in new ≡ made_in old → IsPerformed old new (Nvals o) (Ok x)
 unfolding effect
-performed-nvals session o x accepted = performed session session (Nvals o) x (no_late _ accepted) refl refl
+performed-nvals old new o x accepted kept made = performed old new (Nvals o) x (no_late _ accepted) kept made
 
 pub performed-print : {T : Type 0} (session : Session) (o : Obj) (x : T) → early_fault (count_in session) (known_call {N = Obj} (known_in session) (Print o)) ≡ None → IsPerformed session session (Print o) (Ok x)
 unfolding effect
 performed-print session o x accepted = performed session session (Print o) x (no_late _ accepted) refl refl
 
-pub performed-reduce : {T : Type 0} (session : Session) (o : Obj) (monoid : MonoidName) (x : T) → early_fault (count_in session) (known_call {N = Obj} (known_in session) (Reduce o monoid)) ≡ None
-    → IsPerformed session session (Reduce o monoid) (Ok x)
+pub performed-reduce : {T : Type 0} (old new : Session) (o : Obj) (monoid : MonoidName) (x : T) → early_fault (count_in old) (known_call {N = Obj} (known_in old) (Reduce o monoid)) ≡ None
+    → environment_of new ≡ environment_of old → made_in new ≡ made_in old → IsPerformed old new (Reduce o monoid) (Ok x)
 unfolding effect
-performed-reduce session o monoid x accepted = performed session session (Reduce o monoid) x (no_late _ accepted) refl refl
+performed-reduce old new o monoid x accepted kept made = performed old new (Reduce o monoid) x (no_late _ accepted) kept made
 
 -- ---- operations
 

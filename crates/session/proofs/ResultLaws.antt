@@ -18,7 +18,7 @@ use Rattle.calls.proofs.RoleLaws.{meaning_along}
 use Rattle.kernel.specs.Evaluated.{AreInputs, object_in, output_of}
 use Rattle.kernel.proofs.Accepted.{recipe-leaves}
 use Rattle.model.specs.declared.call.Operation.{Operation}
-use Rattle.model.specs.declared.call.Operation.TheVariants.{OfOne, OfTwo}
+use Rattle.model.specs.declared.call.Operation.TheVariants.{Fill, OfOne, OfTwo}
 use Rattle.model.specs.declared.call.Out.{Out}
 use Rattle.model.specs.declared.shape.Signature.{Signature}
 use Rattle.model.specs.Fault.{found_object}
@@ -85,6 +85,7 @@ evaluated env recipe objects stored joined known stores rows cols content =
 
 -- the output of an operation takes the role of the recipe's output
 output_taken : (out : Out Obj) (operation : Operation Obj) (recipe : Recipe) → recipe.out ≡ out_by_role out → role_of (roles_of out operation) recipe.out.c ≡ out.c
+output_taken out (Fill value region) recipe is = ap (λ (o : Out Role). role_of (roles_of out (Fill value region)) o.c) is
 output_taken out (OfOne computes a) recipe is = ap (λ (o : Out Role). role_of (roles_of out (OfOne computes a)) o.c) is
 output_taken out (OfTwo computes a b) recipe is = ap (λ (o : Out Role). role_of (roles_of out (OfTwo computes a b)) o.c) is
 

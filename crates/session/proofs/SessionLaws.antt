@@ -1,21 +1,23 @@
 -- What is known of accepted calls, and that the numbers of objects stay below the next one.
-use Rattle.std.proofs.Common.{◌≡◌, ◌∙◌, ℕ, ◌+◌, ◌<◌, ◌≤◌, ◌==◌, ◌^◌, ◌-◌, Bool, true, false, cond, not, Option, Some, None, is_some, Result, Ok, Err, refl, sym, ap, inl, inr, arith}
+use Rattle.std.proofs.Common.{◌≡◌, ◌∙◌, ℕ, ◌<◌, ◌≤◌, ◌==◌, ◌^◌, ◌-◌, ◌&&◌, ◌||◌, Bool, true, false, cond, not, List, Option, Some, None, is_some, Result, Ok, Err, refl, sym, ap, inl, inr, arith}
 use Rattle.std.specs.Prelude.{OnErr, OnOk, ℤ, nat_le}
 use Rattle.std.specs.Option.{option_map, option_map_or}
-use Rattle.std.proofs.lemmas.Bool.{cases_Bool, eqb-true}
-use Rattle.std.proofs.lemmas.Bool.Decides.{nat_tests}
+use Rattle.std.proofs.lemmas.Bool.{and_parts, cases_Bool, eqb-true}
 use Rattle.algebra.specs.declared.domain.Domain.{Domain}
 use Rattle.algebra.specs.declared.operator_names.MonoidName.{MonoidName}
-use Rattle.algebra.specs.Operators.{combines_by, offers}
-use Rattle.algebra.specs.Value.{are_compatible, is_value_of}
+use Rattle.algebra.specs.declared.operator_names.OpName.{OpName}
+use Rattle.algebra.specs.Operators.{answer_domain, combines_by, offers}
+use Rattle.algebra.specs.Value.{are_compatible, is_value_of, same_domain}
 use Rattle.calls.specs.declared.obj.Obj.{Obj}
-use Rattle.model.specs.declared.call.Call.TheVariants.{Create, Free, Clear, Set, Remove, Get, Nvals, Print, Reduce}
+use Rattle.model.specs.declared.call.Call.TheVariants.{Create, Dup, Free, Clear, Resize, Build, Set, Remove, Get, Nvals, Print, Reduce}
 use Rattle.model.specs.declared.limits.TheConstants.{MOST_OBJECTS}
 use Rattle.model.specs.declared.shape.Place.{Place}
 use Rattle.model.specs.declared.shape.Shape.{Shape}
 use Rattle.model.specs.declared.status.Status.{Status}
 use Rattle.model.specs.declared.status.Status.TheVariants as status
-use Rattle.model.specs.Fault.{are_dimensions, early_fault, found_object}
+use Rattle.model.specs.declared.tuples.Tuple.{Tuple}
+use Rattle.model.specs.Builds.{are_inside, are_of_kind, are_single, are_values_of}
+use Rattle.model.specs.Fault.{accumulates, are_dimensions, early_fault, found_object}
 use Rattle.model.specs.Object.{Object, is_inside, is_of_kind, signature_of}
 use Rattle.model.specs.Run.{Environment, with_object, without_object}
 use Rattle.session.specs.Tables.{same_object}
@@ -45,10 +47,16 @@ unfolding early_fault
 clear-accepted count None h = absurd (cc)
 clear-accepted count (Some o) h = refl
 
-pub remove-accepted : (count : ℕ) (o : Option Object) (p : Place) → early_fault count (Remove (option_map signature_of o) p) ≡ None → is_some o ≡ true
+two : (a b : Bool) → cond (not a) (Some status.WrongKind) (cond (not b) (Some status.InvalidIndex) None) ≡ None → b ≡ true
+two true true h = refl
+two true false h = absurd (cc)
+two false b h = absurd (cc)
+
+pub remove-accepted : (count : ℕ) (o : Option Object) (p : Place) → early_fault count (Remove (option_map signature_of o) p) ≡ None
+    → (is_some o ≡ true) × (is_inside p (found_object o).shape ≡ true)
 unfolding early_fault
 remove-accepted count None p h = absurd (cc)
-remove-accepted count (Some o) p h = refl
+remove-accepted count (Some o) p h = (refl, two (is_of_kind p o.shape) (is_inside p o.shape) h)
 
 -- an object that is there can be freed, and no other
 pub free-fault : (count : ℕ) (o : Option Object) → early_fault count (Free (option_map signature_of o)) ≡ cond (is_some o) None (Some status.UninitializedObject)
@@ -56,15 +64,15 @@ unfolding early_fault
 free-fault count None = refl
 free-fault count (Some o) = refl
 
-pub get-accepted : (count : ℕ) (o : Option Object) (p : Place) → early_fault count (Get (option_map signature_of o) p) ≡ None → o ≡ None → ⊥
+pub get-accepted : (count : ℕ) (o : Option Object) (p : Place) → early_fault count (Get (option_map signature_of o) p) ≡ None → is_some o ≡ true
 unfolding early_fault
-get-accepted count None p h none = absurd (cc)
-get-accepted count (Some o) p h none = absurd (cc)
+get-accepted count None p h = absurd (cc)
+get-accepted count (Some o) p h = refl
 
-pub nvals-accepted : (count : ℕ) (o : Option Object) → early_fault count (Nvals (option_map signature_of o)) ≡ None → o ≡ None → ⊥
+pub nvals-accepted : (count : ℕ) (o : Option Object) → early_fault count (Nvals (option_map signature_of o)) ≡ None → is_some o ≡ true
 unfolding early_fault
-nvals-accepted count None h none = absurd (cc)
-nvals-accepted count (Some o) h none = absurd (cc)
+nvals-accepted count None h = absurd (cc)
+nvals-accepted count (Some o) h = refl
 
 pub print-accepted : (count : ℕ) (o : Option Object) → early_fault count (Print (option_map signature_of o)) ≡ None → is_some o ≡ true
 unfolding early_fault
@@ -90,6 +98,48 @@ full : (most : Bool) (rest : Option Status) → cond most (Some status.NotImplem
 full true rest h = absurd (cc)
 full false rest h = refl
 
+pub dup-accepted : (count : ℕ) (o : Option Object) → early_fault count (Dup false (option_map signature_of o)) ≡ None → (is_some o ≡ true) × (nat_le MOST_OBJECTS count ≡ false)
+unfolding early_fault
+dup-accepted count None h = absurd (cc)
+dup-accepted count (Some o) h = (refl, full (nat_le MOST_OBJECTS count) None h)
+
+resized : (kind allowed : Bool) → cond (not kind) (Some status.WrongKind) (cond (not allowed) (Some status.InvalidValue) None) ≡ None → (kind ≡ true) × (allowed ≡ true)
+resized true true h = (refl, refl)
+resized true false h = absurd (cc)
+resized false allowed h = absurd (cc)
+
+pub resize-accepted : (count : ℕ) (o : Option Object) (shape : Shape) → early_fault count (Resize (option_map signature_of o) shape) ≡ None → is_some o ≡ true
+unfolding early_fault
+resize-accepted count None shape h = absurd (cc)
+resize-accepted count (Some o) shape h = refl
+
+builds : (kind joins inside values : Bool) → cond (not kind) (Some status.WrongKind) (cond (not joins) (Some status.NotImplemented) (cond (not inside) (Some status.IndexOutOfBounds) (cond (not values) (Some status.InvalidValue) None))) ≡ None
+    → (joins ≡ true) × (inside ≡ true) × (values ≡ true)
+builds true true true true h = (refl, refl, refl)
+builds true true true false h = absurd (cc)
+builds true true false values h = absurd (cc)
+builds true false inside values h = absurd (cc)
+builds false joins inside values h = absurd (cc)
+
+-- what an accepted build says of its object, its operator and its tuples
+pub record BuildsOn (o : Object) (dup : Option OpName) (tuples : List Tuple) : Type 0 where
+  pub joins : option_map_or (accumulates o.domain) dup true ≡ true
+  pub inside : are_inside o.shape tuples ≡ true
+  pub values : are_values_of o.domain tuples ≡ true
+
+pub build-accepted : (count : ℕ) (o : Option Object) (dup : Option OpName) (tuples : List Tuple) → early_fault count (Build (option_map signature_of o) dup tuples) ≡ None
+    → (is_some o ≡ true) × BuildsOn (found_object o) dup tuples
+unfolding early_fault
+build-accepted count None dup tuples h = absurd (cc)
+build-accepted count (Some o) dup tuples h =
+    let all = builds (are_of_kind o.shape tuples) (option_map_or (accumulates o.domain) dup true) (are_inside o.shape tuples) (are_values_of o.domain tuples && (is_some dup || are_single tuples)) h in
+    (refl, record { joins = all.0; inside = all.1; values = (and_parts (are_values_of o.domain tuples) (is_some dup || are_single tuples) all.2).0 })
+
+-- the operator of an accepted build is offered
+pub dup-offered : (domain : Domain) (dup : Option OpName) → option_map_or (accumulates domain) dup true ≡ true → option_map_or (λ op. offers op.kind op.domain) dup true ≡ true
+dup-offered domain None h = refl
+dup-offered domain (Some op) h = (and_parts (offers op.kind op.domain) (same_domain op.domain domain) (and_parts (offers op.kind op.domain && same_domain op.domain domain) (same_domain (answer_domain op.kind op.domain) domain) h).0).0
+
 pub create-accepted : (count : ℕ) (domain : Domain) (shape : Shape) → early_fault count (Create false domain shape) ≡ None → nat_le MOST_OBJECTS count ≡ false
 unfolding early_fault
 create-accepted count domain shape h = full (nat_le MOST_OBJECTS count) (cond (not (are_dimensions shape)) (Some status.InvalidValue) None) h
@@ -98,12 +148,17 @@ last_refused : (last : Bool) (count : ℕ) → nat_le MOST_OBJECTS (cond last MO
 last_refused true count h = absurd (cc)
 last_refused false count h = refl
 
+-- there is a number left for a copy
+pub number_left-dup : (next count : ℕ) (o : Option Object)
+    → early_fault (cond (next == 2 ^ 64 - 1) MOST_OBJECTS count) (Dup false (option_map signature_of o)) ≡ None → (next == 2 ^ 64 - 1) ≡ false
+number_left-dup next count o h =
+    last_refused (next == 2 ^ 64 - 1) count (dup-accepted (cond (next == 2 ^ 64 - 1) MOST_OBJECTS count) o h).1
+
 -- there is a number left for what is made
-pub number_left : (next count : ℕ) (domain : Domain) (shape : Shape) → next < 2 ^ 64
-    → early_fault (cond (next == 2 ^ 64 - 1) MOST_OBJECTS count) (Create false domain shape) ≡ None → next + 1 < 2 ^ 64
-number_left next count domain shape small h =
-    let left : (next == 2 ^ 64 - 1) ≡ false = last_refused (next == 2 ^ 64 - 1) count (create-accepted (cond (next == 2 ^ 64 - 1) MOST_OBJECTS count) domain shape h) in
-    grind (arith, nat_tests)
+pub number_left : (next count : ℕ) (domain : Domain) (shape : Shape)
+    → early_fault (cond (next == 2 ^ 64 - 1) MOST_OBJECTS count) (Create false domain shape) ≡ None → (next == 2 ^ 64 - 1) ≡ false
+number_left next count domain shape h =
+    last_refused (next == 2 ^ 64 - 1) count (create-accepted (cond (next == 2 ^ 64 - 1) MOST_OBJECTS count) domain shape h)
 
 -- ---- numbers
 

@@ -2,3 +2,4 @@ pub mod Objects
 pub mod Performed
 pub mod Results
 pub mod Tables
+pub mod Waiting

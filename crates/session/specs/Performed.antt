@@ -6,8 +6,8 @@ use Rattle.algebra.specs.Value.{value_of}
 use Rattle.calls.specs.Checks.{known_call}
 use Rattle.calls.specs.declared.obj.Obj.{Obj}
 use Rattle.model.specs.declared.call.Call.{Call}
-use Rattle.model.specs.declared.call.Call.TheVariants.{Create, Free, Clear, Set, Remove, Get, Nvals, Print, Reduce}
-use Rattle.model.specs.declared.call.Call.TheVariants.{Operate}
+use Rattle.model.specs.declared.call.Call.TheVariants.{Create, Dup, Free, Clear, Resize, Build, Set, Remove}
+use Rattle.model.specs.declared.call.Call.TheVariants.{Get, Nvals, Print, Reduce, Operate}
 use Rattle.model.specs.declared.limits.TheConstants.{MOST_OBJECTS}
 use Rattle.model.specs.declared.status.Status.{Status}
 use Rattle.model.specs.declared.status.Status.TheVariants as status
@@ -54,6 +54,9 @@ numbered session call = renamed (λ object. object) (λ name. next_object sessio
 -- what a call answers
 abbrev pub Answers : Environment Obj → Call Obj Obj → Reply → Type 0
 Answers env (Create name domain shape) (Made object) = object ≡ name
+Answers env (Dup name object) (Made made) = made ≡ name
+Answers env (Resize object shape) Done = Unit {0}
+Answers env (Build object dup tuples) Done = Unit {0}
 Answers env (Free object) Done = Unit {0}
 Answers env (Clear object) Done = Unit {0}
 Answers env (Set object place value) Done = Unit {0}
@@ -77,6 +80,7 @@ Ends fault (Err s) = (s ≡ status.OutOfMemory) ⊎ (fault ≡ Some s)
 abbrev pub made_after : {T : Type 0} → Session → Result T Status → Call Obj Obj → ℕ
 made_after old (Err s) call = made_in old
 made_after old (Ok x) (Create name domain shape) = made_in old + 1
+made_after old (Ok x) (Dup name object) = made_in old + 1
 made_after old (Ok x) call = made_in old
 
 -- the call was performed: how it ended, what it left, and that an error left all as it was

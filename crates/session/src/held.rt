@@ -1,29 +1,58 @@
 //! Objects as a session holds them.
-ghost use Rattle.std.specs.Prelude.{◌≡◌, OnErr, OnOk, true};
+ghost use Rattle.std.specs.Prelude.{◌≡◌, [], IfOk, OnErr, OnOk, true};
 ghost use Rattle.algebra.specs.Value.{is_value_of};
 ghost use Rattle.model.specs.Object.{IsObject, cols_of, is_inside, rows_of};
+ghost use Rattle.patch.specs.Edits.{edited};
+ghost use Rattle.session.specs.Waiting.{AreInside};
 ghost use Rattle.store.specs.Stored.{content_of};
 
 use algebra::Domain;
 use model::{NoMemory, Place, Shape};
+use patch::{Edit, settle};
+use std::alloc::Global;
 use store::Store;
 
-/// An object: a domain, a shape, and a store with its entries.
+/// An object: a domain, a shape, and a store with its entries, on which edits wait.
 #[derive(Drop)]
 pub struct Held {
     pub domain: Domain,
     pub shape: Shape,
     pub store: Store,
+    pub edits: Vec<Edit>,
     pub ghost rows: { store.rows ≡ rows_of shape },
     pub ghost cols: { store.cols ≡ cols_of shape },
-    pub ghost is_object: { IsObject (record { domain = domain; shape = shape; content = content_of store }) },
+    pub ghost inside: { AreInside store.rows store.cols edits.items },
+    pub ghost is_object: { IsObject (record {
+      domain = domain;
+      shape = shape;
+      content = edited edits.items (content_of store);
+    }) },
 }
 
-impl Held {
-    ghost use Rattle.session.specs.Objects.{object_of, with_value, without_value};
+// So many edits wait at the most.
+const MOST_EDITS: usize = 65_536;
 
-    /// Sets a value at a place inside the object. An error leaves the object as it was.
-    pub(crate) fn set(&mut self, place: Place, value: i128) -> Result<(), NoMemory>
+impl Held {
+    ghost use Rattle.session.specs.Objects.{object_of, stored_object, with_value, without_value};
+
+    /// An object of a domain and a shape, with the entries of a store.
+    pub(crate) fn new(alloc: Global, domain: Domain, shape: Shape, store: Store) -> Held
+        requires rows { store.rows ≡ rows_of shape }
+        requires cols { store.cols ≡ cols_of shape }
+        requires is_object { IsObject (record { domain = domain; shape = shape; content = content_of store }) }
+        ensures object { object_of result ≡ record { domain = domain; shape = shape; content = content_of store } }
+    {
+        Held {
+            domain,
+            shape,
+            store,
+            edits: Vec::new(alloc),
+        }
+    }
+
+    /// Sets a value at a place inside the object, once the edits are done. An error leaves the object as
+    /// it was.
+    pub(crate) fn set(&mut self, alloc: Global, place: Place, value: i128) -> Result<(), NoMemory>
         requires inside { is_inside place self.old.shape ≡ true }
         requires value { is_value_of self.old.domain value ≡ true }
         ensures set { OnOk result (object_of self.new ≡ with_value (object_of self.old) place value) }
@@ -32,13 +61,70 @@ impl Held {
         let Some(word) = self.domain.word_of(value) else {
             unreachable!()
         };
-        self.store.set(place.row(), place.col(), word)
+        self.make_room(alloc)?;
+        self.edits.push(Edit::Set(place.row(), place.col(), word))?;
+        Ok(())
     }
 
-    /// Removes the entry at a place, where there is one.
-    pub(crate) fn remove(&mut self, place: Place)
-        ensures { object_of self.new ≡ without_value (object_of self.old) place }
+    /// Removes the entry at a place inside the object, where there is one, once the edits are done. An
+    /// error leaves the object as it was.
+    pub(crate) fn remove(&mut self, alloc: Global, place: Place) -> Result<(), NoMemory>
+        requires { is_inside place self.old.shape ≡ true }
+        ensures removed { OnOk result (object_of self.new ≡ without_value (object_of self.old) place) }
+        ensures kept { OnErr result (object_of self.new ≡ object_of self.old) }
     {
-        self.store.remove(place.row(), place.col());
+        self.make_room(alloc)?;
+        self.edits.push(Edit::Remove(place.row(), place.col()))?;
+        Ok(())
+    }
+
+    /// Does the edits where as many wait as may.
+    fn make_room(&mut self, alloc: Global) -> Result<(), NoMemory>
+        ensures { object_of self.new ≡ object_of self.old }
+    {
+        if self.edits.len() >= MOST_EDITS {
+            self.settle(alloc)?;
+        }
+        Ok(())
+    }
+
+    /// Does the edits that wait. An error leaves the object as it was.
+    pub(crate) fn settle(&mut self, alloc: Global) -> Result<(), NoMemory>
+        ensures object { object_of self.new ≡ object_of self.old }
+        ensures done { OnOk result (self.new.edits.items ≡ []) }
+    {
+        settle(alloc, &mut self.store, &mut self.edits)
+    }
+
+    /// An object with the same domain, shape and entries, in memory of its own, where no edits wait.
+    pub(crate) fn try_clone(&self, alloc: Global) -> Result<Held, NoMemory>
+        requires { IsObject (stored_object self.now) }
+        ensures { IfOk result (λ held. object_of held ≡ stored_object self.now) }
+    {
+        let store = self.store.try_clone()?;
+        Ok(Held::new(alloc, self.domain, self.shape, store))
+    }
+
+    /// Puts another store into the object, on which no edits wait.
+    pub(crate) fn replace(&mut self, store: Store)
+        requires rows { store.rows ≡ rows_of self.old.shape }
+        requires cols { store.cols ≡ cols_of self.old.shape }
+        requires is_object { IsObject (record (object_of self.old) { content = content_of store }) }
+        ensures { object_of self.new ≡ record (object_of self.old) { content = content_of store } }
+    {
+        self.store = store;
+        self.edits.clear();
+    }
+
+    /// Gives the object another shape, and the store of it.
+    pub(crate) fn reshape(&mut self, shape: Shape, store: Store)
+        requires rows { store.rows ≡ rows_of shape }
+        requires cols { store.cols ≡ cols_of shape }
+        requires is_object { IsObject (record (object_of self.old) { shape = shape; content = content_of store }) }
+        ensures { object_of self.new ≡ record (object_of self.old) { shape = shape; content = content_of store } }
+    {
+        self.shape = shape;
+        self.store = store;
+        self.edits.clear();
     }
 }

@@ -1,23 +1,24 @@
 //! Operations on the objects of a session.
-ghost use Rattle.std.specs.Prelude.{◌≡◌, IfOk, Some, is_some, true};
+ghost use Rattle.std.specs.Prelude.{◌≡◌, IfOk, OnOk, Some, is_some, true};
 ghost use Rattle.model.specs.Renamed.{renamed_operation, renamed_out};
 ghost use Rattle.calls.specs.Roles.{role_of};
 ghost use Rattle.calls.specs.declared.role.Role.{Role as AnyRole};
 ghost use Rattle.model.specs.Fault.{early_fault};
 ghost use Rattle.session.specs.Results.{IsEvaluated, IsLeft, IsStoreOf};
+ghost use Rattle.session.specs.Tables.{IsSettled};
 
 use crate::sessions::Session;
 use algebra::{FunctionName, IndexName, MonoidName, OpName, RingName};
 use calls::{
-    Call, Checked, Form, Obj, OneInput, Operation, Out, Positions, Recipe, Roles, TwoInputs,
-    by_role,
+    Call, Checked, Form, Obj, OneInput, Operation, Out, Positions, Recipe, Region, Roles,
+    TwoInputs, by_role,
 };
 use kernel::{eval_piece, join};
 use model::{NoMemory, Status};
 use store::Store;
 
 impl Session {
-    ghost use Rattle.session.specs.Performed.{Ends, IsPerformed, count_in, environment_of, known_in};
+    ghost use Rattle.session.specs.Performed.{Ends, IsPerformed, count_in, environment_of, known_in, made_in};
 
     /// Multiplies two matrices over a semiring into a third (`GrB_mxm`).
     pub fn mxm(&mut self, out: &Out<Obj>, ring: RingName, a: Obj, b: Obj) -> Result<(), Status>
@@ -95,24 +96,57 @@ impl Session {
         self.of_one(out, OneInput::ReduceRows(monoid), a)
     }
 
+    /// Transposes a matrix (`GrB_transpose`).
+    pub fn transpose(&mut self, out: &Out<Obj>, a: Obj) -> Result<(), Status>
+        ensures { IsPerformed self.old self.new
+            (Call.Operate out.now (Operation.OfOne OneInput.Transpose a)) result }
+    {
+        self.of_one(out, OneInput::Transpose, a)
+    }
+
+    /// The entries at lists of rows and columns, in the order of the lists (`GrB_extract`).
+    pub fn extract(&mut self, out: &Out<Obj>, a: Obj, region: Region) -> Result<(), Status>
+        ensures { IsPerformed self.old self.new
+            (Call.Operate out.now (Operation.OfOne (OneInput.Extract region) a)) result }
+    {
+        self.of_one(out, OneInput::Extract(region), a)
+    }
+
+    /// Puts entries at lists of rows and columns of the output (`GrB_assign`).
+    pub fn assign(&mut self, out: &Out<Obj>, a: Obj, region: Region) -> Result<(), Status>
+        ensures { IsPerformed self.old self.new
+            (Call.Operate out.now (Operation.OfOne (OneInput.Assign region) a)) result }
+    {
+        self.of_one(out, OneInput::Assign(region), a)
+    }
+
+    /// Puts a value at each position of lists of rows and columns of the output (`GrB_assign` of a
+    /// constant).
+    pub fn fill(&mut self, out: &Out<Obj>, value: i128, region: Region) -> Result<(), Status>
+        ensures { IsPerformed self.old self.new
+            (Call.Operate out.now (Operation.Fill value region)) result }
+    {
+        self.operate(out, Operation::Fill { value, region })
+    }
+
     /// Computes an operation on one input.
     fn of_one(&mut self, out: &Out<Obj>, computes: OneInput, a: Obj) -> Result<(), Status>
         ensures { IsPerformed self.old self.new (Call.Operate out.now (Operation.OfOne computes a)) result }
     {
-        self.operate(out, &Operation::OfOne { computes, a })
+        self.operate(out, Operation::OfOne { computes, a })
     }
 
     /// Computes an operation on two inputs.
     fn of_two(&mut self, out: &Out<Obj>, computes: TwoInputs, a: Obj, b: Obj) -> Result<(), Status>
         ensures { IsPerformed self.old self.new (Call.Operate out.now (Operation.OfTwo computes a b)) result }
     {
-        self.operate(out, &Operation::OfTwo { computes, a, b })
+        self.operate(out, Operation::OfTwo { computes, a, b })
     }
 
     /// Computes an operation, and writes it into its output. The same object may be output, mask and
     /// input: all inputs are as they were before the call.
-    pub fn operate(&mut self, out: &Out<Obj>, operation: &Operation<Obj>) -> Result<(), Status>
-        ensures { IsPerformed self.old self.new (Call.Operate out.now operation.now) result }
+    pub fn operate(&mut self, out: &Out<Obj>, operation: Operation<Obj>) -> Result<(), Status>
+        ensures { IsPerformed self.old self.new (Call.Operate out.now operation) result }
     {
         let store = self.result(out, operation)?;
         self.table.replace(out.c, store);
@@ -120,27 +154,44 @@ impl Session {
     }
 
     /// What an operation leaves in its output.
-    fn result(&self, out: &Out<Obj>, operation: &Operation<Obj>) -> Result<Store, Status>
-        ensures status { Ends (early_fault (count_in self.now)
-            (Call.Operate (renamed_out (known_in self.now) out.now)
-            (renamed_operation (known_in self.now) operation.now))) result }
-        ensures left { IfOk result (IsLeft (environment_of self.now) out.now operation.now) }
+    fn result(&mut self, out: &Out<Obj>, operation: Operation<Obj>) -> Result<Store, Status>
+        ensures status { Ends (early_fault (count_in self.old)
+            (Call.Operate (renamed_out (known_in self.old) out.now)
+            (renamed_operation (known_in self.old) operation))) result }
+        ensures left { IfOk result (IsLeft (environment_of self.old) out.now operation) }
+        ensures kept { environment_of self.new ≡ environment_of self.old }
+        ensures made { made_in self.new ≡ made_in self.old }
     {
-        let checked = self.checked(&Call::Operate {
+        let objects = by_role(out, &operation);
+        let call = Call::Operate {
             out: *out,
-            operation: *operation,
-        })?;
-        let Checked::Operation(recipe) = checked else {
+            operation,
+        };
+        let Checked::Operation(recipe) = self.checked(&call)? else {
             unreachable!()
         };
-        let store = self.evaluated(&recipe, &by_role(out, operation))?;
+        self.settle_all(&objects)?;
+        let store = self.evaluated(&recipe, &objects)?;
         Ok(store)
     }
 
+    /// Does the edits that wait on objects. An error leaves them as they were.
+    fn settle_all(&mut self, objects: &Roles<Obj>) -> Result<(), NoMemory>
+        ensures kept { environment_of self.new ≡ environment_of self.old }
+        ensures made { made_in self.new ≡ made_in self.old }
+        ensures settled { OnOk result ((role : AnyRole) → IsSettled self.new.table (role_of objects.now role)) }
+    {
+        self.settle(objects.old)?;
+        self.settle(objects.mask)?;
+        self.settle(objects.first)?;
+        self.settle(objects.second)
+    }
+
     /// What a recipe gives of the objects that take its roles, all rows at once.
-    fn evaluated(&self, recipe: &Recipe, objects: &Roles<Obj>) -> Result<Store, NoMemory>
-        requires { (role : AnyRole) → known_in self.now (role_of objects.now role)
+    fn evaluated(&self, recipe: &Recipe<'_>, objects: &Roles<Obj>) -> Result<Store, NoMemory>
+        requires known { (role : AnyRole) → known_in self.now (role_of objects.now role)
             ≡ Some (role_of recipe.now.signatures role) }
+        requires settled { (role : AnyRole) → IsSettled self.now.table (role_of objects.now role) }
         ensures { IfOk result (IsEvaluated (environment_of self.now) recipe.now objects.now) }
     {
         let stores = Roles {
@@ -154,14 +205,12 @@ impl Session {
         Ok(join(recipe, block))
     }
 
-    /// The store of an object that is there.
+    /// The store of an object that is there, on which no edits wait.
     fn store_of(&self, object: Obj) -> &Store
-        requires { is_some ((environment_of self.now).find_object object) ≡ true }
+        requires there { is_some ((environment_of self.now).find_object object) ≡ true }
+        requires settled { IsSettled self.now.table object }
         ensures { IsStoreOf (environment_of self.now) object result.now }
     {
-        match self.table.find(object) {
-            Some(held) => &held.store,
-            None => unreachable!(),
-        }
+        &self.settled(object).store
     }
 }

@@ -1,16 +1,25 @@
 //! Sessions.
-ghost use Rattle.std.specs.Prelude.{◌≡◌, ◌<◌, IfOk, MatchResult, None, OnErr, OnOk, Some, is_some, true};
+ghost use Rattle.std.specs.Prelude.{◌≡◌, ◌==◌, ◌+◌, ◌-◌, ◌^◌, ◌<◌, IfOk, MatchResult, None, OnErr, OnOk, Some};
+ghost use Rattle.std.specs.Prelude.{false, is_some, true};
 ghost use Rattle.calls.specs.declared.obj.Obj.{Obj as Object};
-ghost use Rattle.model.specs.Run.{no_objects, without_object};
-ghost use Rattle.session.specs.Tables.{environment_in, same_object};
+ghost use Rattle.std.specs.Option.{option_map, option_map_or};
+ghost use Rattle.algebra.specs.OperatorNames.{op_named};
+ghost use Rattle.algebra.specs.Operators.{offers};
+ghost use Rattle.model.specs.Run.{no_objects, with_object, without_object};
+ghost use Rattle.session.specs.Tables.{IsSettled, environment_in, same_object};
 
 use crate::held::Held;
 use crate::reply::Reply;
 use crate::table::Table;
-use algebra::{Domain, MonoidName};
-use calls::{Call, Checked, Obj, Operation, Out, Place, Shape, Shapes, check};
+use algebra::{BinaryOp, Domain, MonoidName, OpName};
+use calls::{
+    Call, Checked, Obj, Place, Shape, Shapes, TupleList, check, check_build, check_create,
+    check_dup, check_place, check_reduce, check_resize, check_set, check_there,
+};
 use elementwise::reduce_all;
-use model::{MOST_OBJECTS, Status};
+use model::{MOST_OBJECTS, NoMemory, Status};
+use patch::build;
+use shapes::resize;
 use std::alloc::Global;
 use store::Store;
 
@@ -49,7 +58,8 @@ impl Shapes for Session {
 impl Session {
     ghost use Rattle.calls.specs.Checks.{Decides, IsFoundOf, known_call};
     ghost use Rattle.model.specs.Fault.{early_fault};
-    ghost use Rattle.session.specs.Objects.{object_of};
+    ghost use Rattle.model.specs.Object.{IsObject};
+    ghost use Rattle.session.specs.Objects.{object_of, stored_object};
     ghost use Rattle.session.specs.Performed.{Answers, IsPerformed, count_in, environment_of, known_in, made_in};
     ghost use Rattle.session.specs.Performed.{next_object};
 
@@ -71,7 +81,7 @@ impl Session {
     }
 
     /// What checks find of a call on the session's objects.
-    pub(crate) fn checked(&self, call: &Call<Obj, ()>) -> Result<Checked, Status>
+    pub(crate) fn checked<'a>(&self, call: &'a Call<Obj, ()>) -> Result<Checked<'a>, Status>
         ensures fault { Decides (early_fault (count_in self.now) (known_call (known_in self.now) call.now)) result }
         ensures found { IfOk result (IsFoundOf (known_in self.now) call.now) }
     {
@@ -85,34 +95,82 @@ impl Session {
         ensures made { IfOk result (λ object. object ≡ next_object self.old) }
         ensures unused { (environment_of self.old).find_object (next_object self.old) ≡ None }
     {
-        let name = ();
-        self.checked(&Call::Create {
-            name,
-            domain,
-            shape,
-        })?;
-        let Some(next) = self.next.checked_add(1) else {
-            unreachable!()
-        };
-        let object = Obj(self.next);
+        check_create(self, domain, shape)?;
         let store = Store::new(self.alloc, shape.rows(), shape.cols());
-        self.table.insert(
-            object,
-            Held {
-                domain,
-                shape,
-                store,
-            },
-        )?;
-        self.next = next;
+        let held = Held::new(self.alloc, domain, shape, store);
+        let object = self.insert(held)?;
         Ok(object)
+    }
+
+    /// Puts an object under the next number, behind which there is another.
+    fn insert(&mut self, held: Held) -> Result<Obj, NoMemory>
+        requires { (made_in self.old == 2 ^ 64 - 1) ≡ false }
+        ensures object { IfOk result (λ object. object ≡ next_object self.old) }
+        ensures put { OnOk result (environment_of self.new ≡ with_object same_object (environment_of self.old)
+            (next_object self.old) (object_of held) ((environment_of self.old).count + 1)) }
+        ensures made { OnOk result (made_in self.new ≡ made_in self.old + 1) }
+        ensures kept { OnErr result (environment_of self.new ≡ environment_of self.old) }
+        ensures unmade { OnErr result (made_in self.new ≡ made_in self.old) }
+    {
+        let object = Obj(self.next);
+        self.table.insert(object, held)?;
+        self.next += 1;
+        Ok(object)
+    }
+
+    /// Makes an object with the domain, the shape and the entries of another (`GrB_Matrix_dup`,
+    /// `GrB_Vector_dup`), whose lists it copies.
+    pub fn dup(&mut self, object: Obj) -> Result<Obj, Status>
+        ensures performed { IsPerformed self.old self.new (Call.Dup (next_object self.old) object) result }
+        ensures made { IfOk result (λ made. made ≡ next_object self.old) }
+        ensures unused { (environment_of self.old).find_object (next_object self.old) ≡ None }
+    {
+        check_dup(self, object)?;
+        self.settle(object)?;
+        let copy = self.settled(object).try_clone(self.alloc)?;
+        let object = self.insert(copy)?;
+        Ok(object)
+    }
+
+    /// Gives an object another shape, in which the entries stay that fit it (`GrB_Matrix_resize`,
+    /// `GrB_Vector_resize`).
+    pub fn resize(&mut self, object: Obj, shape: Shape) -> Result<(), Status>
+        ensures { IsPerformed self.old self.new (Call.Resize object shape) result }
+    {
+        check_resize(self, object, shape)?;
+        self.settle(object)?;
+        let held = self.settled(object);
+        let store = resize(self.alloc, &held.store, shape.rows(), shape.cols())?;
+        self.table.reshape(object, shape, store);
+        Ok(())
+    }
+
+    /// Puts values at positions of an object without entries; those of one position are combined in the order
+    /// of the list (`GrB_Matrix_build`, `GrB_Vector_build`).
+    pub fn build(
+        &mut self,
+        object: Obj,
+        dup: Option<OpName>,
+        tuples: TupleList,
+    ) -> Result<(), Status>
+        ensures { IsPerformed self.old self.new (Call.Build object dup tuples) result }
+    {
+        check_build(self, object, dup, &tuples)?;
+        self.settle(object)?;
+        let held = self.settled(object);
+        if held.store.nvals() > 0 {
+            return Err(Status::OutputNotEmpty);
+        }
+        let store = build(self.alloc, held.shape, held.domain, resolved(dup), &tuples)?;
+        self.table.replace(object, store);
+        Ok(())
     }
 
     /// Removes all entries of an object (`GrB_Matrix_clear`, `GrB_Vector_clear`). It takes no memory.
     pub fn clear(&mut self, object: Obj) -> Result<(), Status>
         ensures { IsPerformed self.old self.new (Call.Clear object) result }
     {
-        self.checked(&Call::Clear { object })?;
+        check_there(self, object)?;
         let Some(held) = self.table.find(object) else {
             unreachable!()
         };
@@ -126,8 +184,8 @@ impl Session {
     pub fn remove(&mut self, object: Obj, place: Place) -> Result<(), Status>
         ensures { IsPerformed self.old self.new (Call.Remove object place) result }
     {
-        self.checked(&Call::Remove { object, place })?;
-        self.table.remove_entry(object, place);
+        check_place(self, object, place)?;
+        self.table.remove_entry(self.alloc, object, place)?;
         Ok(())
     }
 
@@ -135,25 +193,20 @@ impl Session {
     pub fn set(&mut self, object: Obj, place: Place, value: i128) -> Result<(), Status>
         ensures { IsPerformed self.old self.new (Call.Set object place value) result }
     {
-        self.checked(&Call::Set {
-            object,
-            place,
-            value,
-        })?;
-        self.table.set(object, place, value)?;
+        check_set(self, object, place, value)?;
+        self.table.set(self.alloc, object, place, value)?;
         Ok(())
     }
 
     /// The value of an entry (`GrB_Matrix_extractElement`, `GrB_Vector_extractElement`).
-    pub fn get(&self, object: Obj, place: Place) -> Result<i128, Status>
-        ensures performed { IsPerformed self.now self.now (Call.Get object place) result }
-        ensures value { IfOk result (λ value. Answers (environment_of self.now) (Call.Get object place)
+    pub fn get(&mut self, object: Obj, place: Place) -> Result<i128, Status>
+        ensures performed { IsPerformed self.old self.new (Call.Get object place) result }
+        ensures value { IfOk result (λ value. Answers (environment_of self.old) (Call.Get object place)
             (Reply.Value value)) }
     {
-        self.checked(&Call::Get { object, place })?;
-        let Some(held) = self.table.find(object) else {
-            unreachable!()
-        };
+        check_place(self, object, place)?;
+        self.settle(object)?;
+        let held = self.settled(object);
         match held.store.get(place.row(), place.col()) {
             Some(word) => Ok(held.domain.value_of(word)),
             None => Err(Status::NoValue),
@@ -161,15 +214,14 @@ impl Session {
     }
 
     /// The number of entries (`GrB_Matrix_nvals`, `GrB_Vector_nvals`).
-    pub fn nvals(&self, object: Obj) -> Result<u64, Status>
-        ensures performed { IsPerformed self.now self.now (Call.Nvals object) result }
-        ensures number { IfOk result (λ number. Answers (environment_of self.now) (Call.Nvals object)
+    pub fn nvals(&mut self, object: Obj) -> Result<u64, Status>
+        ensures performed { IsPerformed self.old self.new (Call.Nvals object) result }
+        ensures number { IfOk result (λ number. Answers (environment_of self.old) (Call.Nvals object)
             (Reply.Count number)) }
     {
-        self.checked(&Call::Nvals { object })?;
-        let Some(held) = self.table.find(object) else {
-            unreachable!()
-        };
+        check_there(self, object)?;
+        self.settle(object)?;
+        let held = self.settled(object);
         Ok(held.store.nvals())
     }
 
@@ -178,20 +230,19 @@ impl Session {
         ensures performed { IsPerformed self.now self.now (Call.Print object) result }
         ensures there { OnOk result (is_some ((environment_of self.now).find_object object) ≡ true) }
     {
-        self.checked(&Call::Print { object })?;
+        check_there(self, object)?;
         Ok(())
     }
 
     /// The sum of all values of an object by a monoid, the identity where it has none (`GrB_reduce`).
-    pub fn reduce(&self, object: Obj, monoid: MonoidName) -> Result<i128, Status>
-        ensures performed { IsPerformed self.now self.now (Call.Reduce object monoid) result }
-        ensures value { IfOk result (λ value. Answers (environment_of self.now) (Call.Reduce object monoid)
+    pub fn reduce(&mut self, object: Obj, monoid: MonoidName) -> Result<i128, Status>
+        ensures performed { IsPerformed self.old self.new (Call.Reduce object monoid) result }
+        ensures value { IfOk result (λ value. Answers (environment_of self.old) (Call.Reduce object monoid)
             (Reply.Value value)) }
     {
-        self.checked(&Call::Reduce { object, monoid })?;
-        let Some(held) = self.table.find(object) else {
-            unreachable!()
-        };
+        check_reduce(self, object, monoid)?;
+        self.settle(object)?;
+        let held = self.settled(object);
         let Some(monoid) = monoid.resolve() else {
             unreachable!()
         };
@@ -199,13 +250,39 @@ impl Session {
         Ok(monoid.op.domain.value_of(sum))
     }
 
-    /// The object of a number.
+    /// The object of a number. Its store has all its entries once `settle` was called.
     pub fn held(&self, object: Obj) -> Result<&Held, Status>
-        ensures { MatchResult result
+        ensures there { MatchResult result
             (λ held. (environment_of self.now).find_object object ≡ Some (object_of held.now))
             (λ status. (status ≡ Status.UninitializedObject) × ((environment_of self.now).find_object object ≡ None)) }
+        ensures settled { IsSettled self.now.table object → IfOk result
+            (λ held. (environment_of self.now).find_object object ≡ Some (stored_object held.now)) }
     {
         self.table.find(object).ok_or(Status::UninitializedObject)
+    }
+
+    /// Does the edits that wait on an object, if it is there. An error leaves all objects as they were.
+    pub fn settle(&mut self, object: Obj) -> Result<(), NoMemory>
+        ensures kept { environment_of self.new ≡ environment_of self.old }
+        ensures made { made_in self.new ≡ made_in self.old }
+        ensures settled { OnOk result (IsSettled self.new.table object) }
+        ensures others { OnOk result ((other : Object) → IsSettled self.old.table other
+            → IsSettled self.new.table other) }
+    {
+        self.table.settle(self.alloc, object)
+    }
+
+    /// An object that is there and on which no edits wait.
+    pub(crate) fn settled(&self, object: Obj) -> &Held
+        requires there { is_some ((environment_of self.now).find_object object) ≡ true }
+        requires settled { IsSettled self.now.table object }
+        ensures held { (environment_of self.now).find_object object ≡ Some (stored_object result.now) }
+        ensures is_object { IsObject (stored_object result.now) }
+    {
+        match self.table.find(object) {
+            Some(held) => held,
+            None => unreachable!(),
+        }
     }
 
     /// Frees an object (`GrB_free`). Its number is never used again.
@@ -224,5 +301,16 @@ impl Session {
         } else {
             Err(Status::UninitializedObject)
         }
+    }
+}
+
+/// The operator of a name, which is offered.
+fn resolved(dup: Option<OpName>) -> Option<BinaryOp>
+    requires { option_map_or (λ op. offers op.kind op.domain) dup true ≡ true }
+    ensures { option_map op_named result ≡ dup }
+{
+    match dup?.resolve() {
+        Some(op) => Some(op),
+        None => unreachable!(),
     }
 }

@@ -1,13 +1,15 @@
 //! The table of objects by number.
-ghost use Rattle.std.specs.Prelude.{◌≡◌, ◌+◌, MatchOption, None, OnErr, OnOk, Some, if◌then◌else◌, is_some, true};
+ghost use Rattle.std.specs.Prelude.{◌≡◌, ◌+◌, IfSome, MatchOption, None, OnErr, OnOk, Some, if◌then◌else◌};
+ghost use Rattle.std.specs.Prelude.{is_some, true};
 ghost use Rattle.algebra.specs.Value.{is_value_of};
+ghost use Rattle.calls.specs.declared.obj.Obj.{Obj as Object};
 ghost use Rattle.model.specs.Object.{IsObject, cols_of, is_inside, rows_of};
 ghost use Rattle.model.specs.Run.{no_objects, object_at, with_content, with_object, without_object};
 ghost use Rattle.store.specs.Stored.{content_of};
 
 use crate::held::Held;
 use calls::Obj;
-use model::{NoMemory, Place};
+use model::{NoMemory, Place, Shape};
 use std::alloc::Global;
 use std::collections::BTreeMap;
 use store::Store;
@@ -19,8 +21,8 @@ pub struct Table {
 }
 
 impl Table {
-    ghost use Rattle.session.specs.Objects.{object_of, with_value, without_value};
-    ghost use Rattle.session.specs.Tables.{environment_in, same_object};
+    ghost use Rattle.session.specs.Objects.{object_of, stored_object, with_value, without_value};
+    ghost use Rattle.session.specs.Tables.{IsSettled, environment_in, same_object};
 
     /// No objects. It takes no memory.
     pub(crate) fn new(alloc: Global) -> Table
@@ -40,10 +42,24 @@ impl Table {
 
     /// The object of a number.
     pub(crate) fn find(&self, object: Obj) -> Option<&Held>
-        ensures { MatchOption result ((environment_in self.now).find_object object ≡ None)
+        ensures there { MatchOption result ((environment_in self.now).find_object object ≡ None)
             (λ held. (environment_in self.now).find_object object ≡ Some (object_of held.now)) }
+        ensures settled { IsSettled self.now object → IfSome result
+            (λ held. (object_of held.now ≡ stored_object held.now) × IsObject (stored_object held.now)) }
     {
         self.by_number.get(&object.0)
+    }
+
+    /// Does the edits that wait on an object, if it is there. An error leaves it as it was.
+    pub(crate) fn settle(&mut self, alloc: Global, object: Obj) -> Result<(), NoMemory>
+        ensures kept { environment_in self.new ≡ environment_in self.old }
+        ensures settled { OnOk result (IsSettled self.new object) }
+        ensures others { OnOk result ((other : Object) → IsSettled self.old other → IsSettled self.new other) }
+    {
+        match self.by_number.get_mut(&object.0) {
+            Some(held) => held.settle(alloc),
+            None => Ok(()),
+        }
     }
 
     /// Puts an object under a new number.
@@ -69,13 +85,36 @@ impl Table {
             (content_of store) }
     {
         match self.by_number.get_mut(&object.0) {
-            Some(held) => held.store = store,
+            Some(held) => held.replace(store),
             None => unreachable!(),
         }
     }
 
-    /// Sets a value at a place inside an object, in place.
-    pub(crate) fn set(&mut self, object: Obj, place: Place, value: i128) -> Result<(), NoMemory>
+    /// Gives an object another shape, and the store of it.
+    pub(crate) fn reshape(&mut self, object: Obj, shape: Shape, store: Store)
+        requires there { is_some ((environment_in self.old).find_object object) ≡ true }
+        requires rows { store.rows ≡ rows_of shape }
+        requires cols { store.cols ≡ cols_of shape }
+        requires is_object { IsObject (record (object_at (environment_in self.old) object)
+            { shape = shape; content = content_of store }) }
+        ensures { environment_in self.new ≡ with_object same_object (environment_in self.old) object
+            (record (object_at (environment_in self.old) object) { shape = shape; content = content_of store })
+            (environment_in self.old).count }
+    {
+        match self.by_number.get_mut(&object.0) {
+            Some(held) => held.reshape(shape, store),
+            None => unreachable!(),
+        }
+    }
+
+    /// Sets a value at a place inside an object.
+    pub(crate) fn set(
+        &mut self,
+        alloc: Global,
+        object: Obj,
+        place: Place,
+        value: i128,
+    ) -> Result<(), NoMemory>
         requires inside { is_inside place (object_at (environment_in self.old) object).shape ≡ true }
         requires value { is_value_of (object_at (environment_in self.old) object).domain value ≡ true }
         ensures set { OnOk result (environment_in self.new ≡ with_object same_object (environment_in self.old) object
@@ -83,19 +122,27 @@ impl Table {
         ensures refused { OnErr result (environment_in self.new ≡ environment_in self.old) }
     {
         match self.by_number.get_mut(&object.0) {
-            Some(held) => held.set(place, value),
+            Some(held) => held.set(alloc, place, value),
             None => unreachable!(),
         }
     }
 
-    /// Removes the entry at a place of an object, in place, where there is one.
-    pub(crate) fn remove_entry(&mut self, object: Obj, place: Place)
-        requires { is_some ((environment_in self.old).find_object object) ≡ true }
-        ensures { environment_in self.new ≡ with_object same_object (environment_in self.old) object
-            (without_value (object_at (environment_in self.old) object) place) (environment_in self.old).count }
+    /// Removes the entry at a place inside an object, where there is one.
+    pub(crate) fn remove_entry(
+        &mut self,
+        alloc: Global,
+        object: Obj,
+        place: Place,
+    ) -> Result<(), NoMemory>
+        requires there { is_some ((environment_in self.old).find_object object) ≡ true }
+        requires inside { is_inside place (object_at (environment_in self.old) object).shape ≡ true }
+        ensures removed { OnOk result (environment_in self.new ≡ with_object same_object (environment_in self.old)
+            object (without_value (object_at (environment_in self.old) object) place)
+            (environment_in self.old).count) }
+        ensures refused { OnErr result (environment_in self.new ≡ environment_in self.old) }
     {
         match self.by_number.get_mut(&object.0) {
-            Some(held) => held.remove(place),
+            Some(held) => held.remove(alloc, place),
             None => unreachable!(),
         }
     }

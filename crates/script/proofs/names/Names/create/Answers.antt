@@ -5,9 +5,10 @@ use Rattle.std.specs.Str.{bytes_eq}
 use Rattle.std.specs.String.{string_bytes}
 use Rattle.std.proofs.lemmas.Map.Text.{btree_map_updates_text}
 use Rattle.calls.specs.declared.obj.Obj.{Obj}
+use Rattle.model.specs.Object.{empty_object}
 use Rattle.model.specs.Run.{Environment}
 use Rattle.script.specs.Named.{number_in, through}
-use Rattle.script.proofs.CreateLaws.{created-distinct, created-effect, created-there, fault-taken, freed_again, get_by_text-unchanged}
+use Rattle.script.proofs.CreateLaws.{create-makes, created-distinct, created-effect, created-there, fault-taken, freed_again, get_by_text-unchanged}
 use Rattle.session.specs.Performed.{environment_of, next_object}
 use Rattle.script.proofs.names.Names.create.Goals as goal
 
@@ -36,8 +37,8 @@ invariant_of-self-in_default c =
     λ q. rw (named, c.in_ok-object.ensures.made) at (updates q) in
     record {
       distinct = created-distinct (number_in names) (λ name. get_by_text c.insert.new.self name) senv c.args.name.now next adds names.there c.in_ok-object.ensures.unused names.distinct;
-      there = created-there (number_in names) (λ name. get_by_text c.insert.new.self name) senv (environment_of c.create.new.self) c.args.name.now next c.args.domain c.args.shape adds names.there
-          c.in_ok-object.ensures.performed.effect;
+      there = created-there (number_in names) (λ name. get_by_text c.insert.new.self name) senv (environment_of c.create.new.self) c.args.name.now next (empty_object c.args.domain c.args.shape) adds names.there
+          (create-makes senv (environment_of c.create.new.self) next c.args.domain c.args.shape c.in_ok-object.ensures.performed.effect);
     }
 
 pub returns-clause-effect : goal.returns-clause-effect
@@ -57,8 +58,8 @@ invariant_of-self-in-Err c =
     let names = c.args.self.now in
     let same : (q : List ℕ) → get_by_text c.insert.new.self q ≡ get_by_text names.numbers q = λ q. get_by_text-unchanged names.numbers c.insert.new.self q c.in-Err.ensures.err in
     let freed : environment_of c.free.new.self ≡ environment_of names.session =
-    freed_again c.free.result (environment_of names.session) (environment_of c.create.new.self) (environment_of c.free.new.self) (next_object names.session) c.args.domain c.args.shape
-    c.in_ok-object.ensures.unused c.in_ok-object.ensures.performed.effect (rw c.in_ok-object.ensures.made at c.free.ensures.there) (rw c.in_ok-object.ensures.made at c.free.ensures.left) c.free.ensures.kept in
+    freed_again c.free.result (environment_of names.session) (environment_of c.create.new.self) (environment_of c.free.new.self) (next_object names.session) (empty_object c.args.domain c.args.shape)
+    c.in_ok-object.ensures.unused (create-makes (environment_of names.session) (environment_of c.create.new.self) (next_object names.session) c.args.domain c.args.shape c.in_ok-object.ensures.performed.effect) (rw c.in_ok-object.ensures.made at c.free.ensures.there) (rw c.in_ok-object.ensures.made at c.free.ensures.left) c.free.ensures.kept in
     record {
       distinct = λ a b object is_a is_b. names.distinct a b object (sym (same a) ∙ is_a) (sym (same b) ∙ is_b);
       there = λ name object is. ap (λ (env : Environment Obj). is_some (env.find_object object)) freed ∙ names.there name object (sym (same name) ∙ is);
@@ -68,6 +69,6 @@ pub returns-in-Err-clause-kept : goal.returns-in-Err-clause-kept
 returns-in-Err-clause-kept c =
     let names = c.args.self.now in
     let freed : environment_of c.free.new.self ≡ environment_of names.session =
-    freed_again c.free.result (environment_of names.session) (environment_of c.create.new.self) (environment_of c.free.new.self) (next_object names.session) c.args.domain c.args.shape
-    c.in_ok-object.ensures.unused c.in_ok-object.ensures.performed.effect (rw c.in_ok-object.ensures.made at c.free.ensures.there) (rw c.in_ok-object.ensures.made at c.free.ensures.left) c.free.ensures.kept in
+    freed_again c.free.result (environment_of names.session) (environment_of c.create.new.self) (environment_of c.free.new.self) (next_object names.session) (empty_object c.args.domain c.args.shape)
+    c.in_ok-object.ensures.unused (create-makes (environment_of names.session) (environment_of c.create.new.self) (next_object names.session) c.args.domain c.args.shape c.in_ok-object.ensures.performed.effect) (rw c.in_ok-object.ensures.made at c.free.ensures.there) (rw c.in_ok-object.ensures.made at c.free.ensures.left) c.free.ensures.kept in
     λ t. through (λ name. get_by_text-unchanged names.numbers c.insert.new.self name c.in-Err.ensures.err t) (freed t)

@@ -7,16 +7,16 @@ use Rattle.session.proofs.sessions.Session.clear.Goals as goal
 
 pub unreachable-requires : goal.unreachable-requires
 unreachable-requires c =
-    let there = clear-accepted (count_in c.args.self.now) ((environment_of c.args.self.now).find_object c.args.object) c.in_ok-checked.ensures.fault in
+    let there = clear-accepted (count_in c.args.self.now) ((environment_of c.args.self.now).find_object c.args.object) c.in_ok-check_there.ensures.clear in
     let none : (environment_of c.args.self.now).find_object c.args.object ≡ None = search rules in
     absurd (let e = rw none at there in cc)
 
 pub invariant_of-self : goal.invariant_of-self
 invariant_of-self c =
     let session = c.args.self.now in
-    let there = clear-accepted (count_in session) ((environment_of session).find_object c.args.object) c.in_ok-checked.ensures.fault in
+    let there = clear-accepted (count_in session) ((environment_of session).find_object c.args.object) c.in_ok-check_there.ensures.clear in
     let low : c.args.object.0 < session.next = session.fresh c.args.object there in
     record { fresh = below-put (environment_of session) _ c.args.object _ _ session.next session.next session.fresh low (omega arith) c.replace.ensures }
 
 pub returns : goal.returns
-returns c = performed-clear c.args.self.now _ c.args.object _ _ c.in_ok-checked.ensures.fault c.replace.ensures c.new-store.ensures.content refl
+returns c = performed-clear c.args.self.now _ c.args.object _ _ c.in_ok-check_there.ensures.clear c.replace.ensures c.new-store.ensures.content refl
