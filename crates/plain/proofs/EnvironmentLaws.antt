@@ -12,19 +12,23 @@ use Rattle.std.proofs.lemmas.List.Folds.{find_at}
 use Rattle.std.proofs.lemmas.List.Quantifiers.{position-Some}
 use Rattle.std.proofs.lemmas.Option.{slice_get_past}
 use Rattle.std.proofs.lemmas.Slice.Eq.{bytes_eq-Decides}
+use Rattle.algebra.specs.declared.operator_names.OpName.{OpName}
 use Rattle.algebra.specs.Value.{word_of}
-use Rattle.model.specs.declared.call.Call.TheVariants.{Clear, Create, Free, Operate, Remove, Set}
+use Rattle.model.specs.declared.call.Call.TheVariants.{Build, Clear, Create, Dup, Free, Operate, Remove, Resize, Set}
 use Rattle.model.specs.declared.call.Operation.{Operation}
-use Rattle.model.specs.declared.call.Operation.TheVariants.{OfOne, OfTwo}
+use Rattle.model.specs.declared.call.Operation.TheVariants.{Fill, OfOne, OfTwo}
 use Rattle.model.specs.declared.call.Out.{Out}
 use Rattle.model.specs.declared.shape.Place.{Place}
+use Rattle.model.specs.declared.shape.Shape.{Shape}
+use Rattle.model.specs.declared.tuples.Tuple.{Tuple}
+use Rattle.model.specs.Builds.{built}
 use Rattle.model.specs.Entries.{entries_of, word_at}
 use Rattle.model.specs.Fault.{found_object}
 use Rattle.model.specs.Grammar.{Name}
 use Rattle.model.specs.Object.{Content, IsWithin, Object, col_of, cols_of, empty_object, no_content, row_of, rows_of, with_entry}
 use Rattle.model.specs.Object.{without_entry}
 use Rattle.model.specs.Renamed.{inputs_of, renamed_operation, renamed_out}
-use Rattle.model.specs.Run.{Environment, effect, object_at, with_object}
+use Rattle.model.specs.Run.{Environment, effect, object_at, resized, with_object}
 use Rattle.model.specs.WriteBack.{result_of}
 use Rattle.model.proofs.EnvironmentLaws.{environments_equal}
 use Rattle.model.proofs.ObjectLaws.{objects_equal}
@@ -34,7 +38,7 @@ use Rattle.plain.specs.declared.objects.PlainObject.{PlainObject}
 use Rattle.plain.specs.Environments.{environment_of, fault_in, find_in}
 use Rattle.plain.specs.Evaluated.{object_of}
 use Rattle.plain.proofs.FaultLaws.{accepted-fault}
-use Rattle.plain.proofs.GridLaws.{listed-whole}
+use Rattle.plain.proofs.ObjectLaws.{object-listed}
 
 abbrev has_name : Name → PlainObject → Bool
 has_name name o = bytes_eq (string_bytes o.name) name
@@ -67,6 +71,20 @@ unfolding effect
 environment-created old new o more count empty =
     let is = objects_equal (object_of o) (empty_object o.domain o.shape) refl refl (empty_content o empty) in
     environments_equal (environment_of new) (effect bytes_eq (environment_of old) (Create (string_bytes o.name) o.domain o.shape))
+    (λ other.
+    ap (λ (os : List PlainObject). option_map object_of (find_in os other)) more
+    ∙ option_map-cond object_of (bytes_eq (string_bytes o.name) other) o (find_in old.objects.items other)
+    ∙ ap (λ x. cond (bytes_eq (string_bytes o.name) other) (Some x) (option_map object_of (find_in old.objects.items other))) is)
+    count
+
+-- one object more, like another
+pub environment-copied : (old new : PlainEnvironment) (x o : PlainObject) (object : Name) → new.objects.items ≡ o ∷ old.objects.items → new.live ≡ old.live + 1
+    → (environment_of old).find_object object ≡ Some (object_of x) → object_of o ≡ object_of x
+    → environment_of new ≡ effect bytes_eq (environment_of old) (Dup (string_bytes o.name) object)
+unfolding effect
+environment-copied old new x o object more count there same =
+    let is : object_of o ≡ object_at (environment_of old) object = same ∙ sym (ap found_object there) in
+    environments_equal (environment_of new) (effect bytes_eq (environment_of old) (Dup (string_bytes o.name) object))
     (λ other.
     ap (λ (os : List PlainObject). option_map object_of (find_in os other)) more
     ∙ option_map-cond object_of (bytes_eq (string_bytes o.name) other) o (find_in old.objects.items other)
@@ -221,6 +239,17 @@ module _ (old new : PlainEnvironment) (name : Name) (at : ℕ) (x y : PlainObjec
       object-changed (λ o. record o { content = without_entry o.content (row_of p) (col_of p) })
       (objects_equal (object_of y) (record (object_of x) { content = without_entry (object_of x).content (row_of p) (col_of p) }) same_domain same_shape removed)
 
+  -- it has another shape
+  pub object-resized : (shape : Shape) → object_of y ≡ resized (object_of x) shape → environment_of new ≡ effect bytes_eq (environment_of old) (Resize name shape)
+  unfolding effect
+  object-resized shape changed = object-changed (λ o. resized o shape) changed
+
+  -- it has what tuples build
+  pub object-built : (dup : Option OpName) (tuples : List Tuple) → object_of y ≡ record (object_of x) { content = built dup x.domain tuples }
+      → environment_of new ≡ effect bytes_eq (environment_of old) (Build name dup tuples)
+  unfolding effect
+  object-built dup tuples changed = object-changed (λ o. record o { content = built dup o.domain tuples }) changed
+
 -- ---- objects that are freed
 
 -- the first object of another name among those that have not one name
@@ -272,6 +301,7 @@ keeps_inside : (env : PlainEnvironment) (name : Name) → KeepsInside (object_at
 keeps_inside env name = inside_found (find_in env.objects.items name)
 
 inputs_inside : (env : PlainEnvironment) (operation : Operation Name) → All KeepsInside (inputs_of (renamed_operation (object_at (environment_of env)) operation))
+inputs_inside env (Fill value region) = All-nil KeepsInside
 inputs_inside env (OfOne computes a) = All-cons KeepsInside (object_at (environment_of env) a) [] (keeps_inside env a) (All-nil KeepsInside)
 inputs_inside env (OfTwo computes a b) =
     let object = object_at (environment_of env) in
@@ -289,13 +319,6 @@ left-within env out operation accepted =
     result-within (renamed_out object out) (renamed_operation object operation)
     (accepted-fault (environment_of env).count (environment_of env).find_object out operation accepted)
     (keeps_inside env out.c) (inputs_inside env operation)
-
--- an object that lists the entries of a map inside its shape has that map
-object-listed : (x y : PlainObject) (c : Content) → y.domain ≡ x.domain → y.shape ≡ x.shape → y.entries.items ≡ entries_of (rows_of x.shape) (cols_of x.shape) c
-    → IsWithin (rows_of x.shape) (cols_of x.shape) c → object_of y ≡ record (object_of x) { content = c }
-object-listed x y c same_domain same_shape lists inside =
-    objects_equal (object_of y) (record (object_of x) { content = c }) same_domain same_shape
-    (λ i j. rw (same_shape, lists) (listed-whole (rows_of x.shape) (cols_of x.shape) c i j (inside i j)))
 
 -- the output lists what the operation leaves
 pub object-operated : (old new : PlainEnvironment) (out : Out Name) (operation : Operation Name) (at : ℕ) (x y : PlainObject)

@@ -1,5 +1,5 @@
 -- The faults of operations whose objects are found, or are not, and what accepted calls find.
-use Rattle.std.proofs.Common.{◌≡◌, ◌∙◌, ℕ, ℤ, refl, sym, ap, inl, inr, Bool, true, false, cond, not, ◌&&◌, List, [], ◌∷◌, ◌++◌, is_some, Option, Some, None}
+use Rattle.std.proofs.Common.{◌≡◌, ◌∙◌, ℕ, ℤ, refl, sym, ap, inl, inr, Bool, true, false, cond, not, ◌&&◌, ◌||◌, List, [], ◌∷◌, ◌++◌, is_some, Option, Some, None}
 use Rattle.std.specs.Prelude.{nat_le}
 use Rattle.std.specs.List.{list_all}
 use Rattle.std.specs.Option.{option_map, option_map_or}
@@ -9,21 +9,23 @@ use Rattle.algebra.specs.declared.operator_names.MonoidName.{MonoidName}
 use Rattle.algebra.specs.declared.operator_names.OpName.{OpName}
 use Rattle.algebra.specs.Operators.{answer_domain, combines_by, offers}
 use Rattle.algebra.specs.Value.{are_compatible, is_value_of, same_domain}
-use Rattle.model.specs.declared.call.Call.TheVariants.{Clear, Create, Nvals, Operate, Print, Reduce, Remove, Set}
+use Rattle.model.specs.declared.call.Call.TheVariants.{Build, Clear, Create, Dup, Nvals, Operate, Print, Reduce, Remove, Resize, Set}
 use Rattle.model.specs.declared.call.Operation.{Operation}
-use Rattle.model.specs.declared.call.Operation.TheVariants.{OfOne, OfTwo}
+use Rattle.model.specs.declared.call.Operation.TheVariants.{Fill, OfOne, OfTwo}
 use Rattle.model.specs.declared.call.Out.{Out}
-use Rattle.model.specs.declared.limits.TheConstants.{MOST_OBJECTS}
+use Rattle.model.specs.declared.limits.TheConstants.{MOST_FILLED, MOST_OBJECTS}
 use Rattle.model.specs.declared.shape.Place.{Place}
 use Rattle.model.specs.declared.shape.Shape.{Shape}
 use Rattle.model.specs.declared.shape.Signature.{Signature}
 use Rattle.model.specs.declared.status.Status.{Status}
 use Rattle.model.specs.declared.status.Status.TheVariants as status
-use Rattle.model.specs.Come.{desc_has_come}
-use Rattle.model.specs.Fault.{accumulates, early_fault, fault_of, found_object, found_signature, operation_fault}
+use Rattle.model.specs.declared.tuples.Tuple.{Tuple}
+use Rattle.model.specs.Builds.{are_inside, are_of_kind, are_single, are_values_of}
+use Rattle.model.specs.Fault.{accumulates, early_fault, fault_of, found_object, found_signature, has_entries}
+use Rattle.model.specs.Fault.{operation_fault}
 use Rattle.model.specs.Object.{Object, is_inside, is_of_kind, signature_of}
 use Rattle.model.specs.Renamed.{inputs_of, outputs_of, renamed_operation, renamed_out}
-use Rattle.model.specs.Table.{is_offered}
+use Rattle.model.specs.Table.{filled_by, is_offered}
 use Rattle.model.proofs.WriteBackLaws.{accepted-implemented}
 use Rattle.plain.specs.Evaluated.{accumulator_offered, are_operators}
 
@@ -37,6 +39,7 @@ pub out-composed : {K L M : Type 0} (f : K → L) (g : L → M) (out : Out K) �
 out-composed {M = M} f g out = ap (λ (mask : Option M). let o : Out M = record { c = g (f out.c); mask = mask; accum = out.accum; desc = out.desc } in o) (mask_composed f g out.mask)
 
 pub operation-composed : {K L M : Type 0} (f : K → L) (g : L → M) (operation : Operation K) → renamed_operation g (renamed_operation f operation) ≡ renamed_operation (λ k. g (f k)) operation
+operation-composed f g (Fill value region) = refl
 operation-composed f g (OfOne computes a) = refl
 operation-composed f g (OfTwo computes a b) = refl
 
@@ -48,6 +51,7 @@ out-same : {K L : Type 0} (f g : K → L) (out : Out K) → ((k : K) → f k ≡
 out-same f g out same = λ i. record { c = same out.c i; mask = mask_same f g out.mask same i; accum = out.accum; desc = out.desc }
 
 operation-same : {K L : Type 0} (f g : K → L) (operation : Operation K) → ((k : K) → f k ≡ g k) → renamed_operation f operation ≡ renamed_operation g operation
+operation-same f g (Fill value region) same = refl
 operation-same f g (OfOne computes a) same = λ i. OfOne computes (same a i)
 operation-same f g (OfTwo computes a b) same = λ i. OfTwo computes (same a i) (same b i)
 
@@ -59,6 +63,7 @@ out-itself : {K : Type 0} (out : Out K) → renamed_out (λ k. k) out ≡ out
 out-itself {K = K} out = ap (λ (mask : Option K). let o : Out K = record out { mask = mask } in o) (mask_itself out.mask)
 
 operation-itself : {K : Type 0} (operation : Operation K) → renamed_operation (λ k. k) operation ≡ operation
+operation-itself (Fill value region) = refl
 operation-itself (OfOne computes a) = refl
 operation-itself (OfTwo computes a b) = refl
 
@@ -95,6 +100,9 @@ abbrev pub all_there : {X : Type 0} → Out (Option X) → Operation (Option X) 
 all_there out operation = list_all is_some (outputs_of out ++ inputs_of operation)
 
 there-known : {X Y : Type 0} (f : X → Y) (out : Out (Option X)) (operation : Operation (Option X)) → all_there (renamed_out (option_map f) out) (renamed_operation (option_map f) operation) ≡ all_there out operation
+there-known {X = X} f out (Fill value region) =
+    elim out.mask as (λ (mask : Option (Option X)). let o : Out (Option X) = record out { mask = mask } in all_there (renamed_out (option_map f) o) (renamed_operation (option_map f) (Fill value region)) ≡ all_there o (Fill value region))
+    [ None ↦ rw (known_there f out.c) refl | Some m ↦ rw (known_there f out.c, known_there f m) refl ]
 there-known {X = X} f out (OfOne computes a) =
     elim out.mask as (λ (mask : Option (Option X)). let o : Out (Option X) = record out { mask = mask } in all_there (renamed_out (option_map f) o) (renamed_operation (option_map f) (OfOne computes a)) ≡ all_there o (OfOne computes a))
     [ None ↦ rw (known_there f out.c, known_there f a) refl | Some m ↦ rw (known_there f out.c, known_there f m, known_there f a) refl ]
@@ -144,6 +152,8 @@ pub fault-no_input : (count : ℕ) (out : Out (Option Object)) (operation : Oper
 fault-no_input count out operation h = missing count out operation (nor {L = Object} (outputs_of out) (inputs_of operation) h)
 
 all_some : {X : Type 0} (out : Out X) (operation : Operation X) → all_there (renamed_out Some out) (renamed_operation Some operation) ≡ true
+all_some {X = X} out (Fill value region) =
+    elim out.mask as (λ (mask : Option X). let o : Out X = record out { mask = mask } in all_there (renamed_out Some o) (renamed_operation Some (Fill value region)) ≡ true) [ None ↦ refl | Some m ↦ refl ]
 all_some {X = X} out (OfOne computes a) =
     elim out.mask as (λ (mask : Option X). let o : Out X = record out { mask = mask } in all_there (renamed_out Some o) (renamed_operation Some (OfOne computes a)) ≡ true) [ None ↦ refl | Some m ↦ refl ]
 all_some {X = X} out (OfTwo computes a b) =
@@ -186,23 +196,25 @@ accepted-fault count find_object out operation accepted =
     ∙ sym (there count found_out found_operation (accepted-there count found_out found_operation accepted)) ∙ accepted
 
 offered_as : {K L : Type 0} (f : K → L) (operation : Operation K) → is_offered (renamed_operation f operation) ≡ is_offered operation
+offered_as f (Fill value region) = refl
 offered_as f (OfOne computes a) = refl
 offered_as f (OfTwo computes a b) = refl
 
-accumulator-offered : (domain : Domain) (accum : Option OpName) → option_map_or (accumulates domain) accum true ≡ true → accumulator_offered accum ≡ true
+pub accumulator-offered : (domain : Domain) (accum : Option OpName) → option_map_or (accumulates domain) accum true ≡ true → accumulator_offered accum ≡ true
 accumulator-offered domain None h = refl
 accumulator-offered domain (Some op) h =
     (and_parts (offers op.kind op.domain) (same_domain op.domain domain) (and_parts (offers op.kind op.domain && same_domain op.domain domain) (same_domain (answer_domain op.kind op.domain) domain) h).0).0
 
 -- the operators of an accepted operation are there
-pub accepted-operators : {K : Type 0} (f : K → Object) (out : Out K) (operation : Operation K)
-    → operation_fault (renamed_out signature_of (renamed_out f out)) (renamed_operation signature_of (renamed_operation f operation)) ≡ None → are_operators out operation ≡ true
-accepted-operators f out operation accepted =
-    let known_out = renamed_out signature_of (renamed_out f out) in
-    let known = renamed_operation signature_of (renamed_operation f operation) in
-    let all = and_parts (is_offered known && desc_has_come out.desc) (option_map_or (accumulates known_out.c.domain) known_out.accum true) (accepted-implemented known_out known accepted) in
-    let offered = (and_parts (is_offered known) (desc_has_come out.desc) all.0).0 in
-    rw (sym (offered_as f operation) ∙ sym (offered_as signature_of (renamed_operation f operation)) ∙ offered, accumulator-offered known_out.c.domain out.accum all.1) refl
+pub accepted-operators : (out : Out Object) (operation : Operation Object)
+    → operation_fault (renamed_out signature_of out) (renamed_operation signature_of operation) ≡ None → are_operators out operation ≡ true
+accepted-operators out operation accepted =
+    let known_out = renamed_out signature_of out in
+    let known = renamed_operation signature_of operation in
+    let few = nat_le (filled_by known_out.c.shape known) MOST_FILLED in
+    let all = and_parts (is_offered known && few) (option_map_or (accumulates known_out.c.domain) known_out.accum true) (accepted-implemented known_out known accepted) in
+    let offered = (and_parts (is_offered known) few all.0).0 in
+    rw (sym (offered_as signature_of operation) ∙ offered, accumulator-offered known_out.c.domain out.accum all.1) refl
 
 -- ---- other accepted calls
 
@@ -270,3 +282,51 @@ accepted-set-there count (Some o) place value h none = absurd (cc)
 pub accepted-output : (count : ℕ) (out : Out (Option Object)) (operation : Operation (Option Object)) → fault_of count (Operate out operation) ≡ None → out.c ≡ None → ⊥
 accepted-output count out operation accepted none =
     some_not_none status.UninitializedObject (fault_of count (Operate out operation)) (missing count out operation (rw none refl)) accepted
+
+-- an accepted copy has its object, and finds room for one object more
+copied : (taken most : Bool) → option_map_or Some (cond taken (Some status.NameTaken) (cond most (Some status.NotImplemented) None)) None ≡ None → most ≡ false
+copied true most h = absurd (cc)
+copied false true h = absurd (cc)
+copied false false h = refl
+
+missing_or_taken : (taken : Bool) (rest : Option Status) → option_map_or Some (cond taken (Some status.NameTaken) (Some status.UninitializedObject)) rest ≡ None → ⊥
+missing_or_taken true rest h = cc
+missing_or_taken false rest h = cc
+
+pub accepted-dup-there : (count : ℕ) (taken : Bool) (o : Option Object) → fault_of count (Dup taken o) ≡ None → o ≡ None → ⊥
+unfolding early_fault
+accepted-dup-there count taken None h none = missing_or_taken taken None h
+accepted-dup-there count taken (Some o) h none = absurd (cc)
+
+pub accepted-dup : (count : ℕ) (taken : Bool) (o : Option Object) → fault_of count (Dup taken o) ≡ None → nat_le MOST_OBJECTS count ≡ false
+unfolding early_fault
+accepted-dup count taken None h = absurd (missing_or_taken taken None h)
+accepted-dup count taken (Some o) h = copied taken (nat_le MOST_OBJECTS count) h
+
+pub accepted-resize : (count : ℕ) (o : Option Object) (shape : Shape) → fault_of count (Resize o shape) ≡ None → o ≡ None → ⊥
+unfolding early_fault
+accepted-resize count None shape h none = absurd (cc)
+accepted-resize count (Some o) shape h none = absurd (cc)
+
+build_passed : (kind joins inside valid entries : Bool)
+    → option_map_or Some (cond (not kind) (Some status.WrongKind)
+    (cond (not joins) (Some status.NotImplemented) (cond (not inside) (Some status.IndexOutOfBounds) (cond (not valid) (Some status.InvalidValue) None))))
+    (cond entries (Some status.OutputNotEmpty) None) ≡ None
+    → (joins ≡ true) × (inside ≡ true)
+build_passed true true true valid entries h = (refl, refl)
+build_passed true true false valid entries h = absurd (cc)
+build_passed true false inside valid entries h = absurd (cc)
+build_passed false joins inside valid entries h = absurd (cc)
+
+-- an accepted build has an operator of the object's domain, where it has one, and lies inside the object
+pub accepted-build : (count : ℕ) (found : Option Object) (o : Object) (dup : Option OpName) (tuples : List Tuple) → found ≡ Some o → fault_of count (Build found dup tuples) ≡ None
+    → (option_map_or (accumulates o.domain) dup true ≡ true) × (are_inside o.shape tuples ≡ true)
+unfolding early_fault
+accepted-build count found o dup tuples is accepted =
+    build_passed (are_of_kind o.shape tuples) (option_map_or (accumulates o.domain) dup true) (are_inside o.shape tuples)
+    (are_values_of o.domain tuples && (is_some dup || are_single tuples)) (has_entries o) (rw is at accepted)
+
+pub accepted-build-there : (count : ℕ) (o : Option Object) (dup : Option OpName) (tuples : List Tuple) → fault_of count (Build o dup tuples) ≡ None → o ≡ None → ⊥
+unfolding early_fault
+accepted-build-there count None dup tuples h none = absurd (cc)
+accepted-build-there count (Some o) dup tuples h none = absurd (cc)

@@ -1,5 +1,5 @@
 -- Walks over the positions of a shape, row by row, and lists of entries.
-use Rattle.std.proofs.Common.{◌≡◌, ℕ, zero, suc, ◌+◌, ◌<◌, ◌≤◌, ◌==◌, ◌&&◌, ◌||◌, Bool, true, false, cond, List, [], ◌∷◌, ◌++◌, length, filter, get_or, drop, inl, inr, Option, Some, None, refl, sym, ◌∙◌, ap, arith, append_assoc, add-one, add-zero}
+use Rattle.std.proofs.Common.{◌≡◌, ℕ, zero, suc, ◌+◌, ◌<◌, ◌≤◌, ◌==◌, ◌&&◌, ◌||◌, Bool, true, false, cond, not, is_some, List, [], ◌∷◌, ◌++◌, length, filter, get_or, drop, inl, inr, Option, Some, None, refl, sym, ◌∙◌, ap, arith, append_assoc, add-one, add-zero}
 use Rattle.std.specs.Prelude.{nat_le, nat_lt}
 use Rattle.std.specs.List.{cons_option, filter_map, flat_map}
 use Rattle.std.specs.Option.{option_map, option_or}
@@ -13,6 +13,7 @@ use Rattle.std.proofs.Math.ListN.{drop_of_length-le}
 use Rattle.model.specs.declared.entry.Entry.{Entry}
 use Rattle.model.specs.Entries.{below, count_from, entries_of, entry_at, row_entries, word_at}
 use Rattle.model.specs.Object.{Content, with_entry, without_entry}
+use Rattle.model.specs.Regions.{cut_to}
 use Rattle.plain.specs.Evaluated.{is_apart, within}
 
 -- one number more
@@ -221,3 +222,55 @@ inside_twice false v h = sym (h refl)
 -- the entries of a map that has nothing outside the shape stand for it
 pub listed-whole : (rows cols : ℕ) (c : Content) (i j : ℕ) → ((nat_lt i rows && nat_lt j cols) ≡ false → c i j ≡ None) → within rows cols (word_at (entries_of rows cols c)) i j ≡ c i j
 listed-whole rows cols c i j outside = rw (listed rows cols c i j) (inside_twice (nat_lt i rows && nat_lt j cols) (c i j) outside)
+
+chosen_twice : (test : Bool) (v : Option ℕ) → cond test (cond test v None) None ≡ cond test v None
+chosen_twice true v = refl
+chosen_twice false v = refl
+
+-- ..of any map stand for what it has inside the shape
+pub listed-cut : (rows cols : ℕ) (c : Content) (i j : ℕ) → within rows cols (word_at (entries_of rows cols c)) i j ≡ cut_to rows cols c i j
+listed-cut rows cols c i j = rw (listed rows cols c i j) (chosen_twice (nat_lt i rows && nat_lt j cols) (c i j))
+
+-- ---- whether there are entries
+
+some-length : {X : Type 0} (x : X) (xs : List X) → not (length (x ∷ xs) == 0) ≡ true
+some-length x xs = grind (arith, nat_tests)
+
+is_none-append : {X : Type 0} (xs ys : List X) → not (length (xs ++ ys) == 0) ≡ (not (length xs == 0) || not (length ys == 0))
+is_none-append [] ys = refl
+is_none-append (x ∷ xs) ys = rw (some-length x xs, some-length x (xs ++ ys)) refl
+
+option-length : {X : Type 0} (o : Option X) → not (length (cons_option o []) == 0) ≡ is_some o
+option-length None = refl
+option-length (Some x) = refl
+
+entry_there : (i j : ℕ) (o : Option ℕ) → is_some (option_map (entry_at i j) o) ≡ is_some o
+entry_there i j None = refl
+entry_there i j (Some w) = refl
+
+pub no_columns : (c : Content) (i : ℕ) → false ≡ not (length (row_entries 0 c i) == 0)
+unfolding count_from
+no_columns c i = refl
+
+pub no_rows : {Y : Type 0} (h : ℕ → List Y) → false ≡ not (length (flat_map h (below 0)) == 0)
+unfolding count_from
+no_rows h = refl
+
+-- whether a row has an entry in one column more
+pub row_has-more : (c : Content) (i n : ℕ) → not (length (row_entries (n + 1) c i) == 0) ≡ (not (length (row_entries n c i) == 0) || is_some (c i n))
+row_has-more c i n =
+    let h = λ (j : ℕ). option_map (entry_at i j) (c i j) in
+    ap (λ (es : List Entry). not (length es == 0)) (filter_map-below-more h n)
+    ∙ is_none-append (row_entries n c i) (cons_option (h n) [])
+    ∙ ap (λ b. not (length (row_entries n c i) == 0) || b) (option-length (h n) ∙ entry_there i n (c i n))
+
+-- ..and whether one row more has one
+pub rows_have-more : {Y : Type 0} (h : ℕ → List Y) (n : ℕ) → not (length (flat_map h (below (n + 1))) == 0) ≡ (not (length (flat_map h (below n)) == 0) || not (length (h n) == 0))
+rows_have-more {Y = Y} h n =
+    ap (λ (ys : List Y). not (length ys == 0)) (flat_map-below-more h n) ∙ is_none-append (flat_map h (below n)) (h n)
+
+-- ..and whether all of them have one
+pub have_rows : (rows cols : ℕ) (c : Content) (found : Bool) → found ≡ not (length (flat_map (row_entries cols c) (below rows)) == 0)
+    → found ≡ not (length (entries_of rows cols c) == 0)
+unfolding entries_of
+have_rows rows cols c found is = is

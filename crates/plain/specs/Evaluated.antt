@@ -7,14 +7,20 @@ use Rattle.algebra.specs.declared.operator_names.OpName.{OpName}
 use Rattle.model.specs.declared.call.Form.{Form}
 use Rattle.model.specs.declared.call.Form.TheVariants.{MatrixMatrix, MatrixVector, VectorMatrix}
 use Rattle.model.specs.declared.call.Operation.{Operation}
+use Rattle.model.specs.declared.call.Operation.TheVariants.{Fill, OfOne, OfTwo}
 use Rattle.model.specs.declared.call.Out.{Out}
 use Rattle.model.specs.declared.shape.Signature.{Signature}
 use Rattle.model.specs.declared.entry.Entry.{Entry}
 use Rattle.model.specs.Entries.{word_at}
-use Rattle.model.specs.Object.{Content, Object, cols_of, rows_of, signature_of, turned_content, turned_object}
+use Rattle.model.specs.Fault.{plan_in}
+use Rattle.model.specs.Object.{Content, Object, cast_content, cols_of, rows_of, signature_of, turned_content}
+use Rattle.model.specs.Object.{turned_object}
+use Rattle.model.specs.Operations.{is_written_by, operation as computed}
 use Rattle.model.specs.Renamed.{renamed_operation, renamed_out}
-use Rattle.model.specs.Table.{is_offered, turned_if}
-use Rattle.model.specs.WriteBack.{result_of}
+use Rattle.model.specs.Table.{is_offered, turned, turned_if}
+use Rattle.model.specs.WriteBack.{landed, result_of}
+use Rattle.plain.specs.declared.found.Found.{Found}
+use Rattle.plain.specs.declared.found.Found.TheVariants as found
 use Rattle.plain.specs.declared.objects.PlainObject.{PlainObject}
 use Rattle.plain.specs.declared.inputs.Input.{Input}
 
@@ -44,25 +50,36 @@ lines_of lines = map (λ line. line.items) lines.items
 abbrev pub out_of : Out (Bor PlainObject) → Out Object
 out_of out = renamed_out (λ o. object_of o.now) out
 
-abbrev pub operation_of : Operation (Bor PlainObject) → Operation Object
-operation_of operation = renamed_operation (λ o. object_of o.now) operation
+abbrev pub operation_of : Found → Operation Object
+operation_of (found.Fill value region) = Fill value region.now
+operation_of (found.OfOne computes a) = OfOne computes.now (object_of a.now)
+operation_of (found.OfTwo computes a b) = OfTwo computes (object_of a.now) (object_of b.now)
 
 -- what is known of them without their values
 abbrev pub known_out : Out (Bor PlainObject) → Out Signature
 known_out out = renamed_out signature_of (out_of out)
 
-abbrev pub known_operation : Operation (Bor PlainObject) → Operation Signature
+abbrev pub known_operation : Found → Operation Signature
 known_operation operation = renamed_operation signature_of (operation_of operation)
 
 -- what an operation leaves in its output
-abbrev pub result_in : Out (Bor PlainObject) → Operation (Bor PlainObject) → Content
+abbrev pub result_in : Out (Bor PlainObject) → Found → Content
 result_in out operation = result_of (out_of out) (operation_of operation)
+
+-- ..where no mask keeps it out
+abbrev pub landed_in : Out (Bor PlainObject) → Found → Content
+landed_in out operation =
+    let c = signature_of (out_of out).c in
+    let plan = plan_in c out.desc (known_operation operation) in
+    let values = cast_content plan.domain c.domain
+    (computed c (turned turned_object out.desc (operation_of operation))) in
+    landed (out_of out) (is_written_by c.shape (operation_of operation)) values
 
 -- whether there are the operators that an operation and its accumulator name
 abbrev pub accumulator_offered : Option OpName → Bool
 accumulator_offered accum = option_map_or (λ op. offers op.kind op.domain) accum true
 
-abbrev pub are_operators : {K : Type 0} → Out K → Operation K → Bool
+abbrev pub are_operators : Out Object → Operation Object → Bool
 are_operators out operation = is_offered operation && accumulator_offered out.accum
 
 -- an input as it is read

@@ -41,8 +41,8 @@ impl PlainEnvironment {
         ensures { IfOk result (λ lines.
             lines_of lines ≡ data_lines_of (on_objects (environment_of self.now) (named call.now))) }
     {
-        match *call {
-            Call::Get { object, place } => value_lines(alloc, self.object(object), place),
+        match call {
+            Call::Get { object, place } => value_lines(alloc, self.object(object), *place),
             Call::Nvals { object } => count_lines(alloc, self.object(object)),
             Call::Print { object } => canonical_lines(alloc, self.object(object)),
             Call::Reduce { object, monoid } => {

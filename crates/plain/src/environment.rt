@@ -14,11 +14,12 @@ ghost use Rattle.plain.specs.Environments.{named, named_operation, named_out};
 ghost use Rattle.plain.specs.Evaluated.{operation_of, out_of};
 
 use crate::answers::PlainAnswer;
+use crate::found::Found;
 use crate::grid::entries;
 use crate::objects::PlainObject;
 use crate::write_back::Left;
-use algebra::Domain;
-use model::{Call, Entry, Operation, Out, Place, Shape, Status};
+use algebra::{Domain, OpName};
+use model::{Call, Entry, Operation, Out, Place, Shape, Status, TupleList};
 use std::alloc::{AllocError, Global};
 
 /// The objects of a run, the newest first, and how many there are. Each call is done as the definition
@@ -78,21 +79,29 @@ impl PlainEnvironment {
     }
 
     /// The objects that the inputs of an operation name, if they are there.
-    pub(crate) fn find_inputs(&self, operation: &Operation<&str>) -> Option<Operation<&PlainObject>>
+    pub(crate) fn find_inputs<'a>(&'a self, operation: &'a Operation<&str>) -> Option<Found<'a>>
         ensures { let find_object = (environment_of self.now).find_object in
             let found = renamed_operation find_object (named_operation operation.now) in
             MatchOption result (IsMissing (inputs_of found))
             (λ objects. renamed_operation Some (operation_of objects) ≡ found) }
     {
-        match *operation {
+        match operation {
+            Operation::Fill { value, region } => Some(Found::Fill {
+                value: *value,
+                region,
+            }),
             Operation::OfOne { computes, a } => {
                 let a = self.find(a)?;
-                Some(Operation::OfOne { computes, a })
+                Some(Found::OfOne { computes, a })
             }
             Operation::OfTwo { computes, a, b } => {
                 let a = self.find(a)?;
                 let b = self.find(b)?;
-                Some(Operation::OfTwo { computes, a, b })
+                Some(Found::OfTwo {
+                    computes: *computes,
+                    a,
+                    b,
+                })
             }
         }
     }
@@ -122,6 +131,57 @@ impl PlainEnvironment {
         self.objects.insert(0, object)?;
         self.live += 1;
         Ok(())
+    }
+
+    /// Makes an object like another. An error leaves the objects as they were.
+    #[tactic(auto, unfolding(model::specs::Run::effect))]
+    fn dup(&mut self, alloc: Global, name: &str, object: &str) -> Result<(), AllocError>
+        requires { fault_in self.old (Call.Dup name.now object.now) ≡ None }
+        ensures { MatchResult result
+            (λ _. environment_of self.new ≡ effect_in self.old (Call.Dup name.now object.now))
+            (λ _. environment_of self.new ≡ environment_of self.old) }
+    {
+        let Some(index) = self.position(object) else {
+            unreachable!()
+        };
+        let copy = self.objects[index].named(alloc, name)?;
+        self.objects.insert(0, copy)?;
+        self.live += 1;
+        Ok(())
+    }
+
+    /// Gives an object another shape. An error leaves the objects as they were.
+    fn resize(&mut self, alloc: Global, name: &str, shape: Shape) -> Result<(), AllocError>
+        requires { fault_in self.old (Call.Resize name.now shape) ≡ None }
+        ensures { MatchResult result
+            (λ _. environment_of self.new ≡ effect_in self.old (Call.Resize name.now shape))
+            (λ _. environment_of self.new ≡ environment_of self.old) }
+    {
+        let Some(index) = self.position(name) else {
+            unreachable!()
+        };
+        let object = &mut self.objects[index];
+        object.resize(alloc, shape)
+    }
+
+    /// Puts values into an object without entries. An error leaves the objects as they were.
+    fn build(
+        &mut self,
+        alloc: Global,
+        name: &str,
+        dup: Option<OpName>,
+        tuples: &TupleList,
+    ) -> Result<(), AllocError>
+        requires { fault_in self.old (Call.Build name.now dup tuples.now) ≡ None }
+        ensures { MatchResult result
+            (λ _. environment_of self.new ≡ effect_in self.old (Call.Build name.now dup tuples.now))
+            (λ _. environment_of self.new ≡ environment_of self.old) }
+    {
+        let Some(index) = self.position(name) else {
+            unreachable!()
+        };
+        let object = &mut self.objects[index];
+        object.build(alloc, dup, tuples)
     }
 
     /// Frees the object of a name.
@@ -234,6 +294,13 @@ impl PlainEnvironment {
                 domain,
                 shape,
             } => self.create(alloc, name, *domain, *shape),
+            Call::Dup { name, object } => self.dup(alloc, name, object),
+            Call::Resize { object, shape } => self.resize(alloc, object, *shape),
+            Call::Build {
+                object,
+                dup,
+                tuples,
+            } => self.build(alloc, object, *dup, tuples),
             Call::Free { object } => {
                 self.free(object);
                 Ok(())

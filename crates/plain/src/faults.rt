@@ -7,10 +7,11 @@ ghost use Rattle.plain.specs.Environments.{fault_in, named, named_operation, nam
 ghost use Rattle.plain.specs.Evaluated.{known_operation, known_out};
 
 use crate::environment::PlainEnvironment;
+use crate::found::Found;
 use crate::objects::PlainObject;
-use crate::operations::{is_offered, plan};
+use crate::table::plan;
 use algebra::{Domain, MonoidName, OpName, compatible};
-use model::{Call, MOST_OBJECTS, Operation, Out, Place, Shape, Status};
+use model::{Call, MOST_FILLED, MOST_OBJECTS, Operation, Out, Place, Shape, Status, TupleList};
 
 impl PlainEnvironment {
     /// The fault of a call, if it has one.
@@ -19,6 +20,13 @@ impl PlainEnvironment {
     {
         match call {
             Call::Create { name, shape, .. } => self.create_fault(name, *shape),
+            Call::Dup { name, object } => self.dup_fault(name, object),
+            Call::Resize { object, shape } => self.resize_fault(object, *shape),
+            Call::Build {
+                object,
+                dup,
+                tuples,
+            } => self.build_fault(object, *dup, tuples),
             Call::Set {
                 object,
                 place,
@@ -46,6 +54,63 @@ impl PlainEnvironment {
             Some(Status::NotImplemented)
         } else if !shape.is_allowed() {
             Some(Status::InvalidValue)
+        } else {
+            None
+        }
+    }
+
+    /// The fault of making an object like another.
+    #[tactic(auto, unfolding(model::specs::Fault::early_fault))]
+    fn dup_fault(&self, name: &str, object: &str) -> Option<Status>
+        ensures { result ≡ fault_in self.now (Call.Dup name.now object.now) }
+    {
+        if self.find(name).is_some() {
+            Some(Status::NameTaken)
+        } else if self.find(object).is_none() {
+            Some(Status::UninitializedObject)
+        } else if self.live >= MOST_OBJECTS {
+            Some(Status::NotImplemented)
+        } else {
+            None
+        }
+    }
+
+    /// The fault of giving an object another shape.
+    #[tactic(auto, unfolding(model::specs::Fault::early_fault))]
+    fn resize_fault(&self, name: &str, shape: Shape) -> Option<Status>
+        ensures { result ≡ fault_in self.now (Call.Resize name.now shape) }
+    {
+        let Some(object) = self.find(name) else {
+            return Some(Status::UninitializedObject);
+        };
+        if !shape.is_like(object.shape) {
+            Some(Status::WrongKind)
+        } else if !shape.is_allowed() {
+            Some(Status::InvalidValue)
+        } else {
+            None
+        }
+    }
+
+    /// The fault of putting values into an object.
+    #[tactic(auto, unfolding(model::specs::Fault::early_fault))]
+    fn build_fault(&self, name: &str, dup: Option<OpName>, tuples: &TupleList) -> Option<Status>
+        ensures { result ≡ fault_in self.now (Call.Build name.now dup tuples.now) }
+    {
+        let Some(object) = self.find(name) else {
+            return Some(Status::UninitializedObject);
+        };
+        let (domain, shape) = (object.domain, object.shape);
+        if !tuples.are_of_kind(shape) {
+            Some(Status::WrongKind)
+        } else if !accumulator_serves(domain, dup) {
+            Some(Status::NotImplemented)
+        } else if !tuples.are_inside(shape) {
+            Some(Status::IndexOutOfBounds)
+        } else if !tuples.are_values_of(domain) || (dup.is_none() && !tuples.are_single()) {
+            Some(Status::InvalidValue)
+        } else if object.has_entries() {
+            Some(Status::OutputNotEmpty)
         } else {
             None
         }
@@ -144,20 +209,17 @@ impl PlainEnvironment {
         let Some(operation) = self.find_inputs(operation) else {
             return Some(Status::UninitializedObject);
         };
-        operation_fault(&out, &operation)
+        operation_fault(&out, operation)
     }
 }
 
 /// The fault of an operation whose objects are there, if it has one.
 #[tactic(auto, unfolding(model::specs::Fault::operation_fault))]
-pub fn operation_fault(
-    out: &Out<&PlainObject>,
-    operation: &Operation<&PlainObject>,
-) -> Option<Status>
-    ensures { result ≡ operation_fault (known_out out.now) (known_operation operation.now) }
+pub fn operation_fault(out: &Out<&PlainObject>, operation: Found<'_>) -> Option<Status>
+    ensures { result ≡ operation_fault (known_out out.now) (known_operation operation.entry) }
 {
-    let plan = plan(out.desc, operation);
     let c = out.c;
+    let plan = plan(c.signature(), out.desc, operation);
     if !plan.kinds || !plan.shape.is_like(c.shape) || !mask_is_of_kind(out) {
         Some(Status::WrongKind)
     } else if !is_implemented(out, operation) {
@@ -166,6 +228,8 @@ pub fn operation_fault(
         Some(Status::DomainMismatch)
     } else if !mask_fits(out) || !plan.shape.is_same(c.shape) || !plan.fits {
         Some(Status::DimensionMismatch)
+    } else if !plan.inside {
+        Some(Status::IndexOutOfBounds)
     } else if !plan.values {
         Some(Status::InvalidValue)
     } else {
@@ -173,11 +237,13 @@ pub fn operation_fault(
     }
 }
 
-/// Whether all operators are there, and the flags have come.
-fn is_implemented(out: &Out<&PlainObject>, operation: &Operation<&PlainObject>) -> bool
-    ensures { result ≡ is_implemented (known_out out.now) (known_operation operation.now) }
+/// Whether all operators are there, and no more positions are filled than may be.
+fn is_implemented(out: &Out<&PlainObject>, operation: Found<'_>) -> bool
+    ensures { result ≡ is_implemented (known_out out.now) (known_operation operation.entry) }
 {
-    is_offered(operation) && out.desc.has_come() && accumulator_serves(out.c.domain, out.accum)
+    operation.is_offered()
+        && operation.filled(out.c.shape) <= MOST_FILLED as u128
+        && accumulator_serves(out.c.domain, out.accum)
 }
 
 /// Whether values of a domain can be accumulated by an operator, or there is none.

@@ -1,13 +1,13 @@
 //! The inputs of operations, as they are read.
 ghost use Rattle.std.specs.Prelude.{◌≡◌};
 ghost use Rattle.algebra.specs.Value.{cast_of};
-ghost use Rattle.model.specs.Object.{in_domain, turned_object};
+ghost use Rattle.model.specs.Object.{in_domain, signature_of, turned_object};
 ghost use Rattle.model.specs.Table.{turned_if};
 ghost use Rattle.plain.specs.Evaluated.{input_of, object_of};
 
 use crate::objects::PlainObject;
 use algebra::{Domain, cast};
-use model::Shape;
+use model::{Shape, Signature};
 
 /// An input of an operation, and whether it is read transposed.
 #[derive(Clone, Copy)]
@@ -25,6 +25,16 @@ impl Input<'_> {
             self.object.shape.turned()
         } else {
             self.object.shape
+        }
+    }
+
+    /// The domain, and the shape as it is read.
+    pub fn signature(self) -> Signature
+        ensures { result ≡ signature_of (input_of self.entry) }
+    {
+        Signature {
+            domain: self.object.domain,
+            shape: self.shape(),
         }
     }
 

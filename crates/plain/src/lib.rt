@@ -3,14 +3,18 @@
 #![tactic(auto)]
 
 mod answers;
+mod builds;
 mod environment;
 mod faults;
+mod found;
 mod grid;
 mod inputs;
 mod objects;
 mod operations;
 mod products;
+mod regions;
 mod sums;
+mod table;
 mod text;
 mod write_back;
 

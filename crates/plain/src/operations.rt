@@ -1,158 +1,90 @@
-//! What operations compute, one position at a time, and what the table of operations says of them.
+//! What operations compute, one position at a time.
 ghost use Rattle.std.specs.Prelude.{◌≡◌, true};
 ghost use Rattle.algebra.specs.Functions.{function_domain, offers_function};
 ghost use Rattle.algebra.specs.IndexOperators.{offers_index};
 ghost use Rattle.algebra.specs.Operators.{offers};
+ghost use Rattle.algebra.specs.Value.{word_of};
 ghost use Rattle.model.specs.ElementWise.{applied, selected};
-ghost use Rattle.model.specs.Fault.{plan_in};
-ghost use Rattle.model.specs.Object.{in_domain, signature_of, turned_object};
-ghost use Rattle.model.specs.Operations.{combined, computed_of_one, computed_of_two, operation as computed};
-ghost use Rattle.model.specs.Table.{is_offered, offers_one, offers_two, plan_of_one, plan_of_two, turned, turns_one};
-ghost use Rattle.plain.specs.Evaluated.{input_of, known_operation, operation_of};
+ghost use Rattle.model.specs.Object.{cols_of, in_domain, rows_of, turned_object};
+ghost use Rattle.model.specs.Operations.{combined, computed_of_one, computed_of_two, is_written_by};
+ghost use Rattle.model.specs.Operations.{operation as computed};
+ghost use Rattle.model.specs.Regions.{cols_in, filled, rows_in};
+ghost use Rattle.model.specs.Table.{is_offered, offers_one, offers_two, turned};
+ghost use Rattle.plain.specs.Evaluated.{input_of, operation_of};
 
+use crate::found::Found;
 use crate::inputs::{Input, read};
-use crate::objects::PlainObject;
-use crate::products::{are_factors, inner_size, product, product_shape};
+use crate::products::product;
+use crate::regions::{extracted, is_listed, placed};
 use crate::sums::row_sum;
-use algebra::{FunctionName, IndexName, OpName, compatible};
-use model::{Desc, OneInput, Operation, Plan, Positions, Shape, TwoInputs};
-
-/// Whether there is the operator that an operation names.
-pub fn is_offered(operation: &Operation<&PlainObject>) -> bool
-    ensures { result ≡ is_offered operation.now }
-{
-    match operation {
-        Operation::OfOne { computes, .. } => match computes {
-            OneInput::Apply(function) => function.is_offered(),
-            OneInput::Select { op, .. } => op.is_offered(),
-            OneInput::ReduceRows(monoid) => monoid.is_offered(),
-        },
-        Operation::OfTwo { computes, .. } => match computes {
-            TwoInputs::Multiply { ring, .. } => ring.is_offered(),
-            TwoInputs::Combine { op, .. } => op.is_offered(),
-        },
-    }
-}
-
-/// The flag by which the one input is read transposed.
-const fn turns_one(computes: OneInput, desc: Desc) -> bool
-    ensures { result ≡ turns_one computes desc }
-{
-    match computes {
-        OneInput::Apply(FunctionName::First { .. }) => desc.turn_second,
-        _ => desc.turn_first,
-    }
-}
-
-/// What the table says of an operation on its inputs, turned as the descriptor says.
-pub fn plan(desc: Desc, operation: &Operation<&PlainObject>) -> Plan
-    ensures { result ≡ plan_in desc (known_operation operation.now) }
-{
-    match *operation {
-        Operation::OfOne { computes, a } => {
-            plan_of_one(computes, read(turns_one(computes, desc), a))
-        }
-        Operation::OfTwo { computes, a, b } => plan_of_two(
-            computes,
-            read(desc.turn_first, a),
-            read(desc.turn_second, b),
-        ),
-    }
-}
-
-/// What the table says of an operation on one input.
-fn plan_of_one(computes: OneInput, a: Input) -> Plan
-    ensures { result ≡ plan_of_one computes (signature_of (input_of a.entry)) }
-{
-    let (shape, domain) = (a.shape(), a.object.domain);
-    match computes {
-        OneInput::Apply(function) => Plan {
-            kinds: true,
-            compatible: function.takes(domain),
-            fits: true,
-            values: function.has_value(),
-            shape,
-            domain: function.answer(),
-        },
-        OneInput::Select { op, scalar } => Plan {
-            kinds: true,
-            compatible: op.takes(domain),
-            fits: true,
-            values: op.scalar().word_of(scalar).is_some(),
-            shape,
-            domain,
-        },
-        OneInput::ReduceRows(monoid) => Plan {
-            kinds: shape.is_matrix(),
-            compatible: compatible(domain, monoid.domain),
-            fits: true,
-            values: true,
-            shape: Shape::One(shape.rows()),
-            domain: monoid.domain,
-        },
-    }
-}
-
-/// What the table says of an operation on two inputs.
-fn plan_of_two(computes: TwoInputs, a: Input, b: Input) -> Plan
-    ensures { result ≡ plan_of_two computes (signature_of (input_of a.entry)) (signature_of (input_of b.entry)) }
-{
-    let (first, second) = (a.shape(), b.shape());
-    let (from, other) = (a.object.domain, b.object.domain);
-    match computes {
-        TwoInputs::Multiply { form, ring } => Plan {
-            kinds: are_factors(form, first, second),
-            compatible: compatible(from, ring.domain) && compatible(other, ring.domain),
-            fits: inner_size(form, first) == second.rows(),
-            values: true,
-            shape: product_shape(form, first, second),
-            domain: ring.answer(),
-        },
-        TwoInputs::Combine { op, .. } => Plan {
-            kinds: first.is_like(second),
-            compatible: compatible(from, op.domain) && compatible(other, op.domain),
-            fits: first.is_same(second),
-            values: true,
-            shape: first,
-            domain: op.answer(),
-        },
-    }
-}
+use algebra::{FunctionName, IndexName, OpName};
+use model::{Desc, OneInput, Positions, Region, Shape, Signature, TwoInputs};
 
 /// What an operation computes at a position of its inputs, turned as the descriptor says.
 #[tactic(auto, unfolding(model::specs::Operations::operation))]
-pub fn value_at(desc: Desc, operation: &Operation<&PlainObject>, row: u64, col: u64) -> Option<u64>
-    requires { is_offered operation.now ≡ true }
-    ensures { result ≡ computed (turned turned_object desc (operation_of operation.now)) row col }
+pub fn value_at(c: Signature, desc: Desc, operation: Found<'_>, row: u64, col: u64) -> Option<u64>
+    requires { is_offered (operation_of operation) ≡ true }
+    ensures { result ≡ computed c (turned turned_object desc (operation_of operation.entry)) row col }
 {
-    match *operation {
-        Operation::OfOne { computes, a } => {
-            one_at(computes, read(turns_one(computes, desc), a), row, col)
+    match operation {
+        Found::Fill { value, region } => {
+            filled(c.shape, region, c.domain.wrapped(value), row, col)
         }
-        Operation::OfTwo { computes, a, b } => two_at(
-            computes,
-            read(desc.turn_first, a),
-            read(desc.turn_second, b),
-            row,
-            col,
-        ),
+        Found::OfOne { computes, a } => {
+            let a = read(computes.is_turned(desc), a);
+            one_at(c.shape, computes, a, row, col)
+        }
+        Found::OfTwo { computes, a, b } => {
+            let a = read(desc.turn_first, a);
+            let b = read(desc.turn_second, b);
+            two_at(computes, a, b, row, col)
+        }
     }
 }
 
-/// What an operation computes of one input at a position.
-fn one_at(computes: OneInput, a: Input, row: u64, col: u64) -> Option<u64>
-    requires { offers_one computes ≡ true }
-    ensures { result ≡ computed_of_one computes (input_of a.entry) row col }
+/// Whether an operation writes at a position of an output of a shape: an assignment does in its region
+/// alone.
+pub fn is_written(shape: Shape, operation: Found<'_>, row: u64, col: u64) -> bool
+    ensures { result ≡ is_written_by shape (operation_of operation.entry) row col }
+{
+    match operation {
+        Found::Fill { region, .. }
+        | Found::OfOne {
+            computes: OneInput::Assign(region),
+            ..
+        } => is_listed(shape, region, row, col),
+        _ => true,
+    }
+}
+
+/// A word at a position, if it is in a region.
+fn filled(shape: Shape, region: &Region, word: u64, row: u64, col: u64) -> Option<u64>
+    ensures { result ≡ filled (rows_of shape) (cols_of shape) (rows_in region.now) (cols_in region.now) word row col }
+{
+    if is_listed(shape, region, row, col) {
+        Some(word)
+    } else {
+        None
+    }
+}
+
+/// What an operation computes of one input at a position, for an output of a shape.
+fn one_at(shape: Shape, computes: &OneInput, a: Input, row: u64, col: u64) -> Option<u64>
+    requires { offers_one computes.now ≡ true }
+    ensures { result ≡ computed_of_one shape computes.now (input_of a.entry) row col }
 {
     match computes {
-        OneInput::Apply(function) => applied(function, a, row, col),
-        OneInput::Select { op, scalar } => selected(op, scalar, a, row, col),
+        OneInput::Apply(function) => applied(*function, a, row, col),
+        OneInput::Select { op, scalar } => selected(*op, *scalar, a, row, col),
         OneInput::ReduceRows(monoid) => {
             let Some(monoid) = monoid.resolve() else {
                 unreachable!()
             };
             row_sum(monoid, a, row, col)
         }
+        OneInput::Transpose => a.word(col, row),
+        OneInput::Extract(region) => extracted(region, a, row, col),
+        OneInput::Assign(region) => placed(shape, region, a, row, col),
     }
 }
 

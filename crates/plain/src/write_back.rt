@@ -4,50 +4,62 @@ ghost use Rattle.std.specs.Option.{option_map};
 ghost use Rattle.algebra.specs.Operators.{offers};
 ghost use Rattle.algebra.specs.Value.{cast_of};
 ghost use Rattle.model.specs.WriteBack.{accumulated, accumulated_by, has_position, mask_set};
-ghost use Rattle.plain.specs.Evaluated.{accumulator_offered, are_operators, object_of, out_of, result_in};
+ghost use Rattle.plain.specs.Evaluated.{accumulator_offered, are_operators, landed_in, object_of, operation_of, out_of};
+ghost use Rattle.plain.specs.Evaluated.{result_in};
 
+use crate::found::Found;
 use crate::grid::Mapping;
 use crate::objects::PlainObject;
-use crate::operations::{plan, value_at};
+use crate::operations::{is_written, value_at};
+use crate::table::plan;
 use algebra::{Domain, OpName, cast};
-use model::{Desc, Operation, Out};
+use model::{Desc, Out};
 
 /// What an operation leaves in its output.
 #[derive(Clone, Copy)]
 pub struct Left<'a> {
     pub out: Out<&'a PlainObject>,
-    pub operation: Operation<&'a PlainObject>,
-    pub ghost operators: { are_operators out operation ≡ true },
+    pub operation: Found<'a>,
+    pub ghost operators: { are_operators (out_of out) (operation_of operation) ≡ true },
 }
 
 impl Mapping for Left<'_> {
     ghost content = { λ left. result_in left.out left.operation };
 
     fn at(&self, row: u64, col: u64) -> Option<u64> {
-        result_at(&self.out, &self.operation, row, col)
+        result_at(&self.out, self.operation, row, col)
     }
 }
 
 /// What an operation leaves at a position.
 #[tactic(auto, unfolding(model::specs::WriteBack::result_of))]
-fn result_at(
-    out: &Out<&PlainObject>,
-    operation: &Operation<&PlainObject>,
-    row: u64,
-    col: u64,
-) -> Option<u64>
-    requires { are_operators out.now operation.now ≡ true }
-    ensures { result ≡ result_in out.now operation.now row col }
+fn result_at(out: &Out<&PlainObject>, operation: Found<'_>, row: u64, col: u64) -> Option<u64>
+    requires { are_operators (out_of out.now) (operation_of operation) ≡ true }
+    ensures { result ≡ result_in out.now operation.entry row col }
 {
-    if is_written(out, row, col) {
-        let value = value_at(out.desc, operation, row, col);
-        let domain = plan(out.desc, operation).domain;
-        let new = in_domain(domain, out.c.domain, value);
-        accumulated_by(out.accum, out.c.word(row, col), new)
+    if is_in_mask_set(out, row, col) {
+        landed_at(out, operation, row, col)
     } else if out.desc.replace {
         None
     } else {
         out.c.word(row, col)
+    }
+}
+
+/// What stands at a position of the mask set: what is computed, with what was there, where the operation
+/// writes.
+fn landed_at(out: &Out<&PlainObject>, operation: Found<'_>, row: u64, col: u64) -> Option<u64>
+    requires { are_operators (out_of out.now) (operation_of operation) ≡ true }
+    ensures { result ≡ landed_in out.now operation.entry row col }
+{
+    let old = out.c.word(row, col);
+    if is_written(out.c.shape, operation, row, col) {
+        let c = out.c.signature();
+        let value = value_at(c, out.desc, operation, row, col);
+        let domain = plan(c, out.desc, operation).domain;
+        accumulated_by(out.accum, old, in_domain(domain, c.domain, value))
+    } else {
+        old
     }
 }
 
@@ -62,7 +74,7 @@ const fn in_domain(from: Domain, to: Domain, word: Option<u64>) -> Option<u64>
 }
 
 /// Whether a position is in the mask set.
-fn is_written(out: &Out<&PlainObject>, row: u64, col: u64) -> bool
+fn is_in_mask_set(out: &Out<&PlainObject>, row: u64, col: u64) -> bool
     ensures { result ≡ mask_set (out_of out.now) row col }
 {
     let is_in = match out.mask {

@@ -1,5 +1,5 @@
 -- The objects of an accepted operation are found, and its operators are there.
-use Rattle.std.proofs.Common.{◌≡◌, ◌∙◌, Bor, sym, subst}
+use Rattle.std.proofs.Common.{◌≡◌, ◌∙◌, sym, subst}
 use Rattle.std.specs.Result.{IfOk}
 use Rattle.model.specs.declared.call.Operation.{Operation}
 use Rattle.model.specs.declared.call.Out.{Out}
@@ -10,9 +10,8 @@ use Rattle.model.specs.Grammar.{Name}
 use Rattle.model.specs.Object.{Object, cols_of, rows_of}
 use Rattle.model.specs.Renamed.{renamed_operation, renamed_out}
 use Rattle.model.specs.WriteBack.{result_of}
-use Rattle.plain.specs.declared.objects.PlainObject.{PlainObject}
 use Rattle.plain.specs.Environments.{environment_of, named_operation, named_out}
-use Rattle.plain.specs.Evaluated.{object_of, operation_of, out_of}
+use Rattle.plain.specs.Evaluated.{operation_of, out_of}
 use Rattle.plain.proofs.FaultLaws.{accepted-operators, fault-known, fault-no_input, fault-no_output, operation-found, out-found, some_not_none}
 use Rattle.plain.proofs.environment.PlainEnvironment.result.Goals as goal
 
@@ -36,7 +35,7 @@ invariant_of-left c =
     let known = fault-known env.count (out_of c.in-Some.out) (operation_of c.in-Some-find_inputs.operation)
     (renamed_out env.find_object (named_out c.args.out.now)) (renamed_operation env.find_object (named_operation c.args.operation.now))
     c.in-Some.ensures c.in-Some-find_inputs.ensures in
-    record { operators = accepted-operators (λ (o : Bor PlainObject). object_of o.now) c.in-Some.out c.in-Some-find_inputs.operation (sym known ∙ c.requires) }
+    record { operators = accepted-operators (out_of c.in-Some.out) (operation_of c.in-Some-find_inputs.operation) (sym known ∙ c.requires) }
 
 pub returns : goal.returns
 returns c =
