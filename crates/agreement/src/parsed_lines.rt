@@ -41,7 +41,7 @@ fn parts_silence_from_syntax(rt: HostRuntime) {
         b"get A 000000000000000000001",
         b"get A 18446744073709551616",
         b"set A 0 0 -9223372036854775809",
-        b"matrix A USER:1 1 1",
+        b"matrix A USER: 1 1",
         b"vector V INT64 1 1",
         b"free",
         b"clear A 1",
@@ -51,8 +51,17 @@ fn parts_silence_from_syntax(rt: HostRuntime) {
         b"mxm C - - MINUS.TIMES.INT64 A B -",
         b"mxm C - - PLUS.TIMES.INT64.INT64 A B -",
         b"mxm C - - PLUS.TIMES.INT64 A B R,R",
-        b"mxm C - - PLUS.TIMES.INT64 A B T0",
+        b"mxm C - - PLUS.TIMES.INT64 A B T0,T0",
         b"mxm C - - PLUS.TIMES.INT64 A B",
+        b"dup A",
+        b"resize A",
+        b"resize A 1 2 3",
+        b"build A PLUS.INT64 0,0,1 0,1",
+        b"build A - 0",
+        b"transpose C - - A : -",
+        b"extract C - - A -",
+        b"extract C - - A 1,,2 : -",
+        b"fill C - - x : : -",
     ] {
         let syntax = matches!(parse_line(alloc, line), Err(LineFault::Syntax));
         assert!(rt; syntax, "{line:?}");

@@ -8,32 +8,34 @@ ghost use Rattle.session.specs.Results.{IsStoreOf};
 use crate::sessions::{PLUS_TIMES, plain};
 use algebra::Domain;
 use calls::{
-    Call, Checked, Form, Obj, Operation, Out, Place, Recipe, Roles, Shape, TwoInputs, by_role,
-    check,
+    Call, Checked, Form, Obj, Operation, Place, Recipe, Roles, Shape, TwoInputs, by_role, check,
 };
 use kernel::{eval_piece, join};
 use model::Status;
 use session::Session;
 use store::Store;
 
+/// The store of an object on which no edits wait.
 fn store_of(session: &Session, object: Obj) -> Result<&Store, Status>
     ensures { IfOk result (λ store. IsStoreOf (environment_of session.now) object store.now) }
 {
-    Ok(&session.held(object)?.store)
+    let held = session.held(object)?;
+    if !held.edits.is_empty() {
+        return Err(Status::InvalidObject);
+    }
+    Ok(&held.store)
 }
 
 fn recipe_on<'a>(
     session: &'a Session,
-    out: &Out<Obj>,
-    operation: &Operation<Obj>,
-) -> Result<(Recipe, Roles<&'a Store>), Status>
+    call: &'a Call<Obj, ()>,
+) -> Result<(Recipe<'a>, Roles<&'a Store>), Status>
     ensures { IfOk result (λ found. AreInputs found.0 (λ role. (role_of found.1 role).now)) }
 {
-    let call: Call<Obj, ()> = Call::Operate {
-        out: *out,
-        operation: *operation,
+    let Checked::Operation(recipe) = check(call, session)? else {
+        return Err(Status::InvalidObject);
     };
-    let Checked::Operation(recipe) = check(&call, session)? else {
+    let Call::Operate { out, operation } = call else {
         return Err(Status::InvalidObject);
     };
     let objects = by_role(out, operation);
@@ -64,9 +66,16 @@ fn evaluates_a_part_of_the_rows(rt: HostRuntime) -> Result<(), Status> {
     ] {
         session.set(object, place, value)?;
     }
+    for object in [a, b, c] {
+        session.settle(object)?;
+    }
     let (form, ring) = (Form::MatrixMatrix, PLUS_TIMES);
     let computes = TwoInputs::Multiply { form, ring };
-    let (recipe, stores) = recipe_on(&session, &plain(c), &Operation::OfTwo { computes, a, b })?;
+    let call = Call::Operate {
+        out: plain(c),
+        operation: Operation::OfTwo { computes, a, b },
+    };
+    let (recipe, stores) = recipe_on(&session, &call)?;
     let rows = recipe.signatures.of(recipe.out.c).shape.rows();
     assert_eq!(rt; rows, 3);
     let part = eval_piece(alloc, &recipe, &stores, 1..2)?;

@@ -61,7 +61,7 @@ fn multiplies_and_keeps_a_sum_of_zero(rt: HostRuntime) -> Result<(), Status> {
     assert_eq!(rt; session.get(a, Place::Two(0, 0))?, 0);
     assert_eq!(rt; session.get(a, Place::Two(0, 1))?, 21);
     let call: Call<Obj, &str> = Call::Print { object: a };
-    assert!(rt; matches!(session.perform(&call), Ok(Reply::Text(_))));
+    assert!(rt; matches!(session.perform(call), Ok(Reply::Text(_))));
     Ok(())
 }
 
@@ -196,9 +196,9 @@ fn tells_the_first_fault_of_an_output(rt: HostRuntime) -> Result<(), Status> {
         (NONE, PLUS, valued, Err(Status::UninitializedObject)),
         (v, LOR, valued, Err(Status::WrongKind)),
         (user, LOR, valued, Err(Status::NotImplemented)),
-        (c, PLUS, turned, Err(Status::NotImplemented)),
         (user, PLUS, valued, Err(Status::DomainMismatch)),
         (a, PLUS, valued, Err(Status::DimensionMismatch)),
+        (c, PLUS, turned, Err(Status::DimensionMismatch)),
         (user, PLUS, structure, Ok(())),
         (c, PLUS, valued, Ok(())),
     ] {

@@ -20,6 +20,6 @@ returns c =
     let stored : Role → Stored = λ role. (role_of stores role).now in
     let are : (role : Role) → IsStoreOf env (role_of objects role) (stored role) =
     each_role (λ (role : Role). IsStoreOf env (role_of objects role) (stored role)) c.in_ok-store_of.ensures c.in_ok-store_of-2.ensures c.in_ok-store_of-3.ensures c.in_ok-store_of-4.ensures in
-    let found : IsRecipeOf (known_in session) c.args.out.now c.args.operation.now recipe = rw c.in-Operation.is at c.in_ok-recipe.ensures.found in
+    let found : IsRecipeOf (known_in session) c.in-Operate.out c.in-Operate.operation recipe = rw (c.in-Operation.is, c.in-Operate.is) at c.in_ok-recipe.ensures.found in
     let known : (role : Role) → known_in session (role_of objects role) ≡ Some (role_of recipe.signatures role) = rw c.by_role-objects.ensures found.signatures in
     inputs_taken env recipe objects stored known are

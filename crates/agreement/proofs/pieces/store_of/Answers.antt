@@ -1,0 +1,21 @@
+-- Without edits the object is its store's.
+use Rattle.std.proofs.Common.{◌≡◌, ◌∙◌, [], Some, ap, rules, subst, sym}
+use Rattle.model.specs.Fault.{found_object}
+use Rattle.model.specs.Object.{IsObject, Object, cols_of, rows_of}
+use Rattle.model.specs.Run.{object_at}
+use Rattle.session.specs.Objects.{stored_object}
+use Rattle.session.specs.Performed.{environment_of}
+use Rattle.session.proofs.HeldLaws.{settled-is}
+use Rattle.agreement.proofs.pieces.store_of.Goals as goal
+
+pub returns : goal.returns
+returns c =
+    let held = c.in_ok-held.held.now in
+    let none : held.edits.items ≡ [] = search rules in
+    let is : object_at (environment_of c.args.session.now) c.args.object ≡ stored_object held = ap found_object c.in_ok-held.ensures.there ∙ settled-is held none in
+    record {
+      rows = held.rows ∙ ap (λ (o : Object). rows_of o.shape) (sym is);
+      cols = held.cols ∙ ap (λ (o : Object). cols_of o.shape) (sym is);
+      content = λ i j. ap (λ (o : Object). o.content i j) is;
+      is_object = subst IsObject (sym is) (subst IsObject (settled-is held none) held.is_object);
+    }
