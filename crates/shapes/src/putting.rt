@@ -43,13 +43,16 @@ pub fn put_rows(
         return Ok(put_all(old, new));
     }
     let (first, past) = (new.first(), new.past());
-    let new = Store::from_block(past, new);
     let named = Named {
         rows: members_of(alloc, rows)?,
         cols: members_of(alloc, cols)?,
     };
+    // The block goes before there are other lists, which so lie where it lay.
+    let inside = {
+        let new = Store::from_block(past, new);
+        keep_side(alloc, &new, &named, true, first..past)?
+    };
     let outside = keep_side(alloc, old, &named, false, first..past)?;
-    let inside = keep_side(alloc, &new, &named, true, first..past)?;
     let outside = Store::from_block(past, outside);
     let inside = Store::from_block(past, inside);
     join_rows(alloc, &outside, &inside, Joining::Right, first..past)
