@@ -50,8 +50,8 @@ impl Held {
         }
     }
 
-    /// Sets a value at a place inside the object, once the edits are done. An error leaves the object as
-    /// it was.
+    /// Has a value set at a place inside the object, behind the edits that wait. An error leaves the
+    /// object as it was.
     pub(crate) fn set(&mut self, alloc: Global, place: Place, value: i128) -> Result<(), NoMemory>
         requires inside { is_inside place self.old.shape ≡ true }
         requires value { is_value_of self.old.domain value ≡ true }
@@ -66,8 +66,8 @@ impl Held {
         Ok(())
     }
 
-    /// Removes the entry at a place inside the object, where there is one, once the edits are done. An
-    /// error leaves the object as it was.
+    /// Has the entry at a place inside the object removed, where there is one, behind the edits that
+    /// wait. An error leaves the object as it was.
     pub(crate) fn remove(&mut self, alloc: Global, place: Place) -> Result<(), NoMemory>
         requires { is_inside place self.old.shape ≡ true }
         ensures removed { OnOk result (object_of self.new ≡ without_value (object_of self.old) place) }
@@ -96,7 +96,7 @@ impl Held {
         settle(alloc, &mut self.store, &mut self.edits)
     }
 
-    /// An object with the same domain, shape and entries, in memory of its own, where no edits wait.
+    /// An object with the domain, the shape and the store's entries, in memory of its own.
     pub(crate) fn try_clone(&self, alloc: Global) -> Result<Held, NoMemory>
         requires { IsObject (stored_object self.now) }
         ensures { IfOk result (λ held. object_of held ≡ stored_object self.now) }
@@ -105,7 +105,7 @@ impl Held {
         Ok(Held::new(alloc, self.domain, self.shape, store))
     }
 
-    /// Puts another store into the object, on which no edits wait.
+    /// Puts another store into the object, on which no edits wait then.
     pub(crate) fn replace(&mut self, store: Store)
         requires rows { store.rows ≡ rows_of self.old.shape }
         requires cols { store.cols ≡ cols_of self.old.shape }
