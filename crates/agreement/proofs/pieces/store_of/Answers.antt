@@ -1,5 +1,5 @@
 -- Without edits the object is its store's.
-use Rattle.std.proofs.Common.{◌≡◌, ◌∙◌, List, [], ◌∷◌, Some, ap, arith, length, refl, rules, subst, sym}
+use Rattle.std.proofs.Common.{◌≡◌, ◌∙◌, List, [], ◌∷◌, ap, arith, length, refl, rules, subst, sym}
 use Rattle.model.specs.Fault.{found_object}
 use Rattle.model.specs.Object.{IsObject, Object, cols_of, rows_of}
 use Rattle.model.specs.Run.{object_at}
