@@ -22,7 +22,7 @@ use Rattle.model.specs.Run.{Environment, object_at}
 use Rattle.session.specs.declared.reply.Reply.{Reply}
 use Rattle.session.specs.declared.reply.Reply.TheVariants.{Done, Made, Value, Count, Text}
 use Rattle.session.specs.declared.sessions.Session.{Session}
-use Rattle.session.specs.Tables.{environment_in, same_object}
+use Rattle.session.specs.Tables.{IsSettled, environment_in, same_object}
 
 abbrev pub environment_of : Session → Environment Obj
 environment_of session = environment_in session.table
@@ -30,6 +30,10 @@ environment_of session = environment_in session.table
 -- what is known of the objects without their values
 abbrev pub known_in : Session → Obj → Option Signature
 known_in session object = option_map signature_of ((environment_of session).find_object object)
+
+-- no edits wait on an object, if it is there
+abbrev pub IsSettledIn : Session → Obj → Type 0
+IsSettledIn session object = IsSettled session.table object
 
 -- how many objects were ever made
 abbrev pub made_in : Session → ℕ

@@ -5,7 +5,6 @@ ghost use Rattle.calls.specs.Roles.{role_of};
 ghost use Rattle.calls.specs.declared.role.Role.{Role as AnyRole};
 ghost use Rattle.model.specs.Fault.{early_fault};
 ghost use Rattle.session.specs.Results.{IsEvaluated, IsLeft, IsStoreOf};
-ghost use Rattle.session.specs.Tables.{IsSettled};
 
 use crate::sessions::Session;
 use algebra::{FunctionName, IndexName, MonoidName, OpName, RingName};
@@ -18,7 +17,7 @@ use model::{NoMemory, Status};
 use store::Store;
 
 impl Session {
-    ghost use Rattle.session.specs.Performed.{Ends, IsPerformed, count_in, environment_of, known_in, made_in};
+    ghost use Rattle.session.specs.Performed.{Ends, IsPerformed, IsSettledIn, count_in, environment_of, known_in, made_in};
 
     /// Multiplies two matrices over a semiring into a third (`GrB_mxm`).
     pub fn mxm(&mut self, out: &Out<Obj>, ring: RingName, a: Obj, b: Obj) -> Result<(), Status>
@@ -179,7 +178,7 @@ impl Session {
     fn settle_all(&mut self, objects: &Roles<Obj>) -> Result<(), NoMemory>
         ensures kept { environment_of self.new ≡ environment_of self.old }
         ensures made { made_in self.new ≡ made_in self.old }
-        ensures settled { OnOk result ((role : AnyRole) → IsSettled self.new.table (role_of objects.now role)) }
+        ensures settled { OnOk result ((role : AnyRole) → IsSettledIn self.new (role_of objects.now role)) }
     {
         self.settle(objects.old)?;
         self.settle(objects.mask)?;
@@ -191,7 +190,7 @@ impl Session {
     fn evaluated(&self, recipe: &Recipe<'_>, objects: &Roles<Obj>) -> Result<Store, NoMemory>
         requires known { (role : AnyRole) → known_in self.now (role_of objects.now role)
             ≡ Some (role_of recipe.now.signatures role) }
-        requires settled { (role : AnyRole) → IsSettled self.now.table (role_of objects.now role) }
+        requires settled { (role : AnyRole) → IsSettledIn self.now (role_of objects.now role) }
         ensures { IfOk result (IsEvaluated (environment_of self.now) recipe.now objects.now) }
     {
         let stores = Roles {
@@ -208,7 +207,7 @@ impl Session {
     /// The store of an object that is there, on which no edits wait.
     fn store_of(&self, object: Obj) -> &Store
         requires there { is_some ((environment_of self.now).find_object object) ≡ true }
-        requires settled { IsSettled self.now.table object }
+        requires settled { IsSettledIn self.now object }
         ensures { IsStoreOf (environment_of self.now) object result.now }
     {
         &self.settled(object).store

@@ -6,7 +6,7 @@ ghost use Rattle.std.specs.Option.{option_map, option_map_or};
 ghost use Rattle.algebra.specs.OperatorNames.{op_named};
 ghost use Rattle.algebra.specs.Operators.{offers};
 ghost use Rattle.model.specs.Run.{no_objects, with_object, without_object};
-ghost use Rattle.session.specs.Tables.{IsSettled, environment_in, same_object};
+ghost use Rattle.session.specs.Tables.{environment_in, same_object};
 
 use crate::held::Held;
 use crate::reply::Reply;
@@ -61,7 +61,7 @@ impl Session {
     ghost use Rattle.model.specs.Object.{IsObject};
     ghost use Rattle.session.specs.Objects.{object_of, stored_object};
     ghost use Rattle.session.specs.Performed.{Answers, IsPerformed, count_in, environment_of, known_in, made_in};
-    ghost use Rattle.session.specs.Performed.{next_object};
+    ghost use Rattle.session.specs.Performed.{IsSettledIn, next_object};
 
     /// A session without objects. It takes no memory.
     pub fn new(alloc: Global) -> Session
@@ -255,7 +255,7 @@ impl Session {
         ensures there { MatchResult result
             (λ held. (environment_of self.now).find_object object ≡ Some (object_of held.now))
             (λ status. (status ≡ Status.UninitializedObject) × ((environment_of self.now).find_object object ≡ None)) }
-        ensures settled { IsSettled self.now.table object → IfOk result
+        ensures settled { IsSettledIn self.now object → IfOk result
             (λ held. (environment_of self.now).find_object object ≡ Some (stored_object held.now)) }
     {
         self.table.find(object).ok_or(Status::UninitializedObject)
@@ -265,9 +265,9 @@ impl Session {
     pub fn settle(&mut self, object: Obj) -> Result<(), NoMemory>
         ensures kept { environment_of self.new ≡ environment_of self.old }
         ensures made { made_in self.new ≡ made_in self.old }
-        ensures settled { OnOk result (IsSettled self.new.table object) }
-        ensures others { OnOk result ((other : Object) → IsSettled self.old.table other
-            → IsSettled self.new.table other) }
+        ensures settled { OnOk result (IsSettledIn self.new object) }
+        ensures others { OnOk result ((other : Object) → IsSettledIn self.old other
+            → IsSettledIn self.new other) }
     {
         self.table.settle(self.alloc, object)
     }
@@ -275,7 +275,7 @@ impl Session {
     /// An object that is there and on which no edits wait.
     pub(crate) fn settled(&self, object: Obj) -> &Held
         requires there { is_some ((environment_of self.now).find_object object) ≡ true }
-        requires settled { IsSettled self.now.table object }
+        requires settled { IsSettledIn self.now object }
         ensures held { (environment_of self.now).find_object object ≡ Some (stored_object result.now) }
         ensures is_object { IsObject (stored_object result.now) }
     {
