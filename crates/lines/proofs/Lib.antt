@@ -1,3 +1,5 @@
+pub mod LineLaws
+pub mod LoadLaws
 pub mod Names
 pub mod ReadLaws
 pub mod Silence

@@ -1,17 +1,26 @@
 -- What the code reads of a line.
-use Rattle.std.specs.Prelude.{◌≡◌, Option, Some, None, Result, Ok, Err}
+use Rattle.std.specs.Prelude.{ℕ, ◌≡◌, List, Option, Some, None, Result, Ok, Err}
 use Rattle.lines.specs.declared.fault.LineFault.{LineFault}
 use Rattle.lines.specs.declared.fault.LineFault.TheVariants.{Syntax, NoMemory}
 use Rattle.lines.specs.declared.line.Line.{Line}
-use Rattle.lines.specs.declared.line.Line.TheVariants.{Silent, Call}
+use Rattle.lines.specs.declared.line.Load.{Load as LoadLine}
+use Rattle.lines.specs.declared.line.Line.TheVariants.{Silent, Call, Load}
 use Rattle.model.specs.Grammar as grammar
 use Rattle.model.specs.Renamed.{renamed}
 use Rattle.model.specs.Runs.{IsAnswered}
 
+-- the readings of a load, and of any line
+abbrev pub load_in : LoadLine → grammar.Reading (List ℕ)
+load_in load = grammar.Loads load.name.now load.domain load.file.now
+
+abbrev pub reading_in : Line → grammar.Reading (List ℕ)
+reading_in Silent = grammar.Silent
+reading_in (Call call) = grammar.Called (renamed (λ name. name.now) (λ name. name.now) call)
+reading_in (Load load) = load_in load
+
 -- what was read of a line is this reading, unless memory was refused at a line that has an answer
-abbrev pub Reads : Result Line LineFault → grammar.Reading → Type 0
-Reads (Ok Silent) reading = reading ≡ grammar.Silent
-Reads (Ok (Call call)) reading = reading ≡ grammar.Called (renamed (λ name. name.now) (λ name. name.now) call)
+abbrev pub Reads : Result Line LineFault → grammar.Reading (List ℕ) → Type 0
+Reads (Ok line) reading = reading ≡ reading_in line
 Reads (Err Syntax) reading = reading ≡ grammar.Malformed
 Reads (Err NoMemory) reading = IsAnswered reading
 

@@ -2,13 +2,14 @@
 ghost use Rattle.std.specs.Prelude.{◌≡◌, ◌==◌, ◌||◌, ◌+◌, ◌<◌, ◌≤◌, map, length, OnSome, find, not};
 ghost use Rattle.std.specs.List.{list_all};
 ghost use Rattle.std.specs.Option.{option_map, option_map_or};
-ghost use Rattle.lines.specs.Meaning.{IsRead, Reads};
-ghost use Rattle.model.specs.Grammar.{build_of, call_of, clear_of, dup_of, entry_call_of, free_of, get_of};
+ghost use Rattle.lines.specs.Meaning.{IsRead, Reads, reading_in};
+ghost use Rattle.model.specs.Grammar.{build_of, call_of, clear_of, command_of, dup_of, entry_call_of, free_of, get_of};
 ghost use Rattle.model.specs.Grammar.{is_blank, is_plain, is_silent, resize_of};
 ghost use Rattle.model.specs.Grammar.{is_well_formed, matrix_of, nvals_of, only_name_of, place_of, print_of};
 ghost use Rattle.model.specs.Grammar.{reading_of, reduce_of, remove_of, set_of, vector_of, words_of};
 ghost use Rattle.model.specs.Renamed.{renamed};
 
+use crate::loads::load;
 use crate::operations::{accum, operate};
 use crate::{Line, LineFault, kinds, lists, words};
 use model::{Call, LONGEST_LINE, Place, Shape};
@@ -30,8 +31,22 @@ pub fn parse_line(alloc: Global, line: &[u8]) -> Result<Line<'_>, LineFault>
         return Err(LineFault::Syntax);
     }
     let words = words::words_of(alloc, line)?;
-    let call = call(alloc, words.as_slice())?;
-    Ok(Line::Call(call))
+    command(alloc, words.as_slice())
+}
+
+/// What the words of a line ask for.
+#[tactic(auto, unfolding(model::specs::Grammar::command_of))]
+fn command<'a>(alloc: Global, words: &[&'a [u8]]) -> Result<Line<'a>, LineFault>
+    ensures { IsRead reading_in (command_of (map (λ word. word.now) words.now)) result }
+{
+    if words.is_empty() {
+        return Err(LineFault::Syntax);
+    }
+    if words[0] == b"load".as_slice() {
+        Ok(Line::Load(load(words).ok_or(LineFault::Syntax)?))
+    } else {
+        Ok(Line::Call(call(alloc, words)?))
+    }
 }
 
 /// Whether a line has no word, or its first word begins with `#`.
@@ -45,13 +60,13 @@ fn is_silent(line: &[u8]) -> bool
 }
 
 /// The first byte of a line that is no blank.
-fn first_byte(line: &[u8]) -> Option<u8>
+pub(crate) fn first_byte(line: &[u8]) -> Option<u8>
     ensures { result ≡ find (λ byte. not (is_blank byte)) line.now }
 {
     line.iter().copied().find(|byte| !words::is_blank(*byte))
 }
 
-fn is_well_formed(line: &[u8]) -> bool
+pub(crate) fn is_well_formed(line: &[u8]) -> bool
     ensures { result ≡ is_well_formed line.now }
 {
     line.len() <= LONGEST_LINE && are_plain(line)
@@ -79,12 +94,10 @@ fn is_plain(byte: u8) -> bool
 /// What the words of a line call.
 #[tactic(auto, unfolding(model::specs::Grammar::call_of))]
 fn call<'a>(alloc: Global, words: &[&'a [u8]]) -> Result<Call<&'a str, &'a str>, LineFault>
+    requires { 0 < length words.now }
     ensures { IsRead (renamed (λ name. name.now) (λ name. name.now)) (call_of (map (λ word. word.now) words.now))
         result }
 {
-    if words.is_empty() {
-        return Err(LineFault::Syntax);
-    }
     let called = words[0];
     if called == b"matrix".as_slice() {
         matrix(words).ok_or(LineFault::Syntax)

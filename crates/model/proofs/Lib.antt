@@ -1,7 +1,11 @@
 pub mod ElementWiseLaws
 pub mod BuildLaws
+pub mod CanonicalLaws
+pub mod EntryLaws
 pub mod EnvironmentLaws
+pub mod FileRows
 pub mod IndexLaws
+pub mod MarketLaws
 pub mod ObjectLaws
 pub mod OperationLaws
 pub mod ProductLaws
@@ -13,5 +17,6 @@ pub mod Rows
 pub mod RunLaws
 pub mod StepLaws
 pub mod StoredLaws
+pub mod TextLaws
 pub mod TupleLaws
 pub mod WriteBackLaws

@@ -15,6 +15,7 @@ use Rattle.algebra.specs.declared.operator_names.OpName.{OpName}
 use Rattle.algebra.specs.declared.operator_names.RingName.{RingName}
 use Rattle.algebra.specs.declared.operator_names.UnaryName.{UnaryName}
 use Rattle.algebra.specs.IndexOperators.{is_by_position}
+use Rattle.algebra.specs.Value.{is_built_in}
 use Rattle.algebra.specs.Names.{binary_from_name, domain_from_name, index_from_name, monoid_from_name, unary_from_name}
 use Rattle.model.specs.declared.call.Call.{Call}
 use Rattle.model.specs.declared.call.Call.TheVariants.{Create, Dup, Free, Clear, Resize, Build, Set, Remove, Get}
@@ -31,7 +32,7 @@ use Rattle.model.specs.declared.call.Positions.TheVariants.{Union, Intersection}
 use Rattle.model.specs.declared.call.Region.{Region}
 use Rattle.model.specs.declared.call.Region.TheVariants as region
 use Rattle.model.specs.declared.call.TwoInputs.TheVariants.{Combine, Multiply}
-use Rattle.model.specs.declared.limits.TheConstants.{LONGEST_LINE, LONGEST_NAME}
+use Rattle.model.specs.declared.limits.TheConstants.{LONGEST_FILE_NAME, LONGEST_LINE, LONGEST_NAME}
 use Rattle.model.specs.declared.shape.Place.{Place}
 use Rattle.model.specs.declared.shape.Place.TheVariants.{One, Two}
 use Rattle.model.specs.declared.shape.Shape.TheVariants as shape
@@ -497,11 +498,34 @@ call_of words =
 
 -- ---- one line
 
--- what a line is: nothing to answer, no command, or a call
-pub data Reading : Type 0 where
-  Silent : Reading
-  Malformed : Reading
-  Called : Call Name Name → Reading
+-- what a line is: nothing to answer, no command, a call, or a matrix of a file that is loaded under a new name, with
+-- values of a domain; what stands for the file is its name, or what is read of it
+pub data Reading (F : Type 0) : Type 0 where
+  Silent : Reading F
+  Malformed : Reading F
+  Called : Call Name Name → Reading F
+  Loads : Name → Domain → F → Reading F
+
+-- 1 to 255 printable bytes
+abbrev pub is_file_name : List ℕ → Bool
+is_file_name word = nat_le 1 (length word) && nat_le (length word) LONGEST_FILE_NAME
+    && list_all (λ b. nat_le 33 b && nat_le b 126) word
+
+unfoldable pub file_name_of : List ℕ → Option (List ℕ)
+file_name_of word = if is_file_name word then Some word else None
+
+-- load NAME DOMAIN FILE, where the domain is built in
+unfoldable pub load_of : List (List ℕ) → Option (Reading (List ℕ))
+load_of words =
+    if length words == 4
+    then (name_of (nth_word words 1) >>= λ name. where_it is_built_in (domain_of (nth_word words 2)) >>= λ domain.
+    file_name_of (nth_word words 3) >>= λ file. Some (Loads name domain file))
+    else None
+
+-- what the words of a line ask for, by the first word
+unfoldable pub command_of : List (List ℕ) → Option (Reading (List ℕ))
+command_of words =
+    if is_called words (codes "load") then load_of words else (call_of words >>= λ call. Some (Called call))
 
 -- no words, or a first word that begins with `#`
 abbrev pub is_silent : List (List ℕ) → Bool
@@ -511,12 +535,12 @@ is_silent (word ∷ words) = slice_index word 0 == 35
 abbrev pub is_well_formed : List ℕ → Bool
 is_well_formed line = nat_le (length line) LONGEST_LINE && list_all is_plain line
 
-unfoldable pub reading_of : List ℕ → Reading
+unfoldable pub reading_of : List ℕ → Reading (List ℕ)
 reading_of line =
     if is_silent (words_of line) then Silent
-    else if is_well_formed line then option_map_or Called (call_of (words_of line)) Malformed
+    else if is_well_formed line then option_map_or (λ reading. reading) (command_of (words_of line)) Malformed
     else Malformed
 
 -- what the lines of a script are
-unfoldable pub readings_of : List ℕ → List Reading
+unfoldable pub readings_of : List ℕ → List (Reading (List ℕ))
 readings_of script = map reading_of (lines_of script)

@@ -4,6 +4,8 @@ pub mod Entries
 pub mod Fault
 pub mod Grammar
 pub mod Indices
+pub mod Loads
+pub mod MatrixMarket
 pub mod Object
 pub mod Operations
 pub mod Product

@@ -2,15 +2,20 @@
 use Rattle.std.specs.Prelude.{ℕ, ◌+◌, ◌-◌, Bool, if◌then◌else◌, is_some, List, [], ◌∷◌, ◌++◌, length, Option, Some}
 use Rattle.std.specs.Prelude.{None, decimal}
 use Rattle.std.specs.List.{flat_map}
-use Rattle.std.specs.Option.{option_map_or}
+use Rattle.std.specs.Option.{option_and_then, option_map_or}
+use Rattle.std.specs.Result.{result_ok}
 use Rattle.std.specs.Str.{bytes_eq}
+use Rattle.algebra.specs.declared.domain.Domain.{Domain}
 use Rattle.model.specs.declared.call.Call.{Call}
 use Rattle.model.specs.declared.call.Call.TheVariants.{Create, Dup, Free, Resize, Get, Nvals, Print, Reduce}
 use Rattle.model.specs.declared.shape.Shape.{Shape}
+use Rattle.model.specs.declared.status.Status.{Status}
 use Rattle.model.specs.declared.status.Status.TheVariants as status
 use Rattle.model.specs.Entries.{entries_of}
 use Rattle.model.specs.Fault.{fault_of, found_object}
-use Rattle.model.specs.Grammar.{Name, Reading, Silent, Malformed, Called, readings_of}
+use Rattle.model.specs.Grammar.{Name, Reading, Silent, Malformed, Called, Loads}
+use Rattle.model.specs.Loads.{Sources, load_fault, readings_in}
+use Rattle.model.specs.MatrixMarket.{File, object_read}
 use Rattle.model.specs.Object.{Content, Object, col_of, cols_of, empty_object, row_of, rows_of}
 use Rattle.model.specs.Reductions.{sum_in}
 use Rattle.model.specs.Regions.{cut_to}
@@ -71,6 +76,12 @@ effect same env (Free name) = without_object same env name
 effect same env call = option_map_or (λ name. with_content same env name (left_by (on_objects env call)))
     (output_of call) env
 
+-- what an accepted load leaves: one more object, of what is read of the file
+unfoldable pub loaded : {K : Type 0} → (K → K → Bool) → Environment K → K → Domain → File → Environment K
+loaded same env name domain file = option_map_or
+    (λ m. with_object same env name (object_read domain m) (env.count + 1))
+    (option_and_then result_ok file) env
+
 -- ---- answers
 
 -- the data lines of an accepted call
@@ -82,36 +93,42 @@ data_lines_of (Print o) = canonical_lines o
 data_lines_of (Reduce o monoid) = value_text monoid.domain (sum_in monoid o) ∷ []
 data_lines_of _ = []
 
--- the answer to the call on a line, and what it leaves
+-- the answer to what a line asks for and what it leaves: with a fault that, and all as it was; else data lines, and
+-- what is left then
+abbrev pub answered : ℕ → Environment Name → Option Status → List (List ℕ) → Environment Name
+    → Answer × Environment Name
+answered number env fault lines left = option_map_or
+    (λ fault. (record { number = number; status = fault; data_lines = [] }, env)) fault
+    (record { number = number; status = status.Ok; data_lines = lines }, left)
+
+-- ..of a call
 unfoldable pub step : ℕ → Environment Name → Call Name Name → Answer × Environment Name
-step number env call = option_map_or
-    (λ fault. (record { number = number; status = fault; data_lines = [] }, env))
-    (fault_of env.count (seen env call)) (
-      record {
-        number = number;
-        status = status.Ok;
-        data_lines = data_lines_of
-            (on_objects env call);
-      },
-      effect bytes_eq env call,
-    )
+step number env call = answered number env (fault_of env.count (seen env call))
+    (data_lines_of (on_objects env call)) (effect bytes_eq env call)
+
+-- ..of a load
+unfoldable pub load : ℕ → Environment Name → Name → Domain → File → Answer × Environment Name
+load number env name domain file = answered number env
+    (load_fault env.count (is_some (env.find_object name)) file) [] (loaded bytes_eq env name domain file)
 
 -- the answers to one line, of which there is at most one, and what it leaves
-unfoldable pub turn : ℕ → Environment Name → Reading → List Answer × Environment Name
+unfoldable pub turn : ℕ → Environment Name → Reading File → List Answer × Environment Name
 turn number env Silent = ([], env)
 turn number env Malformed = (record { number = number; status = status.Syntax; data_lines = [] } ∷ [], env)
 turn number env (Called call) = ((step number env call).0 ∷ [], (step number env call).1)
+turn number env (Loads name domain file) =
+    ((load number env name domain file).0 ∷ [], (load number env name domain file).1)
 
 -- the answers to lines that are numbered from a number on
-unfoldable pub answers_from : ℕ → Environment Name → List Reading → List Answer
+unfoldable pub answers_from : ℕ → Environment Name → List (Reading File) → List Answer
 answers_from number env [] = []
 answers_from number env (reading ∷ readings) =
     let now = turn number env reading in now.0 ++ answers_from (number + 1) now.1 readings
 
 -- what lines write, that are numbered from 1
-unfoldable pub out_of_readings : List Reading → List ℕ
+unfoldable pub out_of_readings : List (Reading File) → List ℕ
 out_of_readings readings = flat_map answer_text (answers_from 1 no_objects readings)
 
--- what a script writes
-unfoldable pub out_of : List ℕ → List ℕ
-out_of script = out_of_readings (readings_of script)
+-- what a script writes, with these files
+unfoldable pub out_of : Sources → List ℕ → List ℕ
+out_of sources script = out_of_readings (readings_in sources script)

@@ -3,7 +3,8 @@
 use Rattle.std.specs.Prelude.{ℕ, ◌+◌, ◌≡◌, ◌≢◌, ◌⊎◌, List, [], ◌∷◌, ◌++◌, codes}
 use Rattle.std.specs.List.{All, flat_map}
 use Rattle.model.specs.declared.status.Status.TheVariants as status
-use Rattle.model.specs.Grammar.{Name, Reading, Silent, Malformed, Called}
+use Rattle.model.specs.Grammar.{Name, Reading, Silent, Malformed, Called, Loads}
+use Rattle.model.specs.MatrixMarket.{File}
 use Rattle.model.specs.Run.{Environment, no_objects, out_of_readings, turn}
 use Rattle.model.specs.Text.{Answer, answer_text}
 
@@ -20,24 +21,25 @@ first_state = record { environment = no_objects }
 abbrev pub out_of_memory : ℕ → Answer
 out_of_memory number = record { number = number; status = status.OutOfMemory; data_lines = [] }
 
--- a line has an answer, be it a call or malformed
-abbrev pub IsAnswered : Reading → Type 0
+-- a line has an answer, be it a command or malformed
+abbrev pub IsAnswered : {F : Type 0} → Reading F → Type 0
 IsAnswered Silent = ⊥
 IsAnswered Malformed = Unit {0}
 IsAnswered (Called call) = Unit {0}
+IsAnswered (Loads name domain file) = Unit {0}
 
 -- the line says and leaves what it does when it is done at once, and leaves nothing else changed
-abbrev pub IsDone : ℕ → State → Reading → List Answer → State → Type 0
+abbrev pub IsDone : ℕ → State → Reading File → List Answer → State → Type 0
 IsDone number before reading said after =
     (said ≡ (turn number before.environment reading).0)
     × (after ≡ record before { environment = (turn number before.environment reading).1 })
 
 -- the line answers that memory was refused, and nothing changed
-abbrev pub IsRefused : ℕ → State → Reading → List Answer → State → Type 0
+abbrev pub IsRefused : ℕ → State → Reading File → List Answer → State → Type 0
 IsRefused number before reading said after = IsAnswered reading × (said ≡ out_of_memory number ∷ []) × (after ≡ before)
 
 -- what a line may say and leave
-abbrev pub IsTurn : ℕ → State → Reading → List Answer → State → Type 0
+abbrev pub IsTurn : ℕ → State → Reading File → List Answer → State → Type 0
 IsTurn number before reading said after = IsDone number before reading said after
     ⊎ IsRefused number before reading said after
 
@@ -45,7 +47,7 @@ IsTurn number before reading said after = IsDone number before reading said afte
 
 -- answers of lines that are numbered from a number on: those of the first line, and then those of the others from
 -- the state that it leaves
-unfoldable pub IsRun : ℕ → State → List Reading → List Answer → Type 0
+unfoldable pub IsRun : ℕ → State → List (Reading File) → List Answer → Type 0
 IsRun number before [] answers = answers ≡ []
 IsRun number before (reading ∷ readings) answers =
     (said : List Answer) × (after : State) × (later : List Answer) × IsTurn number before reading said after
@@ -68,7 +70,7 @@ pub record TellsOfNoWant (text : List ℕ) : Type 0 where
 
 -- Bytes and what a run of lines appended to them. Where no answer tells of want of memory, that is what the lines'
 -- calls give when each is done at once; and whether one does can be seen in the bytes.
-pub record Ran (readings : List Reading) (old new : List ℕ) : Type 0 where
+pub record Ran (readings : List (Reading File)) (old new : List ℕ) : Type 0 where
   pub answers : List Answer
   pub run : IsRun 1 first_state readings answers
   pub written : new ≡ old ++ flat_map answer_text answers

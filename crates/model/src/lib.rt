@@ -6,6 +6,7 @@ mod call;
 mod entry;
 mod indices;
 mod limits;
+mod market;
 mod memory;
 mod shape;
 mod status;
@@ -14,7 +15,10 @@ mod tuples;
 pub use call::{Call, Desc, Form, OneInput, Operation, Out, Plan, Positions, Region, TwoInputs};
 pub use entry::Entry;
 pub use indices::IndexList;
-pub use limits::{GREATEST_DIMENSION, LONGEST_LINE, LONGEST_NAME, MOST_FILLED, MOST_OBJECTS};
+pub use limits::{
+    GREATEST_DIMENSION, LONGEST_FILE_NAME, LONGEST_LINE, LONGEST_NAME, MOST_FILLED, MOST_OBJECTS,
+};
+pub use market::{Field, Heading, MmFault, Symmetry};
 pub use memory::NoMemory;
 pub use shape::{Place, Shape, Signature};
 pub use status::Status;

@@ -9,6 +9,9 @@ pub const MOST_OBJECTS: u64 = 1_024;
 /// The greatest length of a name, in letters.
 pub const LONGEST_NAME: usize = 32;
 
+/// The greatest length of a file's name, in bytes.
+pub const LONGEST_FILE_NAME: usize = 255;
+
 /// The greatest length of a call's line, in bytes, without its line end.
 pub const LONGEST_LINE: usize = 65_536;
 

@@ -1,7 +1,7 @@
 -- The line that the first line feed ends, or the whole text.
 use Rattle.std.proofs.lemmas.List.{take_rest}
-use Rattle.script.proofs.LineLaws.{lines_of-first, lines_of-last}
-use Rattle.script.proofs.running.first_line.Goals as goal
+use Rattle.lines.proofs.LineLaws.{lines_of-first, lines_of-last}
+use Rattle.lines.proofs.cutting.first_line.Goals as goal
 
 pub returns-in-Some-clause-lines : goal.returns-in-Some-clause-lines
 returns-in-Some-clause-lines c = rw (take_rest, c.without_carriage_return.ensures) (lines_of-first c.args.text.now c.in-Some.at c.in-Some.ensures)
