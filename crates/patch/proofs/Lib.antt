@@ -2,3 +2,4 @@ mod BuildLaws
 mod EditLaws
 mod GatherLaws
 mod JoinLaws
+mod SumLaws

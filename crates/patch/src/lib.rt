@@ -7,7 +7,9 @@ mod edits;
 mod gathering;
 mod merging;
 mod runs;
+mod summing;
 
 pub use building::build;
 pub use edits::{Edit, settle};
 pub use gathering::gather;
+pub use summing::sum_entries;

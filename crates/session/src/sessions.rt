@@ -1,10 +1,14 @@
 //! Sessions.
 ghost use Rattle.std.specs.Prelude.{◌≡◌, ◌==◌, ◌+◌, ◌-◌, ◌^◌, ◌<◌, IfOk, MatchResult, None, OnErr, OnOk, Some};
-ghost use Rattle.std.specs.Prelude.{false, is_some, true};
+ghost use Rattle.std.specs.Prelude.{◌≤◌, false, is_some, true};
+ghost use Rattle.std.specs.List.{All};
 ghost use Rattle.calls.specs.declared.obj.Obj.{Obj as Object};
 ghost use Rattle.std.specs.Option.{option_map, option_map_or};
 ghost use Rattle.algebra.specs.OperatorNames.{op_named};
 ghost use Rattle.algebra.specs.Operators.{offers};
+ghost use Rattle.algebra.specs.Value.{IsWordOf, is_built_in};
+ghost use Rattle.model.specs.Entries.{IsInside};
+ghost use Rattle.model.specs.MatrixMarket.{object_read};
 ghost use Rattle.model.specs.Run.{no_objects, with_object, without_object};
 ghost use Rattle.session.specs.Tables.{environment_in, same_object};
 
@@ -17,8 +21,8 @@ use calls::{
     check_dup, check_place, check_reduce, check_resize, check_set, check_there,
 };
 use elementwise::reduce_all;
-use model::{MOST_OBJECTS, NoMemory, Status};
-use patch::build;
+use model::{Entry, MOST_OBJECTS, NoMemory, Status};
+use patch::{build, sum_entries};
 use shapes::resize;
 use std::alloc::Global;
 use store::Store;
@@ -61,7 +65,7 @@ impl Session {
     ghost use Rattle.model.specs.Object.{IsObject};
     ghost use Rattle.session.specs.Objects.{object_of, stored_object};
     ghost use Rattle.session.specs.Performed.{Answers, IsPerformed, count_in, environment_of, known_in, made_in};
-    ghost use Rattle.session.specs.Performed.{IsSettledIn, next_object};
+    ghost use Rattle.session.specs.Performed.{Ends, IsSettledIn, fault_in, next_object};
 
     /// A session without objects. It takes no memory.
     pub fn new(alloc: Global) -> Session
@@ -97,6 +101,35 @@ impl Session {
     {
         check_create(self, domain, shape)?;
         let store = Store::new(self.alloc, shape.rows(), shape.cols());
+        let held = Held::new(self.alloc, domain, shape, store);
+        let object = self.insert(held)?;
+        Ok(object)
+    }
+
+    /// Makes a matrix with the entries of a file, of which the values of one position are summed (`GrB_Matrix_new`,
+    /// and `GrB_Matrix_build` with PLUS, of BOOL with LOR). It takes no memory beside the entries and the store.
+    pub fn load(
+        &mut self,
+        domain: Domain,
+        rows: u64,
+        cols: u64,
+        entries: Vec<Entry>,
+    ) -> Result<Obj, Status>
+        requires built_in { is_built_in domain ≡ true }
+        requires inside { IsInside rows cols entries.items }
+        requires words { All (λ e. IsWordOf domain e.word) entries.items }
+        ensures status { Ends (fault_in self.old (Call.Create (next_object self.old) domain (Shape.Two rows cols))) result }
+        ensures put { OnOk result (environment_of self.new ≡ with_object same_object (environment_of self.old)
+            (next_object self.old) (object_read domain (record { rows = rows; cols = cols; entries = entries.items }))
+            ((environment_of self.old).count + 1)) }
+        ensures kept { OnErr result (environment_of self.new ≡ environment_of self.old) }
+        ensures object { IfOk result (λ object. object ≡ next_object self.old) }
+        ensures made { made_in self.new ≤ made_in self.old + 1 }
+        ensures unused { (environment_of self.old).find_object (next_object self.old) ≡ None }
+    {
+        let shape = Shape::Two(rows, cols);
+        check_create(self, domain, shape)?;
+        let store = sum_entries(self.alloc, entries, domain, rows, cols)?;
         let held = Held::new(self.alloc, domain, shape, store);
         let object = self.insert(held)?;
         Ok(object)

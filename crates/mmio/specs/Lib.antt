@@ -1,0 +1,5 @@
+pub mod Fronts
+pub mod Heads
+pub mod Listing
+pub mod Said
+pub mod Written

@@ -1,0 +1,75 @@
+//! The digits at the front of a line: the loop that nearly all time of a file goes into.
+ghost use Rattle.std.specs.Prelude.{◌≡◌, ◌%◌, ◌<◌, ◌≤◌, ◌^◌, IfSome, IsTrue, MatchOption, false, is_some, length};
+ghost use Rattle.std.specs.Prelude.{slice_index, take, true};
+ghost use Rattle.std.specs.List.{list_all};
+ghost use Rattle.model.specs.Grammar.{digits_value, is_blank, is_digit, nth_word, words_of};
+ghost use Rattle.model.specs.MatrixMarket.{are_digits};
+ghost use Rattle.mmio.specs.Fronts.{LeadsWithNumber, behind_front, front_of, in_64_bits};
+
+use crate::fronts::{is_apart, without_blanks};
+
+/// So many digits write a number below 2^64.
+const MOST_SHORT: usize = 19;
+
+/// The number that the first word of a line writes, and what follows that word; None where it isn't of
+/// digits or there is no word. The number is None where it is 2^64 or more.
+#[inline(always)]
+pub fn first_number(line: &[u8]) -> Option<(Option<u64>, &[u8])>
+    ensures { MatchOption result
+        (are_digits (nth_word (words_of line.now) 0) ≡ false)
+        (λ found. LeadsWithNumber (words_of line.now) found.0 (words_of found.1.now)) }
+{
+    number_in_front(without_blanks(line))
+}
+
+/// The same of a word at the front of a text, which may be empty.
+#[inline(always)]
+pub fn number_in_front(text: &[u8]) -> Option<(Option<u64>, &[u8])>
+    ensures found { is_some result ≡ are_digits (front_of text.now) }
+    ensures value { IfSome result (λ found. found.0 ≡ in_64_bits (digits_value (front_of text.now))) }
+    ensures rest { IfSome result (λ found. found.1.now ≡ behind_front text.now) }
+{
+    let (count, short) = leading_digits(text);
+    let (word, rest) = text.split_at(count);
+    if word.is_empty() || !is_apart(rest) {
+        return None;
+    }
+    if count <= MOST_SHORT {
+        Some((Some(short), rest))
+    } else {
+        Some((long_value(word), rest))
+    }
+}
+
+/// How many digits a text begins with, and what they write modulo 2^64. It stays a function of its own,
+/// since within its callers the value would be kept in memory from digit to digit.
+#[inline(never)]
+fn leading_digits(text: &[u8]) -> (usize, u64)
+    ensures within { result.0 ≤ length text.now }
+    ensures digits { list_all is_digit (take result.0 text.now) ≡ true }
+    ensures ends { result.0 < length text.now → is_digit (slice_index text.now result.0) ≡ false }
+    ensures value { result.1 ≡ digits_value (take result.0 text.now) % 2 ^ 64 }
+{
+    let mut count = 0;
+    let mut value: u64 = 0;
+    while count < text.len() && text[count].is_ascii_digit() {
+        value = value
+            .wrapping_mul(10)
+            .wrapping_add(u64::from(text[count] - b'0'));
+        count += 1;
+    }
+    (count, value)
+}
+
+/// What any number of digits write, if it is below 2^64.
+#[inline(never)]
+fn long_value(word: &[u8]) -> Option<u64>
+    requires { IsTrue (list_all is_digit word.now) }
+    ensures { result ≡ in_64_bits (digits_value word.now) }
+{
+    let mut value: u64 = 0;
+    for byte in word {
+        value = value.checked_mul(10)?.checked_add(u64::from(*byte - b'0'))?;
+    }
+    Some(value)
+}

@@ -1,0 +1,19 @@
+//! Matrix Market files: matrices from their bytes, and objects as bytes.
+#![tactic(auto)]
+
+mod banner;
+mod digits;
+mod entry;
+mod fronts;
+mod head;
+mod listed;
+mod listing;
+mod reading;
+mod texts;
+mod told;
+mod values;
+mod writing;
+
+pub use model::MmFault;
+pub use reading::{read, read_entries};
+pub use writing::write;

@@ -1,0 +1,61 @@
+//! Matrices from the bytes of a file.
+ghost use Rattle.std.specs.Prelude.{◌≡◌, ◌⊎◌, IfErr, IfOk, Err, Ok, map};
+ghost use Rattle.model.specs.declared.market.MmFault.TheVariants.{NoMemory};
+ghost use Rattle.model.specs.Entries.{entry_at};
+ghost use Rattle.model.specs.MatrixMarket.{matrix_in};
+
+use crate::head::head;
+use crate::listed::Listed;
+use crate::listing::listed_entries;
+use algebra::Domain;
+use model::{Entry, MmFault};
+use std::alloc::Global;
+
+/// The matrix that a Matrix Market file stands for: its rows, its columns, and its entries in the order of
+/// the file, each with the one that the file leaves out behind it. Of the format `integer` and `pattern`
+/// are read, and all symmetries but `hermitian`; values are cast to the domain.
+///
+/// An error is the first thing that is wrong, line by line from the top, or `NoMemory`. The time is linear
+/// in the file, and the memory in its entry lines: what number the file announces reserves nothing.
+pub fn read_entries(
+    alloc: Global,
+    bytes: &[u8],
+    domain: Domain,
+) -> Result<(u64, u64, Vec<Entry>), MmFault>
+    ensures ok { IfOk result (λ found. matrix_in domain bytes.now
+        ≡ Ok (record { rows = found.0; cols = found.1; entries = found.2.items })) }
+    ensures err { IfErr result (λ fault. (fault ≡ NoMemory) ⊎ (matrix_in domain bytes.now ≡ Err fault)) }
+{
+    read_as(alloc, bytes, domain)
+}
+
+/// The same with each entry as its row, its column and its word.
+pub fn read(
+    alloc: Global,
+    bytes: &[u8],
+    domain: Domain,
+) -> Result<(u64, u64, Vec<(u64, u64, u64)>), MmFault>
+    ensures ok { IfOk result (λ found. matrix_in domain bytes.now ≡ Ok (record {
+      rows = found.0;
+      cols = found.1;
+      entries = map (λ entry. entry_at entry.0 entry.1 entry.2) found.2.items;
+    })) }
+    ensures err { IfErr result (λ fault. (fault ≡ NoMemory) ⊎ (matrix_in domain bytes.now ≡ Err fault)) }
+{
+    read_as(alloc, bytes, domain)
+}
+
+/// The same with each entry as what stands for it.
+fn read_as<T: Listed>(
+    alloc: Global,
+    bytes: &[u8],
+    domain: Domain,
+) -> Result<(u64, u64, Vec<T>), MmFault>
+    ensures ok { IfOk result (λ found. matrix_in domain bytes.now
+        ≡ Ok (record { rows = found.0; cols = found.1; entries = map T.entry_of found.2.items })) }
+    ensures err { IfErr result (λ fault. (fault ≡ NoMemory) ⊎ (matrix_in domain bytes.now ≡ Err fault)) }
+{
+    let (heading, rest) = head(domain, bytes)?;
+    let listed = listed_entries(alloc, domain, heading, rest)?;
+    Ok((heading.rows, heading.cols, listed))
+}
