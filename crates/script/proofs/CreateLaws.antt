@@ -34,7 +34,7 @@ taken_name : (count : ℕ) (domain : Domain) (shape : Shape) (taken : Bool) → 
 unfolding early_fault
 taken_name count domain shape taken h = rw h refl
 
-there_through : (number : Name → Option Obj) (senv : Environment Obj) (found : Option Obj) → ((o : Obj) → found ≡ Some o → is_some (senv.find_object o) ≡ true)
+pub there_through : (number : Name → Option Obj) (senv : Environment Obj) (found : Option Obj) → ((o : Obj) → found ≡ Some o → is_some (senv.find_object o) ≡ true)
     → is_some found ≡ true → is_some (option_and_then senv.find_object found) ≡ true
 there_through number senv None there h = h
 there_through number senv (Some o) there h = there o refl
@@ -45,7 +45,7 @@ pub fault-taken : (number : Name → Option Obj) (senv : Environment Obj) (name 
 fault-taken number senv name domain shape there taken =
     taken_name senv.count domain shape (is_some (option_and_then senv.find_object (number name))) (there_through number senv (number name) (there name) taken)
 
-free_name : (senv : Environment Obj) (found : Option Obj) → is_some found ≡ false → is_some (option_and_then senv.find_object found) ≡ false
+pub free_name : (senv : Environment Obj) (found : Option Obj) → is_some found ≡ false → is_some (option_and_then senv.find_object found) ≡ false
 free_name senv None h = refl
 free_name senv (Some o) h = absurd (true≢false h)
 

@@ -1,6 +1,6 @@
 pub mod CreateLaws
 pub mod FreeLaws
-pub mod LineLaws
+pub mod LoadLaws
 pub mod NameLaws
 pub mod ReplyLaws
 pub mod RunLaws

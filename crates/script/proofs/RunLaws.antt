@@ -5,6 +5,8 @@ use Rattle.std.proofs.lemmas.Grind.{flat_map-append}
 use Rattle.std.proofs.lemmas.List.{append-nil}
 use Rattle.std.proofs.Math.Seq.{take-append_seam}
 use Rattle.model.specs.Grammar.{Reading, lines_of, reading_of, readings_of}
+use Rattle.model.specs.Loads.{Sources, readings_in, with_file}
+use Rattle.model.specs.MatrixMarket.{File}
 use Rattle.model.specs.Run.{out_of}
 use Rattle.model.specs.Runs.{State, first_state, IsRun, Ran, TellsOfNoWant}
 use Rattle.model.specs.Text.{Answer, answer_text}
@@ -12,15 +14,15 @@ use Rattle.model.proofs.RunLaws.{ran}
 use Rattle.script.specs.Turns.{Says}
 
 -- some lines of the script are answered, and what is written is their answers' texts
-pub record IsUnderWay (script rest : List ℕ) (state : State) (number : ℕ) (old new : List ℕ) : Type 0 where
-  pub done : List Reading
+pub record IsUnderWay (sources : Sources) (script rest : List ℕ) (state : State) (number : ℕ) (old new : List ℕ) : Type 0 where
+  pub done : List (Reading File)
   pub answers : List Answer
-  pub split : readings_of script ≡ done ++ readings_of rest
+  pub split : readings_in sources script ≡ done ++ readings_in sources rest
   pub written : new ≡ old ++ flat_map answer_text answers
-  pub goes_on : (others : List Reading) (more : List Answer) → IsRun number state others more → IsRun 1 first_state (done ++ others) (answers ++ more)
+  pub goes_on : (others : List (Reading File)) (more : List Answer) → IsRun number state others more → IsRun 1 first_state (done ++ others) (answers ++ more)
 
-pub under_way-start : (script out : List ℕ) → IsUnderWay script script first_state 1 out out
-under_way-start script out = record {
+pub under_way-start : (sources : Sources) (script out : List ℕ) → IsUnderWay sources script script first_state 1 out out
+under_way-start sources script out = record {
   done = [];
   answers = [];
   split = refl;
@@ -29,39 +31,39 @@ under_way-start script out = record {
 }
 
 -- one line more, with its answers
-pub under_way-turn : (script rest others line : List ℕ) (before after : State) (number : ℕ) (old new text : List ℕ)
+pub under_way-turn : (sources : Sources) (script rest others line : List ℕ) (before after : State) (number : ℕ) (old new text : List ℕ)
     → lines_of rest ≡ line ∷ lines_of others
-    → Says number before (reading_of line) text after
-    → IsUnderWay script rest before number old new
-    → IsUnderWay script others after (number + 1) old (new ++ text)
-unfolding IsRun readings_of
-under_way-turn script rest others line before after number old new text first (said, turned, texts) way = record {
-  done = way.done ++ reading_of line ∷ [];
+    → Says number before (with_file sources (reading_of line)) text after
+    → IsUnderWay sources script rest before number old new
+    → IsUnderWay sources script others after (number + 1) old (new ++ text)
+unfolding IsRun readings_in readings_of
+under_way-turn sources script rest others line before after number old new text first (said, turned, texts) way = record {
+  done = way.done ++ with_file sources (reading_of line) ∷ [];
   answers = way.answers ++ said;
-  split = way.split ∙ ap (λ ls. way.done ++ map reading_of ls) first ∙ sym (append_assoc way.done (reading_of line ∷ []) (readings_of others));
+  split = way.split ∙ ap (λ ls. way.done ++ map (with_file sources) (map reading_of ls)) first ∙ sym (append_assoc way.done (with_file sources (reading_of line) ∷ []) (readings_in sources others));
   written = rw (way.written, texts, flat_map-append answer_text way.answers said) (append_assoc old (flat_map answer_text way.answers) (flat_map answer_text said));
-  goes_on = λ lines more h. rw (append_assoc, append_assoc) (way.goes_on (reading_of line ∷ lines) (said ++ more) (said, after, more, turned, h, refl));
+  goes_on = λ lines more h. rw (append_assoc, append_assoc) (way.goes_on (with_file sources (reading_of line) ∷ lines) (said ++ more) (said, after, more, turned, h, refl));
 }
 
 -- the lines that are answered are a run of their own
-pub ran-so_far : (script rest : List ℕ) (state : State) (number : ℕ) (old new : List ℕ)
-    → IsUnderWay script rest state number old new → (n : ℕ) × Ran (take n (readings_of script)) old new
+pub ran-so_far : (sources : Sources) (script rest : List ℕ) (state : State) (number : ℕ) (old new : List ℕ)
+    → IsUnderWay sources script rest state number old new → (n : ℕ) × Ran (take n (readings_in sources script)) old new
 unfolding IsRun
-ran-so_far script rest state number old new way =
+ran-so_far sources script rest state number old new way =
     let whole = simp append-nil at (way.goes_on [] [] refl) in
-    let done : take (length way.done) (readings_of script) ≡ way.done = ap (take (length way.done)) way.split ∙ take-append_seam way.done (readings_of rest) in
+    let done : take (length way.done) (readings_in sources script) ≡ way.done = ap (take (length way.done)) way.split ∙ take-append_seam way.done (readings_in sources rest) in
     (length way.done, rw done (ran way.done old new way.answers whole way.written))
 
 -- once nothing is left, all lines are answered
-pub ran-all : (script : List ℕ) (state : State) (number : ℕ) (old new : List ℕ)
-    → IsUnderWay script [] state number old new → Ran (readings_of script) old new
-unfolding IsRun lines_of readings_of
-ran-all script state number old new way =
+pub ran-all : (sources : Sources) (script : List ℕ) (state : State) (number : ℕ) (old new : List ℕ)
+    → IsUnderWay sources script [] state number old new → Ran (readings_in sources script) old new
+unfolding IsRun lines_of readings_in readings_of
+ran-all sources script state number old new way =
     let whole = simp append-nil at (way.goes_on [] [] refl) in
-    let all : readings_of script ≡ way.done = way.split ∙ append-nil way.done in
+    let all : readings_in sources script ≡ way.done = way.split ∙ append-nil way.done in
     rw all (ran way.done old new way.answers whole way.written)
 
 -- the headline in bytes
-pub headline : (script old new : List ℕ) → Ran (readings_of script) old new → (text : List ℕ) → new ≡ old ++ text → TellsOfNoWant text → text ≡ out_of script
+pub headline : (sources : Sources) (script old new : List ℕ) → Ran (readings_in sources script) old new → (text : List ℕ) → new ≡ old ++ text → TellsOfNoWant text → text ≡ out_of sources script
 unfolding out_of
-headline script old new ran text is none = ran.in_bytes text is none
+headline sources script old new ran text is none = ran.in_bytes text is none

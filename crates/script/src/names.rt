@@ -21,7 +21,7 @@ use std::collections::BTreeMap;
 /// The objects of a run: their names, and the session that holds them by number.
 #[derive(Drop)]
 pub struct Names {
-    alloc: Global,
+    pub(crate) alloc: Global,
     pub numbers: BTreeMap<String, Obj>,
     pub session: Session,
     ghost distinct: { (a b : List ℕ) (object : Object) → get_by_text numbers a ≡ Some object

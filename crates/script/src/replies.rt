@@ -7,15 +7,12 @@ ghost use Rattle.script.specs.Named.{Asks, HasLines, reply_lines};
 ghost use Rattle.session.specs.Performed.{environment_of, made_in};
 
 use crate::text;
+use mmio::write;
+use model::NoMemory;
 use session::{Obj, Reply, Session};
-use std::alloc::AllocError;
 
 /// Appends the data lines of a reply of a session, whose objects stay as they are.
-pub fn write_reply(
-    session: &mut Session,
-    reply: Reply,
-    text: &mut Vec<u8>,
-) -> Result<(), AllocError>
+pub fn write_reply(session: &mut Session, reply: Reply, text: &mut Vec<u8>) -> Result<(), NoMemory>
     requires { Asks (environment_of session.old) reply }
     ensures ok { OnOk result (text.new.items ≡ text.old.items
         ++ flat_map ended (reply_lines (environment_of session.old) reply)) }
@@ -25,25 +22,23 @@ pub fn write_reply(
 {
     match reply {
         Reply::Done | Reply::Made(_) => Ok(()),
-        Reply::Value(value) => text::write_value_line(text, value),
-        Reply::Count(number) => text::write_number_line(text, number),
+        Reply::Value(value) => Ok(text::write_value_line(text, value)?),
+        Reply::Count(number) => Ok(text::write_number_line(text, number)?),
         Reply::Text(object) => write_text(session, object, text),
     }
 }
 
 /// Appends the canonical text of an object that is there.
-fn write_text(session: &mut Session, object: Obj, text: &mut Vec<u8>) -> Result<(), AllocError>
+fn write_text(session: &mut Session, object: Obj, text: &mut Vec<u8>) -> Result<(), NoMemory>
     requires { is_some ((environment_of session.old).find_object object) ≡ true }
     ensures ok { OnOk result (text.new.items ≡ text.old.items
         ++ flat_map ended (canonical_lines (object_at (environment_of session.old) object))) }
     ensures kept { environment_of session.new ≡ environment_of session.old }
     ensures made { made_in session.new ≡ made_in session.old }
 {
-    if session.settle(object).is_err() {
-        return Err(AllocError);
-    }
+    session.settle(object)?;
     match session.held(object) {
-        Ok(held) => text::write_object(text, held),
+        Ok(held) => write(&held.store, held.shape, held.domain, text),
         Err(_) => unreachable!(),
     }
 }

@@ -5,7 +5,6 @@ use Rattle.calls.specs.declared.obj.Obj.{Obj}
 use Rattle.model.specs.Run.{Environment}
 use Rattle.session.specs.Objects.{stored_object}
 use Rattle.session.specs.Performed.{environment_of}
-use Rattle.script.proofs.TextLaws.{holds_where_ok}
 use Rattle.script.proofs.replies.write_text.Goals as goal
 
 pub unreachable-requires : goal.unreachable-requires
@@ -15,7 +14,6 @@ unreachable-requires c =
 
 pub returns-clause-ok : goal.returns-clause-ok
 returns-clause-ok c =
-    let settled = holds_where_ok c.settle.result c.if-is_err.ensures.negation c.settle.ensures.settled in
     let found : (environment_of c.args.session.now).find_object c.args.object ≡ Some (stored_object c.in-Ok.held.now) =
-    ap (λ (env : Environment Obj). env.find_object c.args.object) (sym c.settle.ensures.kept) ∙ c.in-Ok.ensures.settled settled in
-    rw found c.write_object.ensures
+    ap (λ (env : Environment Obj). env.find_object c.args.object) (sym c.settle.ensures.kept) ∙ c.in-Ok.ensures.settled c.in_ok-settle.ensures.settled in
+    rw found c.write.ensures.ok

@@ -1,0 +1,62 @@
+//! Matrices of files, under new names.
+ghost use Rattle.std.specs.Prelude.{◌≡◌, ◌<◌, ◌≤◌, ◌+◌, ◌-◌, ◌^◌, ◌⊎◌, IfErr, IfOk, Ok, OnErr, OnOk, is_some, true};
+ghost use Rattle.std.specs.Result.{is_err};
+ghost use Rattle.std.specs.Str.{bytes_eq};
+ghost use Rattle.model.specs.Loads.{file_in, load_fault};
+ghost use Rattle.model.specs.MatrixMarket.{matrix_in};
+ghost use Rattle.model.specs.Run.{loaded};
+ghost use Rattle.session.specs.Performed.{Ends, made_in};
+
+use crate::names::Names;
+use crate::sources::Sources;
+use algebra::Domain;
+use lines::Load;
+use mmio::{MmFault, read_entries};
+use model::{Entry, Status};
+use std::alloc::Global;
+
+impl Names {
+    ghost use Rattle.script.specs.Named.{environment_in};
+
+    /// Makes a matrix of what a file holds, under a new name. An error leaves the objects as they were.
+    pub fn load<S: Sources>(&mut self, sources: &S, load: Load<'_>) -> Result<(), Status>
+        requires made { made_in self.old.session < 2 ^ 64 - 1 }
+        ensures status { Ends (load_fault (environment_in self.old).count
+            (is_some ((environment_in self.old).find_object load.entry.name.now))
+            (file_in (S.held sources.now) load.entry.domain load.entry.file.now)) result }
+        ensures effect { OnOk result (environment_in self.new ≡ loaded bytes_eq (environment_in self.old)
+            load.entry.name.now load.entry.domain (file_in (S.held sources.now) load.entry.domain load.entry.file.now)) }
+        ensures kept { OnErr result (environment_in self.new ≡ environment_in self.old) }
+        ensures made { made_in self.new.session ≤ made_in self.old.session + 1 }
+    {
+        if self.numbers.contains_key(load.name) {
+            return Err(Status::NameTaken);
+        }
+        let Some(bytes) = sources.bytes(load.file.as_bytes()) else {
+            return Err(Status::NoFile);
+        };
+        let (rows, cols, entries) = matrix_of(self.alloc, bytes, load.domain)?;
+        let name = String::from_str(self.alloc, load.name)?;
+        let object = self.session.load(load.domain, rows, cols, entries)?;
+        if let Err(_) = self.numbers.insert(name, object) {
+            // Without room for its name the object goes again.
+            let _ = self.session.free(object);
+            return Err(Status::OutOfMemory);
+        }
+        Ok(())
+    }
+}
+
+/// The dimensions and the entries of the matrix that bytes stand for.
+fn matrix_of(alloc: Global, bytes: &[u8], domain: Domain) -> Result<(u64, u64, Vec<Entry>), Status>
+    ensures ok { IfOk result (λ m. matrix_in domain bytes.now
+        ≡ Ok (record { rows = m.0; cols = m.1; entries = m.2.items })) }
+    ensures err { IfErr result (λ status. (status ≡ Status.OutOfMemory)
+        ⊎ ((status ≡ Status.BadFile) × (is_err (matrix_in domain bytes.now) ≡ true))) }
+{
+    match read_entries(alloc, bytes, domain) {
+        Ok(matrix) => Ok(matrix),
+        Err(MmFault::NoMemory) => Err(Status::OutOfMemory),
+        Err(_) => Err(Status::BadFile),
+    }
+}
