@@ -1,14 +1,15 @@
 -- How the program ends: on which words, and what output and standard error then hold.
-use Rattle.std.specs.Prelude.{ℕ, ◌≡◌, ◌⊎◌, [], codes, List, take, Option, None, IfSome, is_some, true, All, Any, IsUtf8}
+use Rattle.std.specs.Prelude.{ℕ, ◌≡◌, ◌⊎◌, [], codes, List, take, Option, None, is_some, true, All, Any, IsUtf8}
 use Rattle.std.specs.Prelude.{Result, Ok, Err}
 use Rattle.std.specs.Option.{option_map_or}
 use Rattle.std.specs.Io.KnownBytes.{Appends, Keeps}
 use Rattle.clap.specs.Words.{Text, fault_of}
-use Rattle.model.specs.Grammar.{readings_of}
+use Rattle.model.specs.Loads.{Sources, readings_in}
 use Rattle.model.specs.Runs.{Ran}
 use Rattle.model.specs.declared.memory.NoMemory.{NoMemory}
 use Rattle.gbrun.specs.CommandLine.{IsMistake, IsRequest, command_line, order_in, text_of}
 use Rattle.gbrun.specs.Faults.{line_of, status_of}
+use Rattle.gbrun.specs.Known.{AreFiles, IsKnown}
 use Rattle.gbrun.specs.Writing.{Begins, Grows}
 use Rattle.gbrun.specs.declared.fault.Fault.{Fault}
 use Rattle.gbrun.specs.declared.fault.Fault.TheVariants.{CommandLine, BadOrder, UnreadableScript, OutOfMemory}
@@ -38,18 +39,30 @@ AsksNothing words = Any (λ word. ¬ (IsUtf8 word)) words ⊎ (All IsUtf8 words 
 abbrev pub script_in : (List ℕ → Option (List ℕ)) → Option (List ℕ) → List Text → Option (List ℕ)
 script_in content input words = option_map_or content (text_of (codes "script") words) input
 
--- these are the bytes of the script, as far as those are known
-abbrev pub IsScript : Option (List ℕ) → List ℕ → Type 0
-IsScript script bytes = IfSome script (λ known. bytes ≡ known)
+-- what is known of files, by their names, and of the script
+pub record Given : Type 0 where
+  pub content : List ℕ → Option (List ℕ)
+  pub script : Option (List ℕ)
 
--- a run of the script writes this
-abbrev pub Runs : Option (List ℕ) → List ℕ → Type 0
-Runs script written = (bytes : List ℕ) × IsScript script bytes × Ran (readings_of bytes) [] written
+-- ..where the words name the script
+abbrev pub given_in : (List ℕ → Option (List ℕ)) → Option (List ℕ) → List Text → Given
+given_in content input words = record { content = content; script = script_in content input words }
+
+-- a run of the script with these files writes this
+pub record Runs (given : Given) (written : List ℕ) : Type 0 where
+  pub script : List ℕ
+  pub sources : Sources
+  pub is_script : IsKnown given.script script
+  pub are_files : AreFiles given.content sources
+  pub ran : Ran (readings_in sources script) [] written
 
 -- a run of its first n lines does, for some n
-abbrev pub RunsFirst : Option (List ℕ) → List ℕ → Type 0
-RunsFirst script written =
-    (bytes : List ℕ) × IsScript script bytes × ((n : ℕ) × Ran (take n (readings_of bytes)) [] written)
+pub record RunsFirst (given : Given) (written : List ℕ) : Type 0 where
+  pub script : List ℕ
+  pub sources : Sources
+  pub is_script : IsKnown given.script script
+  pub are_files : AreFiles given.content sources
+  pub ran : (n : ℕ) × Ran (take n (readings_in sources script)) [] written
 
 -- ---- how the program ends
 
@@ -64,14 +77,14 @@ Finishes (Err _) answers old new (Err OutOfMemoryUndelivered) = Begins answers o
 Finishes _ _ _ _ _ = ⊥
 
 -- how a run of a script ends, and what output then holds
-abbrev pub RunEnds : Option (List ℕ) → Option (List ℕ) → Option (List ℕ) → Result (Unit {0}) Fault → Type 0
-RunEnds script old new (Ok _) = (written : List ℕ) × Runs script written × Appends old new written
-RunEnds script old new (Err UnreadableScript) = Keeps old new
-RunEnds script old new (Err OutOfMemory) = (written : List ℕ) × RunsFirst script written × Appends old new written
-RunEnds script old new (Err OutOfMemoryUndelivered) =
-    (written : List ℕ) × RunsFirst script written × Begins written old new
-RunEnds script old new (Err UnwritableOutput) = (written : List ℕ) × Runs script written × Begins written old new
-RunEnds script old new (Err _) = ⊥
+abbrev pub RunEnds : Given → Option (List ℕ) → Option (List ℕ) → Result (Unit {0}) Fault → Type 0
+RunEnds given old new (Ok _) = (written : List ℕ) × Runs given written × Appends old new written
+RunEnds given old new (Err UnreadableScript) = Keeps old new
+RunEnds given old new (Err OutOfMemory) = (written : List ℕ) × RunsFirst given written × Appends old new written
+RunEnds given old new (Err OutOfMemoryUndelivered) =
+    (written : List ℕ) × RunsFirst given written × Begins written old new
+RunEnds given old new (Err UnwritableOutput) = (written : List ℕ) × Runs given written × Begins written old new
+RunEnds given old new (Err _) = ⊥
 
 -- how a text to print ends
 abbrev pub TextEnds : Option (List ℕ) → Option (List ℕ) → Result (Unit {0}) Fault → Type 0
@@ -79,13 +92,13 @@ TextEnds old new (Ok _) = Grows old new
 TextEnds old new (Err UnwritableOutput) = Grows old new
 TextEnds old new (Err _) = ⊥
 
--- How the program ends on words, where the script that they name is this. Words that are wrong, or memory that runs out
+-- How the program ends on words, where this is known of files and of the script. Words that are wrong, or memory that runs out
 -- before the run, leave output as it was.
-abbrev pub Ends : List Text → Option (List ℕ) → Option (List ℕ) → Option (List ℕ) → Result (Unit {0}) Fault → Type 0
-Ends words script old new (Err (CommandLine _)) = AsksNothing words × Keeps old new
-Ends words script old new (Err BadOrder) = AsksBadOrder words × Keeps old new
-Ends words script old new (Err OutOfMemory) = Keeps old new ⊎ (AsksRun words × RunEnds script old new (Err OutOfMemory))
-Ends words script old new end = (AsksText words × TextEnds old new end) ⊎ (AsksRun words × RunEnds script old new end)
+abbrev pub Ends : List Text → Given → Option (List ℕ) → Option (List ℕ) → Result (Unit {0}) Fault → Type 0
+Ends words given old new (Err (CommandLine _)) = AsksNothing words × Keeps old new
+Ends words given old new (Err BadOrder) = AsksBadOrder words × Keeps old new
+Ends words given old new (Err OutOfMemory) = Keeps old new ⊎ (AsksRun words × RunEnds given old new (Err OutOfMemory))
+Ends words given old new end = (AsksText words × TextEnds old new end) ⊎ (AsksRun words × RunEnds given old new end)
 
 abbrev pub status_after : Result (Unit {0}) Fault → ℕ
 status_after (Ok _) = 0

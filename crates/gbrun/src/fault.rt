@@ -5,6 +5,7 @@ ghost use Rattle.gbrun.specs.Writing.{Begins};
 ghost use Rattle.gbrun.specs.declared.fault.Fault.TheVariants.{OutOfMemory};
 
 use crate::delivery::deliver;
+use model::NoMemory;
 use std::alloc::{AllocError, AllocFailed};
 use std::io::Write;
 use thiserror::Error;
@@ -63,6 +64,14 @@ impl Fault {
     {
         let _ = deliver(err, self.line().as_bytes());
         self.status()
+    }
+}
+
+impl From<NoMemory> for Fault {
+    ghost from_gives = { λ _ fault. fault ≡ OutOfMemory };
+
+    fn from(_refused: NoMemory) -> Fault {
+        Fault::OutOfMemory
     }
 }
 

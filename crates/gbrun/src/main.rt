@@ -5,6 +5,7 @@
 mod delivery;
 mod fault;
 mod files;
+mod loaded;
 mod options;
 mod order;
 mod program;

@@ -2,13 +2,14 @@
 ghost use Rattle.std.specs.Prelude.{◌≡◌, IfErr, IfOk, OnOk, Result, map};
 ghost use Rattle.std.specs.Option.{option_map_or};
 ghost use Rattle.std.specs.Io.KnownBytes.{Appends};
-ghost use Rattle.gbrun.specs.Outcomes.{Ends, Finishes, IsScript, RunEnds, Tells, TextEnds};
-ghost use Rattle.gbrun.specs.Outcomes.{script_in, status_after};
+ghost use Rattle.gbrun.specs.Known.{IsKnown};
+ghost use Rattle.gbrun.specs.Outcomes.{Ends, Finishes, RunEnds, Tells, TextEnds, given_in, status_after};
 ghost use Rattle.gbrun.specs.declared.fault.Fault.{Fault};
 
 use crate::delivery::deliver;
 use crate::fault::Fault;
 use crate::files::FileSource;
+use crate::loaded::Loaded;
 use crate::options;
 use crate::options::Request;
 use model::NoMemory;
@@ -31,7 +32,7 @@ pub fn execute<R: Read, F: FileSource, W: Write, E: Write>(
 ) -> u8
     ensures { (end : Result (Unit {0}) Fault) × (result ≡ status_after end)
         × Ends (map (λ word. word.items) words.now)
-        (script_in (F.content files.now) (R.remaining input.old) (map (λ word. word.items) words.now))
+        (given_in (F.content files.now) (R.remaining input.old) (map (λ word. word.items) words.now))
         (W.contents out.old) (W.contents out.new) end
         × Tells end (E.contents err.old) (E.contents err.new) }
 {
@@ -50,7 +51,7 @@ pub fn serve<R: Read, F: FileSource, W: Write>(
     out: &mut W,
 ) -> Result<(), Fault>
     ensures { Ends (map (λ word. word.items) words.now)
-        (script_in (F.content files.now) (R.remaining input.old) (map (λ word. word.items) words.now))
+        (given_in (F.content files.now) (R.remaining input.old) (map (λ word. word.items) words.now))
         (W.contents out.old) (W.contents out.new) result }
 {
     let texts = options::texts(alloc, words)?;
@@ -74,12 +75,17 @@ fn run<R: Read, F: FileSource, W: Write>(
     files: &F,
     out: &mut W,
 ) -> Result<(), Fault>
-    ensures { RunEnds (option_map_or (λ name. F.content files.now name.now) name.entry (R.remaining input.old))
+    ensures { RunEnds (record {
+      content = F.content files.now;
+      script =
+          option_map_or (λ name. F.content files.now name.now) name.entry (R.remaining input.old);
+    })
         (W.contents out.old) (W.contents out.new) result }
 {
     let script = read_script(alloc, name, input, files)?;
+    let loaded = Loaded::read(alloc, script.as_slice(), files)?;
     let mut answers = Vec::new(alloc);
-    let ended = script::run(alloc, script.as_slice(), &mut answers);
+    let ended = script::run(alloc, script.as_slice(), &loaded, &mut answers);
     finish(out, answers.as_slice(), ended)
 }
 
@@ -105,7 +111,7 @@ fn read_script<R: Read, F: FileSource>(
     input: &mut R,
     files: &F,
 ) -> Result<Vec<u8>, Fault>
-    ensures known { IfOk result (λ script. IsScript
+    ensures known { IfOk result (λ script. IsKnown
         (option_map_or (λ name. F.content files.now name.now) name.entry (R.remaining input.old)) script.items) }
     ensures err { IfErr result (λ fault. fault ≡ Fault.UnreadableScript) }
 {

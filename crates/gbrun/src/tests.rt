@@ -4,6 +4,7 @@ use crate::files::FileSource;
 use crate::program::{execute, finish};
 use crate::words::of_process;
 use model::NoMemory;
+use script::Sources;
 use std::alloc::{AllocError, Global};
 use std::env::{Env, FillError};
 use std::io;
@@ -12,6 +13,8 @@ use std::io::{ErrorKind, Read, Write};
 const STORED: &str =
     "matrix A INT64 1 2\nmatrix B INT64 2 1\nmatrix C INT64 1 1\nset A 0 0 1\nset A 0 1 1\nset B 0 0 5\n\
         set B 1 0 -5\nmxm C - - PLUS.TIMES.INT64 A B -\nnvals C\nget C 0 0\nprint C\n";
+
+const ONE_ENTRY: &str = "%%MatrixMarket matrix coordinate integer general\n2 2 1\n1 2 -7\n";
 
 const NO_SCRIPT: &str = "gbrun: cannot read script\n";
 
@@ -105,7 +108,7 @@ impl Write for Output {
     }
 }
 
-// One file, `stored`.
+// Two files, `stored` and `one.mtx`; for a third one memory is refused.
 #[derive(Drop)]
 struct Shelf {
     alloc: Global,
@@ -113,10 +116,27 @@ struct Shelf {
 
 impl FileSource for Shelf {
     fn read(&self, name: &str) -> io::Result<Vec<u8>> {
-        if name != "stored" {
-            return Err(io::Error::from(ErrorKind::NotFound));
-        }
-        Ok(Vec::from_slice(self.alloc, STORED.as_bytes())?)
+        let text = match name {
+            "stored" => STORED,
+            "one.mtx" => ONE_ENTRY,
+            "great.mtx" => return Err(io::Error::from(ErrorKind::OutOfMemory)),
+            _ => return Err(io::Error::from(ErrorKind::NotFound)),
+        };
+        Ok(Vec::from_slice(self.alloc, text.as_bytes())?)
+    }
+}
+
+// No files.
+#[derive(Drop)]
+struct NoFiles;
+
+impl Sources for NoFiles {
+    ghost use Rattle.std.specs.Prelude.{None};
+
+    ghost held = { λ _ _. None };
+
+    fn bytes(&self, _name: &[u8]) -> Option<&[u8]> {
+        None
     }
 }
 
@@ -175,7 +195,7 @@ fn run(alloc: Global, line: &str, text: &str) -> Result<Outcome, AllocError> {
 
 fn answers(alloc: Global, text: &str) -> Result<Vec<u8>, AllocError> {
     let mut out = Vec::new(alloc);
-    match script::run(alloc, text.as_bytes(), &mut out) {
+    match script::run(alloc, text.as_bytes(), &NoFiles, &mut out) {
         Ok(()) => Ok(out),
         Err(_) => Err(AllocError),
     }
@@ -199,6 +219,23 @@ fn runs_the_script_of_each_source(rt: HostRuntime) -> Result<(), AllocError> {
     }
     let empty = run(alloc, "", "")?;
     assert!(rt; empty.is(0, b"", ""));
+    Ok(())
+}
+
+#[test]
+fn reads_the_files_that_loads_name(rt: HostRuntime) -> Result<(), AllocError> {
+    let script = "load A INT64 one.mtx\nload B INT64 two.mtx\nload C INT64\nload D BOOL one.mtx\n\
+        get A 0 1\nget D 0 1\n";
+    let wanted = "1 OK\n2 NO_FILE\n3 SYNTAX\n4 OK\n5 OK\n-7\n6 OK\n1\n";
+    let outcome = run(rt.alloc(), "", script)?;
+    assert!(rt; outcome.is(0, wanted.as_bytes(), ""));
+    Ok(())
+}
+
+#[test]
+fn tells_want_of_memory_for_a_file(rt: HostRuntime) -> Result<(), AllocError> {
+    let outcome = run(rt.alloc(), "", "load A INT64 great.mtx\n")?;
+    assert!(rt; outcome.is(1, b"", NO_MEMORY));
     Ok(())
 }
 

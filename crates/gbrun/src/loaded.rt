@@ -1,0 +1,78 @@
+//! The files that a script loads.
+ghost use Rattle.std.specs.Prelude.{IfOk};
+ghost use Rattle.std.specs.Option.{option_map};
+ghost use Rattle.gbrun.specs.Known.{AreFiles, IsFile};
+ghost use Rattle.gbrun.specs.Loaded.{held_in};
+
+use crate::files::FileSource;
+use lines::{first_line, loaded_file};
+use model::NoMemory;
+use script::Sources;
+use std::alloc::Global;
+use std::collections::BTreeMap;
+use std::io::ErrorKind;
+
+/// The files that a script loads, by their names; none where a file can't be opened and read whole.
+#[derive(Drop)]
+pub struct Loaded<'a> {
+    pub by_name: BTreeMap<&'a [u8], Option<Vec<u8>>>,
+}
+
+impl Sources for Loaded<'_> {
+    ghost held = { held_in };
+
+    fn bytes(&self, name: &[u8]) -> Option<&[u8]> {
+        match self.by_name.get(name) {
+            Some(Some(bytes)) => Some(bytes.as_slice()),
+            _ => None,
+        }
+    }
+}
+
+impl<'a> Loaded<'a> {
+    /// Reads each file that a well-formed load of a script names, once.
+    pub fn read<F: FileSource>(
+        alloc: Global,
+        script: &'a [u8],
+        files: &F,
+    ) -> Result<Loaded<'a>, NoMemory>
+        ensures { IfOk result (λ loaded. AreFiles (F.content files.now) (held_in loaded)) }
+    {
+        let mut loaded = Loaded {
+            by_name: BTreeMap::new(alloc),
+        };
+        let mut rest = script;
+        while !rest.is_empty() {
+            let (line, others) = first_line(rest);
+            if let Some(name) = loaded_file(alloc, line)? {
+                loaded.add(name, files)?;
+            }
+            rest = others;
+        }
+        Ok(loaded)
+    }
+
+    /// Reads the file of a name, unless it was read before.
+    fn add<F: FileSource>(&mut self, name: &'a str, files: &F) -> Result<(), NoMemory>
+        requires { AreFiles (F.content files.now) (held_in self.old) }
+        ensures { AreFiles (F.content files.now) (held_in self.new) }
+    {
+        if self.by_name.contains_key(name.as_bytes()) {
+            return Ok(());
+        }
+        let bytes = whole(name, files)?;
+        self.by_name.insert(name.as_bytes(), bytes)?;
+        Ok(())
+    }
+}
+
+/// The bytes of a file, if it can be opened and read whole. Want of memory is no want of a file.
+fn whole<F: FileSource>(name: &str, files: &F) -> Result<Option<Vec<u8>>, NoMemory>
+    ensures { IfOk result (λ bytes. IsFile (F.content files.now name.now) (option_map (λ bytes. bytes.items) bytes)) }
+{
+    match files.read(name) {
+        Ok(bytes) => Ok(Some(bytes)),
+        Err(error) if error.kind() == ErrorKind::OutOfMemory => Err(NoMemory),
+        Err(_) => Ok(None),
+    }
+}
