@@ -1,2 +1,3 @@
 pub mod Environments
 pub mod Evaluated
+pub mod Files

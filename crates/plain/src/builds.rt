@@ -57,7 +57,7 @@ const fn word_for(domain: Domain, tuple: Tuple, row: u64, col: u64) -> Option<u6
 }
 
 /// What earlier tuples of a position make, and one more, where they are there.
-fn joined(dup: Option<OpName>, made: Option<u64>, word: Option<u64>) -> Option<u64>
+pub fn joined(dup: Option<OpName>, made: Option<u64>, word: Option<u64>) -> Option<u64>
     requires { accumulator_offered dup ≡ true }
     ensures { result ≡ added (joined dup) made word }
 {

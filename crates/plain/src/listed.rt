@@ -1,0 +1,189 @@
+//! The entry lines of files: what each says, and what is wrong with them.
+ghost use Rattle.std.specs.Prelude.{◌≡◌, ◌≤◌, ◌++◌, ◌∷◌, [], IfOk, OnOk, if◌then◌else◌, length, nat_lt};
+ghost use Rattle.std.specs.List.{filter_map};
+ghost use Rattle.std.specs.Result.{result_err};
+ghost use Rattle.model.specs.Entries.{entry_at};
+ghost use Rattle.model.specs.MatrixMarket.{entries_said, entry_said, faults_of, is_position, value_said, with_mirror};
+ghost use Rattle.model.specs.MatrixMarket.{words_for};
+ghost use Rattle.plain.specs.Files.{lines_in, position_said, texts_in};
+
+use crate::numbers::{digits_of, value};
+use algebra::Domain;
+use model::{Entry, Field, Heading, MmFault, Symmetry};
+use std::alloc::{AllocError, Global};
+
+/// What is wrong with the announced lines, from the top, and then with their number.
+#[tactic(auto, unfolding(model::specs::MatrixMarket::faults_of))]
+pub fn faults_of(
+    alloc: Global,
+    domain: Domain,
+    heading: Heading,
+    lines: &[Vec<&[u8]>],
+) -> Result<Vec<MmFault>, AllocError>
+    ensures { IfOk result (λ faults. faults.items ≡ faults_of domain heading (lines_in lines.now)) }
+{
+    let announced = lines.len().min(heading.entries as usize);
+    let mut faults = faults_in(alloc, domain, heading, &lines[..announced])?;
+    push_fault_of_number(&mut faults, heading.entries, lines.len() as u64)?;
+    Ok(faults)
+}
+
+/// Appends what is wrong with the number of lines.
+fn push_fault_of_number(
+    faults: &mut Vec<MmFault>,
+    announced: u64,
+    found: u64,
+) -> Result<(), AllocError>
+    ensures { OnOk result (faults.new.items ≡ faults.old.items
+        ++ (if nat_lt announced found then MmFault.TooMany ∷ [] else [])
+        ++ (if nat_lt found announced then MmFault.TooFew ∷ [] else [])) }
+{
+    if announced < found {
+        faults.push(MmFault::TooMany)?;
+    }
+    if found < announced {
+        faults.push(MmFault::TooFew)?;
+    }
+    Ok(())
+}
+
+/// What is wrong with lines, from the top.
+fn faults_in(
+    alloc: Global,
+    domain: Domain,
+    heading: Heading,
+    lines: &[Vec<&[u8]>],
+) -> Result<Vec<MmFault>, AllocError>
+    ensures { IfOk result (λ faults. faults.items
+        ≡ filter_map (λ line. result_err (entry_said domain heading line)) (lines_in lines.now)) }
+{
+    let mut faults = Vec::new(alloc);
+    for line in lines {
+        if let Err(fault) = entry_said(domain, heading, line.as_slice()) {
+            faults.push(fault)?;
+        }
+    }
+    Ok(faults)
+}
+
+/// All entries that lines say, in their order.
+pub fn entries_said(
+    alloc: Global,
+    domain: Domain,
+    heading: Heading,
+    lines: &[Vec<&[u8]>],
+) -> Result<Vec<Entry>, AllocError>
+    ensures { IfOk result (λ entries. entries.items ≡ entries_said domain heading (lines_in lines.now)) }
+{
+    let mut entries = Vec::new(alloc);
+    for line in lines {
+        if let Ok(entry) = entry_said(domain, heading, line.as_slice()) {
+            push_with_mirror(&mut entries, heading.symmetry, entry)?;
+        }
+    }
+    Ok(entries)
+}
+
+/// The entry that the words of a line say, or what is wrong with the line.
+#[tactic(auto, unfolding(model::specs::MatrixMarket::entry_said))]
+fn entry_said(domain: Domain, heading: Heading, words: &[&[u8]]) -> Result<Entry, MmFault>
+    ensures { result ≡ entry_said domain heading (texts_in words.now) }
+{
+    if words.len() != words_for(heading.field) {
+        return Err(MmFault::Entry);
+    }
+    let (row, col) = position_said(heading, words[0], words[1])?;
+    let Some(value) = value_said(heading.field, words) else {
+        return Err(MmFault::Value);
+    };
+    Ok(Entry {
+        row,
+        col,
+        word: domain.wrapped(value),
+    })
+}
+
+/// The position that two words say, or what is wrong with them.
+#[tactic(auto, unfolding(crate::specs::Files::position_said))]
+fn position_said(heading: Heading, row: &[u8], col: &[u8]) -> Result<(u64, u64), MmFault>
+    ensures { result ≡ position_said heading row.now col.now }
+{
+    let Some(i) = digits_of(row) else {
+        return Err(MmFault::Entry);
+    };
+    let Some(j) = digits_of(col) else {
+        return Err(MmFault::Entry);
+    };
+    if !is_position(heading, i, j) {
+        return Err(MmFault::Index);
+    }
+    Ok(((i - 1) as u64, (j - 1) as u64))
+}
+
+/// How many words an entry line has.
+const fn words_for(field: Field) -> usize
+    ensures { result ≡ words_for field }
+{
+    match field {
+        Field::Pattern => 2,
+        Field::Integer => 3,
+    }
+}
+
+/// Whether an entry may stand in a row and a column, which are counted from 1.
+fn is_position(heading: Heading, i: u128, j: u128) -> bool
+    ensures { result ≡ is_position heading i j }
+{
+    1 <= i
+        && i <= u128::from(heading.rows)
+        && 1 <= j
+        && j <= u128::from(heading.cols)
+        && (!matches!(heading.symmetry, Symmetry::SkewSymmetric) || i != j)
+}
+
+/// The value that the words of a line say.
+fn value_said(field: Field, words: &[&[u8]]) -> Option<i128>
+    requires { words_for field ≤ length words.now }
+    ensures { result ≡ value_said field (texts_in words.now) }
+{
+    match field {
+        Field::Pattern => Some(1),
+        Field::Integer => value(words[2]),
+    }
+}
+
+/// Appends an entry, and the one that the file leaves out.
+fn push_with_mirror(
+    entries: &mut Vec<Entry>,
+    symmetry: Symmetry,
+    entry: Entry,
+) -> Result<(), AllocError>
+    ensures { OnOk result (entries.new.items ≡ entries.old.items ++ with_mirror symmetry entry) }
+{
+    entries.push(entry)?;
+    match symmetry {
+        Symmetry::General => Ok(()),
+        Symmetry::Symmetric => {
+            if entry.row != entry.col {
+                entries.push(mirrored(entry, entry.word))?;
+            }
+            Ok(())
+        }
+        Symmetry::SkewSymmetric => {
+            let value = Domain::Int64.value_of(entry.word);
+            entries.push(mirrored(entry, Domain::Int64.wrapped(-value)))?;
+            Ok(())
+        }
+    }
+}
+
+/// A word at the transposed position of an entry.
+const fn mirrored(entry: Entry, word: u64) -> Entry
+    ensures { result ≡ entry_at entry.col entry.row word }
+{
+    Entry {
+        row: entry.col,
+        col: entry.row,
+        word,
+    }
+}
