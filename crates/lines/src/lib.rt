@@ -16,4 +16,4 @@ pub use fault::LineFault;
 pub use line::{Line, Load};
 pub use loads::loaded_file;
 pub use parse::parse_line;
-pub use words::{is_blank, words_of};
+pub use words::is_blank;
