@@ -4,6 +4,8 @@
 #[cfg(test)]
 mod edge_words;
 #[cfg(test)]
+mod files;
+#[cfg(test)]
 mod generated;
 #[cfg(test)]
 mod loops;

@@ -1,14 +1,37 @@
 //! Runs of `script`, beside the plain evaluator.
 use model::Call;
-use plain::PlainEnvironment;
-use script::{Line, parse_line, run};
+use plain::{PlainAnswer, PlainEnvironment};
+use script::{Line, Sources, parse_line, run};
 use std::alloc::Global;
 use std::test::Fail;
 
-/// What a run leaves of an output that had a line.
+/// A source without files.
+#[derive(Clone, Copy)]
+struct NoFiles;
+
+impl Sources for NoFiles {
+    ghost use Rattle.std.specs.Prelude.{None};
+
+    ghost held = { λ _ _. None };
+
+    fn bytes(&self, _name: &[u8]) -> Option<&[u8]> {
+        None
+    }
+}
+
+/// What a run without files leaves of an output that had a line.
 pub(crate) fn answers(alloc: Global, script: &[u8]) -> Result<String, Fail> {
+    answers_with(alloc, script, &NoFiles)
+}
+
+/// What a run with files leaves of an output that had a line.
+pub(crate) fn answers_with<S: Sources>(
+    alloc: Global,
+    script: &[u8],
+    sources: &S,
+) -> Result<String, Fail> {
     let mut out = Vec::from_slice(alloc, b"before\n")?;
-    run(alloc, script, &mut out)?;
+    run(alloc, script, sources, &mut out)?;
     Ok(str::from_utf8(&out)?.to_string(alloc)?)
 }
 
@@ -47,8 +70,17 @@ fn tests_in_order(rt: HostRuntime) -> Result<(), Fail> {
     Ok(())
 }
 
-/// The answers that the slow plain evaluator gives, after what the output had.
+/// The answers that the slow plain evaluator gives without files, after what the output had.
 pub(crate) fn plain_answers(alloc: Global, script: &[u8]) -> Result<String, Fail> {
+    plain_answers_with(alloc, script, &NoFiles)
+}
+
+/// The same with files.
+pub(crate) fn plain_answers_with<S: Sources>(
+    alloc: Global,
+    script: &[u8],
+    sources: &S,
+) -> Result<String, Fail> {
     let mut environment = PlainEnvironment::new(alloc);
     let mut text = String::from_str(alloc, "before\n")?;
     for (index, line) in script.split(|b| *b == b'\n').enumerate() {
@@ -56,17 +88,28 @@ pub(crate) fn plain_answers(alloc: Global, script: &[u8]) -> Result<String, Fail
         match parse_line(alloc, line) {
             Ok(Line::Silent) => {}
             Ok(Line::Call(command)) => {
-                let answer = environment.step(alloc, number, &command)?;
-                text.push_str(format!(in alloc; "{number} {}\n", answer.status.name())?.as_str())?;
-                for data in &answer.data_lines {
-                    text.push_str(str::from_utf8(data)?)?;
-                    text.push_str("\n")?;
-                }
+                push_answer(alloc, &mut text, environment.step(alloc, number, &command)?)?;
+            }
+            Ok(Line::Load(load)) => {
+                let bytes = sources.bytes(load.file.as_bytes());
+                let answer = environment.load(alloc, number, load.name, load.domain, bytes)?;
+                push_answer(alloc, &mut text, answer)?;
             }
             Err(_) => text.push_str(format!(in alloc; "{number} SYNTAX\n")?.as_str())?,
         }
     }
     Ok(text)
+}
+
+/// Appends the text of an answer.
+fn push_answer(alloc: Global, text: &mut String, answer: PlainAnswer) -> Result<(), Fail> {
+    let status = answer.status.name();
+    text.push_str(format!(in alloc; "{} {status}\n", answer.number)?.as_str())?;
+    for data in &answer.data_lines {
+        text.push_str(str::from_utf8(data)?)?;
+        text.push_str("\n")?;
+    }
+    Ok(())
 }
 
 #[test]
