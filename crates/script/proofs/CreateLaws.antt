@@ -1,13 +1,7 @@
 -- Objects that are made under a name, or not for want of memory.
-use Rattle.std.proofs.Common.{◌≡◌, ◌∙◌, ℕ, ◌<◌, ◌^◌, ◌+◌, ◌-◌, ◌==◌, Bool, true, false, cond, List, Option, Some, None, is_some, Result, Ok, Err, MatchResult, refl, sym, ap, arith, inl, inr}
+use Rattle.std.proofs.Common.{◌≡◌, ◌∙◌, ℕ, ◌<◌, ◌^◌, ◌+◌, ◌-◌, ◌==◌, Bool, true, false, cond, Option, Some, None, is_some, Result, Ok, Err, refl, sym, ap, arith, inl, inr}
 use Rattle.std.specs.Prelude.{OnErr, OnOk}
-use Rattle.std.specs.BTreeMap.{BTreeMap, IsUnchanged, get_by_text, is_at}
-use Rattle.std.specs.Cmp.Lexicographic.{slice_cmp}
-use Rattle.std.specs.Map.{lookup}
 use Rattle.std.specs.Option.{option_and_then}
-use Rattle.std.specs.Ordering.{nat_cmp}
-use Rattle.std.specs.Prelude.{String}
-use Rattle.std.specs.String.{string_bytes}
 use Rattle.std.specs.Str.{bytes_eq}
 use Rattle.std.proofs.lemmas.Bool.{cases_Bool, eqb-true, true≢false}
 use Rattle.std.proofs.lemmas.Slice.Eq.{bytes_eq-Decides}
@@ -15,7 +9,6 @@ use Rattle.algebra.specs.declared.domain.Domain.{Domain}
 use Rattle.calls.specs.declared.obj.Obj.{Obj}
 use Rattle.model.specs.declared.call.Call.TheVariants.{Create, Dup}
 use Rattle.model.specs.declared.shape.Shape.{Shape}
-use Rattle.model.specs.declared.status.Status.{Status}
 use Rattle.model.specs.declared.status.Status.TheVariants as status
 use Rattle.model.specs.Fault.{early_fault, fault_of, found_object}
 use Rattle.model.specs.Grammar.{Name}
@@ -156,20 +149,28 @@ gone_again senv made freed o object unused is left =
     ])
     (omega arith)
 
--- a table whose entries stayed
-pub get_by_text-unchanged : {X Y : Type 0} (old new : BTreeMap (String Y) X) (name : Name) → IsUnchanged old new → get_by_text new name ≡ get_by_text old name
-get_by_text-unchanged {X = X} {Y = Y} old new name same = ap (λ (es : List (String Y × X)). lookup (is_at (λ k. slice_cmp nat_cmp name (string_bytes k))) es) same
+-- ---- a name for what was made, or what was made gone again
 
--- ..whatever freeing it said, since it was there
-pub freed_again : {T : Type 0} (result : Result T Status) (senv made freed : Environment Obj) (o : Obj) (object : Object) → senv.find_object o ≡ None
-    → made ≡ with_object same_object senv o object (senv.count + 1)
-    → MatchResult result (λ x. is_some (made.find_object o) ≡ true) (λ s. (s ≡ status.UninitializedObject) × (made.find_object o ≡ None))
-    → OnOk result (freed ≡ without_object same_object made o) → OnErr result (freed ≡ made) → freed ≡ senv
-freed_again (Ok x) senv made freed o object unused is there left kept = gone_again senv made freed o object unused is left
-freed_again (Err s) senv made freed o object unused is there left kept =
-    let here : (with_object same_object senv o object (senv.count + 1)).find_object o ≡ Some object = rw (own_number o.0) refl in
-    let found : made.find_object o ≡ Some object = ap (λ (env : Environment Obj). env.find_object o) is ∙ here in
-    absurd (let e : None ≡ Some object = sym there.1 ∙ found in cc)
+-- what was made is there
+pub new_there : (senv made : Environment Obj) (o : Obj) (object : Object) → made ≡ with_object same_object senv o object (senv.count + 1) → is_some (made.find_object o) ≡ true
+new_there senv made o object is = ap (λ (env : Environment Obj). is_some (env.find_object o)) is ∙ rw (own_number o.0) refl
+
+-- names stay apart, and each stands for an object that is there
+pub names_after : {T E : Type 0} (r : Result T E) (number new : Name → Option Obj) (senv : Environment Obj) (before after : Session) (key : Name) (o : Obj) (object : Object)
+    → environment_of before ≡ with_object same_object senv o object (senv.count + 1) → senv.find_object o ≡ None → AreDistinct number
+    → ((n : Name) (q : Obj) → number n ≡ Some q → is_some (senv.find_object q) ≡ true)
+    → OnOk r ((n : Name) → new n ≡ cond (bytes_eq key n) (Some o) (number n)) → OnOk r (after ≡ before)
+    → OnErr r ((n : Name) → new n ≡ number n) → OnErr r (environment_of after ≡ without_object same_object (environment_of before) o)
+    → AreDistinct new × ((n : Name) (q : Obj) → new n ≡ Some q → is_some ((environment_of after).find_object q) ≡ true)
+names_after (Ok x) number new senv before after key o object is unused distinct there adds same kept gone = (
+  created-distinct number new senv key o adds there unused distinct,
+  λ n q stands. ap (λ (session : Session). is_some ((environment_of session).find_object q)) same ∙ created-there number new senv (environment_of before) key o object adds there is n q stands,
+)
+names_after (Err e) number new senv before after key o object is unused distinct there adds same kept gone =
+    let freed : environment_of after ≡ senv = gone_again senv (environment_of before) (environment_of after) o object unused is gone in (
+      λ a b q is_a is_b. distinct a b q (sym (kept a) ∙ is_a) (sym (kept b) ∙ is_b),
+      λ n q stands. ap (λ (env : Environment Obj). is_some (env.find_object q)) freed ∙ there n q (sym (kept n) ∙ stands),
+    )
 
 -- ---- what is made
 

@@ -7,7 +7,7 @@ ghost use Rattle.model.specs.MatrixMarket.{matrix_in};
 ghost use Rattle.model.specs.Run.{loaded};
 ghost use Rattle.session.specs.Performed.{Ends, made_in};
 
-use crate::names::Names;
+use crate::names::{Names, put};
 use crate::sources::Sources;
 use algebra::Domain;
 use lines::Load;
@@ -38,11 +38,7 @@ impl Names {
         let (rows, cols, entries) = matrix_of(self.alloc, bytes, load.domain)?;
         let name = String::from_str(self.alloc, load.name)?;
         let object = self.session.load(load.domain, rows, cols, entries)?;
-        if let Err(_) = self.numbers.insert(name, object) {
-            // Without room for its name the object goes again.
-            let _ = self.session.free(object);
-            return Err(Status::OutOfMemory);
-        }
+        put(&mut self.numbers, &mut self.session, name, object)?;
         Ok(())
     }
 }

@@ -1,15 +1,17 @@
 //! The objects of a run by their names.
-ghost use Rattle.std.specs.Prelude.{◌≡◌, ◌<◌, ◌≤◌, ◌+◌, ◌-◌, ◌^◌, ◌++◌, ℕ, List, OnErr, OnOk, Some, false, is_some};
+ghost use Rattle.std.specs.Prelude.{◌≡◌, ◌<◌, ◌≤◌, ◌+◌, ◌-◌, ◌^◌, ◌++◌, ℕ, List, IfErr, OnErr, OnOk, Some, false, if◌then◌else◌, is_some};
 ghost use Rattle.std.specs.Prelude.{true};
 ghost use Rattle.std.specs.List.{flat_map};
 ghost use Rattle.std.specs.BTreeMap.{get_by_text};
 ghost use Rattle.std.specs.Str.{bytes_eq};
+ghost use Rattle.std.specs.String.{string_bytes};
 ghost use Rattle.calls.specs.declared.obj.Obj.{Obj as Object};
 ghost use Rattle.model.specs.Fault.{fault_of};
 ghost use Rattle.model.specs.Renamed.{renamed};
-ghost use Rattle.model.specs.Run.{data_lines_of, effect, no_objects, on_objects, seen};
+ghost use Rattle.model.specs.Run.{data_lines_of, effect, no_objects, on_objects, seen, without_object};
 ghost use Rattle.model.specs.Text.{ended};
 ghost use Rattle.session.specs.Performed.{Ends, environment_of, made_in};
+ghost use Rattle.session.specs.Tables.{same_object};
 
 use crate::replies::write_reply;
 use algebra::Domain;
@@ -105,11 +107,7 @@ impl Names {
         }
         let name = String::from_str(self.alloc, name)?;
         let object = self.session.create(domain, shape)?;
-        if let Err(_) = self.numbers.insert(name, object) {
-            // Without room for its name the object goes again.
-            let _ = self.session.free(object);
-            return Err(Status::OutOfMemory);
-        }
+        put(&mut self.numbers, &mut self.session, name, object)?;
         Ok(())
     }
 
@@ -131,11 +129,7 @@ impl Names {
         };
         let name = String::from_str(self.alloc, name)?;
         let made = self.session.dup(object)?;
-        if let Err(_) = self.numbers.insert(name, made) {
-            // Without room for its name the object goes again.
-            let _ = self.session.free(made);
-            return Err(Status::OutOfMemory);
-        }
+        put(&mut self.numbers, &mut self.session, name, made)?;
         Ok(())
     }
 
@@ -153,4 +147,28 @@ impl Names {
         };
         self.session.free(object)
     }
+}
+
+/// Has a name stand for an object that a session just made. Without room for the name the object goes again.
+pub(crate) fn put(
+    numbers: &mut BTreeMap<String, Obj>,
+    session: &mut Session,
+    name: String,
+    object: Obj,
+) -> Result<(), Status>
+    requires { is_some ((environment_of session.old).find_object object) ≡ true }
+    ensures named { OnOk result ((n : List ℕ) → get_by_text numbers.new n
+        ≡ (if bytes_eq (string_bytes name) n then Some object else get_by_text numbers.old n)) }
+    ensures made { OnOk result (session.new ≡ session.old) }
+    ensures kept { OnErr result ((n : List ℕ) → get_by_text numbers.new n ≡ get_by_text numbers.old n) }
+    ensures gone { OnErr result (environment_of session.new
+        ≡ without_object same_object (environment_of session.old) object) }
+    ensures count { made_in session.new ≡ made_in session.old }
+    ensures err { IfErr result (λ status. status ≡ Status.OutOfMemory) }
+{
+    if let Err(_) = numbers.insert(name, object) {
+        let _ = session.free(object);
+        return Err(Status::OutOfMemory);
+    }
+    Ok(())
 }

@@ -3,15 +3,16 @@ use Rattle.std.proofs.Common.{◌≡◌, ◌∙◌, ℕ, cond, false, List, None
 use Rattle.std.specs.BTreeMap.{get_by_text}
 use Rattle.std.specs.Str.{bytes_eq}
 use Rattle.std.specs.String.{string_bytes}
-use Rattle.std.proofs.lemmas.Map.Text.{btree_map_updates_text}
 use Rattle.calls.specs.declared.obj.Obj.{Obj}
 use Rattle.model.specs.Loads.{file_in}
 use Rattle.model.specs.MatrixMarket.{Matrix, object_read}
 use Rattle.model.specs.Run.{Environment}
 use Rattle.model.proofs.MarketLaws.{matrix_in-inside, matrix_in-words}
 use Rattle.script.specs.Named.{number_in, through}
-use Rattle.script.proofs.CreateLaws.{created-distinct, created-there, freed_again, get_by_text-unchanged}
+use Rattle.script.proofs.CreateLaws.{gone_again, names_after, new_there}
+use Rattle.script.proofs.TextLaws.{on_err}
 use Rattle.script.proofs.LoadLaws.{ends_by, load-bad, load-missing, load-read, load-taken, loaded-effect}
+use Rattle.session.specs.declared.sessions.Session.{Session}
 use Rattle.session.specs.Performed.{environment_of, next_object}
 use Rattle.script.proofs.names.Names.load.Goals as goal
 
@@ -68,22 +69,6 @@ returns-in_err-object-clause-status g c =
       | inr fault ↦ inr (same ∙ fault)
     ])
 
-pub invariant_of-self-in_default-insert : goal.invariant_of-self-in_default-insert
-invariant_of-self-in_default-insert g c =
-    let names = c.args.self.now in
-    let m : Matrix = record { rows = c.in_ok-rows.rows; cols = c.in_ok-rows.cols; entries = c.in_ok-rows.entries.items } in
-    let senv = environment_of names.session in
-    let next = next_object names.session in
-    let named : string_bytes c.in_ok-name.name ≡ c.args.load.name.now = search rules in
-    let updates = btree_map_updates_text (string_bytes c.in_ok-name.name) names.numbers c.insert.new.self _ c.in_default-insert.ensures.updates in
-    let adds : (q : List ℕ) → get_by_text c.insert.new.self q ≡ cond (bytes_eq c.args.load.name.now q) (Some next) (get_by_text names.numbers q) =
-    λ q. rw (named, c.in_ok-object.ensures.object) at (updates q) in
-    record {
-      distinct = created-distinct (number_in names) (λ name. get_by_text c.insert.new.self name) senv c.args.load.name.now next adds names.there c.in_ok-object.ensures.unused names.distinct;
-      there = created-there (number_in names) (λ name. get_by_text c.insert.new.self name) senv (environment_of c.load.new.self) c.args.load.name.now next (object_read c.args.load.domain m) adds names.there
-          c.in_ok-object.ensures.put;
-    }
-
 pub returns-clause-status : goal.returns-clause-status
 returns-clause-status g c =
     let names = c.args.self.now in
@@ -99,31 +84,31 @@ returns-clause-effect g c =
     let senv = environment_of names.session in
     let next = next_object names.session in
     let named : string_bytes c.in_ok-name.name ≡ c.args.load.name.now = search rules in
-    let updates = btree_map_updates_text (string_bytes c.in_ok-name.name) names.numbers c.insert.new.self _ c.in_default-insert.ensures.updates in
-    let adds : (q : List ℕ) → get_by_text c.insert.new.self q ≡ cond (bytes_eq c.args.load.name.now q) (Some next) (get_by_text names.numbers q) =
-    λ q. rw (named, c.in_ok-object.ensures.object) at (updates q) in
+    let adds : (q : List ℕ) → get_by_text c.put.new.numbers q ≡ cond (bytes_eq c.args.load.name.now q) (Some next) (get_by_text names.numbers q) =
+    λ q. rw (named, c.in_ok-object.ensures.object) at (c.in_ok-put.ensures.named q) in
     let held : g.S.Sources.held c.args.sources.now c.args.load.file.now ≡ Some c.in-Some.bytes.now = search rules in
-    loaded-effect (number_in names) (λ name. get_by_text c.insert.new.self name) senv (environment_of c.load.new.self) c.args.load.name.now next c.args.load.domain _ c.in-Some.bytes.now m adds names.there
+    ap (λ (session : Session). through (λ name. get_by_text c.put.new.numbers name) (environment_of session)) c.in_ok-put.ensures.made
+    ∙ loaded-effect (number_in names) (λ name. get_by_text c.put.new.numbers name) senv (environment_of c.load.new.self) c.args.load.name.now next c.args.load.domain _ c.in-Some.bytes.now m adds names.there
     c.in_ok-object.ensures.unused held c.in_ok-rows.ensures.ok c.in_ok-object.ensures.put
 
-pub invariant_of-self-in-Err : goal.invariant_of-self-in-Err
-invariant_of-self-in-Err g c =
-    let names = c.args.self.now in
+pub put-requires : goal.put-requires
+put-requires g c =
     let m : Matrix = record { rows = c.in_ok-rows.rows; cols = c.in_ok-rows.cols; entries = c.in_ok-rows.entries.items } in
-    let same : (q : List ℕ) → get_by_text c.insert.new.self q ≡ get_by_text names.numbers q = λ q. get_by_text-unchanged names.numbers c.insert.new.self q c.in-Err.ensures.err in
-    let freed : environment_of c.free.new.self ≡ environment_of names.session =
-    freed_again c.free.result (environment_of names.session) (environment_of c.load.new.self) (environment_of c.free.new.self) (next_object names.session) (object_read c.args.load.domain m)
-    c.in_ok-object.ensures.unused c.in_ok-object.ensures.put (rw c.in_ok-object.ensures.object at c.free.ensures.there) (rw c.in_ok-object.ensures.object at c.free.ensures.left) c.free.ensures.kept in
-    record {
-      distinct = λ a b object is_a is_b. names.distinct a b object (sym (same a) ∙ is_a) (sym (same b) ∙ is_b);
-      there = λ name object is. ap (λ (env : Environment Obj). is_some (env.find_object object)) freed ∙ names.there name object (sym (same name) ∙ is);
-    }
+    rw c.in_ok-object.ensures.object (new_there (environment_of c.args.self.now.session) (environment_of c.load.new.self) (next_object c.args.self.now.session) (object_read c.args.load.domain m) c.in_ok-object.ensures.put)
 
-pub returns-in-Err-clause-kept : goal.returns-in-Err-clause-kept
-returns-in-Err-clause-kept g c =
+pub invariant_of-self-2 : goal.invariant_of-self-2
+invariant_of-self-2 g c =
     let names = c.args.self.now in
     let m : Matrix = record { rows = c.in_ok-rows.rows; cols = c.in_ok-rows.cols; entries = c.in_ok-rows.entries.items } in
-    let freed : environment_of c.free.new.self ≡ environment_of names.session =
-    freed_again c.free.result (environment_of names.session) (environment_of c.load.new.self) (environment_of c.free.new.self) (next_object names.session) (object_read c.args.load.domain m)
-    c.in_ok-object.ensures.unused c.in_ok-object.ensures.put (rw c.in_ok-object.ensures.object at c.free.ensures.there) (rw c.in_ok-object.ensures.object at c.free.ensures.left) c.free.ensures.kept in
-    λ t. through (λ name. get_by_text-unchanged names.numbers c.insert.new.self name c.in-Err.ensures.err t) (freed t)
+    let after = names_after c.put.result (number_in names) (λ name. get_by_text c.put.new.numbers name) (environment_of names.session) c.load.new.self c.put.new.session (string_bytes c.in_ok-name.name) (next_object names.session) (object_read c.args.load.domain m)
+    c.in_ok-object.ensures.put c.in_ok-object.ensures.unused names.distinct names.there (rw c.in_ok-object.ensures.object at c.put.ensures.named) c.put.ensures.made c.put.ensures.kept (rw c.in_ok-object.ensures.object at c.put.ensures.gone) in
+    record { distinct = after.0; there = after.1 }
+
+pub returns-in_err-put-clause-kept : goal.returns-in_err-put-clause-kept
+returns-in_err-put-clause-kept g c =
+    let names = c.args.self.now in
+    let m : Matrix = record { rows = c.in_ok-rows.rows; cols = c.in_ok-rows.cols; entries = c.in_ok-rows.entries.items } in
+    let freed : environment_of c.put.new.session ≡ environment_of names.session =
+    gone_again (environment_of names.session) (environment_of c.load.new.self) (environment_of c.put.new.session) (next_object names.session) (object_read c.args.load.domain m)
+    c.in_ok-object.ensures.unused c.in_ok-object.ensures.put (rw c.in_ok-object.ensures.object at c.in_err-put.ensures.gone) in
+    on_err c.from_residual-in_err-put.result (λ t. through (λ name. c.in_err-put.ensures.kept name t) (freed t))
