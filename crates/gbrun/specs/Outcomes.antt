@@ -92,8 +92,8 @@ TextEnds old new (Ok _) = Grows old new
 TextEnds old new (Err UnwritableOutput) = Grows old new
 TextEnds old new (Err _) = ⊥
 
--- How the program ends on words, where this is known of files and of the script. Words that are wrong, or memory that runs out
--- before the run, leave output as it was.
+-- How the program ends on words, where this is known of files and of the script. Words that are wrong, or memory that
+-- runs out before the run, leave output as it was.
 abbrev pub Ends : List Text → Given → Option (List ℕ) → Option (List ℕ) → Result (Unit {0}) Fault → Type 0
 Ends words given old new (Err (CommandLine _)) = AsksNothing words × Keeps old new
 Ends words given old new (Err BadOrder) = AsksBadOrder words × Keeps old new

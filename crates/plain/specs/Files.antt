@@ -1,5 +1,6 @@
 -- What the plain reader's lines, numbers and matrices stand for.
-use Rattle.std.specs.Prelude.{ℕ, ◌^◌, ◌-◌, ◌&&◌, Bool, not, if◌then◌else◌, List, [], ◌∷◌, codes, map, min, Result, Ok, Err, Vec}
+use Rattle.std.specs.Prelude.{ℕ, ◌^◌, ◌-◌, ◌&&◌, Bool, not, if◌then◌else◌, List, [], ◌∷◌, codes}
+use Rattle.std.specs.Prelude.{map, min, Result, Ok, Err, Vec}
 use Rattle.std.specs.Borrow.{Bor}
 use Rattle.std.specs.List.{list_any}
 use Rattle.model.specs.declared.market.Heading.{Heading}

@@ -25,7 +25,8 @@ impl Names {
             (is_some ((environment_in self.old).find_object load.entry.name.now))
             (file_in (S.held sources.now) load.entry.domain load.entry.file.now)) result }
         ensures effect { OnOk result (environment_in self.new ≡ loaded bytes_eq (environment_in self.old)
-            load.entry.name.now load.entry.domain (file_in (S.held sources.now) load.entry.domain load.entry.file.now)) }
+            load.entry.name.now load.entry.domain
+            (file_in (S.held sources.now) load.entry.domain load.entry.file.now)) }
         ensures kept { OnErr result (environment_in self.new ≡ environment_in self.old) }
         ensures made { made_in self.new.session ≤ made_in self.old.session + 1 }
     {

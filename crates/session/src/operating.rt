@@ -17,7 +17,8 @@ use model::{NoMemory, Status};
 use store::Store;
 
 impl Session {
-    ghost use Rattle.session.specs.Performed.{Ends, IsPerformed, IsSettledIn, count_in, environment_of, known_in, made_in};
+    ghost use Rattle.session.specs.Performed.{Ends, IsPerformed, IsSettledIn, count_in, environment_of};
+    ghost use Rattle.session.specs.Performed.{known_in, made_in};
 
     /// Multiplies two matrices over a semiring into a third (`GrB_mxm`).
     pub fn mxm(&mut self, out: &Out<Obj>, ring: RingName, a: Obj, b: Obj) -> Result<(), Status>

@@ -118,7 +118,8 @@ impl Session {
         requires built_in { is_built_in domain ≡ true }
         requires inside { IsInside rows cols entries.items }
         requires words { All (λ e. IsWordOf domain e.word) entries.items }
-        ensures status { Ends (fault_in self.old (Call.Create (next_object self.old) domain (Shape.Two rows cols))) result }
+        ensures status { Ends (fault_in self.old
+            (Call.Create (next_object self.old) domain (Shape.Two rows cols))) result }
         ensures put { OnOk result (environment_of self.new ≡ with_object same_object (environment_of self.old)
             (next_object self.old) (object_read domain (record { rows = rows; cols = cols; entries = entries.items }))
             ((environment_of self.old).count + 1)) }
