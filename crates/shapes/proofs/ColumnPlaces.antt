@@ -23,7 +23,8 @@ use Rattle.shapes.proofs.Gathering.{AreOf, and_both, order_of}
 use Rattle.shapes.proofs.Going.{StaysEmpty}
 use Rattle.shapes.proofs.PlaceLaws.{behind_none}
 use Rattle.shapes.proofs.RowWords.{same_words}
-use Rattle.shapes.proofs.Walked.{columns_rise, walk_end, walk_step, word_at-row_entries}
+use Rattle.shapes.proofs.Walked.{walk_end, walk_step}
+use Rattle.store.proofs.RowWords.{columns_rise, word_at-row_entries}
 
 -- ---- words of entries one behind the other
 

@@ -21,7 +21,7 @@ use Rattle.store.proofs.Places.{length_row, row_at}
 use Rattle.store.proofs.Positions.{word_at-here, word_at-none, word_at-skip}
 use Rattle.store.proofs.Walks.{cols_rise}
 use Rattle.store.specs.Stored.{AreIn}
-use Rattle.shapes.proofs.Walked.{no_column}
+use Rattle.store.proofs.RowWords.{no_column}
 use Rattle.shapes.specs.Lists.{has_index}
 use Rattle.shapes.specs.declared.putting.Named.{Named}
 use Rattle.shapes.specs.Named.{IsNamed}

@@ -20,41 +20,10 @@ use Rattle.store.proofs.Walks.{cols_rise}
 use Rattle.store.proofs.PartLaws.{none_there, word_before, word_behind}
 use Rattle.store.proofs.Places.{length_row, row_at}
 use Rattle.store.proofs.Positions.{word_at-here, word_at-skip}
-use Rattle.store.proofs.RowEntries.{entries_between-inside, entries_between-row, row_entries-column, row_entries-inside}
+use Rattle.store.proofs.RowEntries.{entries_between-inside, entries_between-row, row_entries-inside}
+use Rattle.store.proofs.RowWords.{columns_rise, no_column, word_at-row_entries}
 
 -- ---- words of rows
-
-pub no_column : (a b : Bool) → b ≡ false → (a && b) ≡ false
-no_column true b h = h
-no_column false b h = refl
-
-eqb_no : (a b : ℕ) → eqb a b ≡ false → a ≢ b
-eqb_no a b other same = absurd (false≢true (sym other ∙ eq-eqb a b same))
-
-one_there : (i j : ℕ) (e : Entry) (rest : List Entry) (o : Option ℕ) → e ∷ rest ≡ option_to_list (option_map (entry_at i j) o) → o ≡ Some e.word
-one_there i j e rest None is = absurd (let no = ap length is in omega (arith, no))
-one_there i j e rest (Some w) is = sym (ap (λ (es : List Entry). Some (get_or es 0 (entry_at 0 0 0)).word) is)
-
--- of entries of one row, the word at a column is that of the entry there
-word_in_column : (i j : ℕ) (es : List Entry) (o : Option ℕ) → All (λ e. e.row ≡ i) es → filter (λ e. eqb e.col j) es ≡ option_to_list (option_map (entry_at i j) o) → word_at es i j ≡ o
-unfolding word_at
-word_in_column i j [] None row is = refl
-word_in_column i j [] (Some w) row is = absurd (let no = ap length is in omega (arith, no))
-word_in_column i j (e ∷ es) o row is = elim (cases_Bool (eqb e.col j)) [
-  | inl at ↦
-      let here : (eqb i e.row && eqb j e.col) ≡ true = rw (eq-eqb i e.row (sym (All-head (λ e. e.row ≡ i) e es row)), eq-eqb j e.col (sym (eqb-true e.col j at))) refl in
-      word_at-here i j e es here ∙ sym (one_there i j e (filter (λ e. eqb e.col j) es) o (rw at at is))
-  | inr away ↦
-      let other : (eqb i e.row && eqb j e.col) ≡ false = no_column (eqb i e.row) (eqb j e.col) (ne_eqb j e.col (λ same. absurd (eqb_no e.col j away (sym same)))) in
-      word_at-skip i j e es other ∙ word_in_column i j es o (All-tail (λ e. e.row ≡ i) e es row) (rw away at is)
-]
-
--- the words of a map's row are those of its entries
-pub word_at-row_entries : (cols : ℕ) (c : Content) (i j : ℕ) → word_at (row_entries cols c i) i j ≡ cond (ltb j cols) (c i j) None
-word_at-row_entries cols c i j =
-    word_in_column i j (row_entries cols c i) (cond (ltb j cols) (c i j) None)
-    (All-weaker (λ (e : Entry). (e.row ≡ i) × (e.col < cols)) (λ (e : Entry). e.row ≡ i) (λ e p. p.0) (row_entries cols c i) (row_entries-inside cols c i))
-    (row_entries-column cols c i j)
 
 -- a map has nothing in columns behind its shape
 pub only_inside : (rows cols : ℕ) (c : Content) (i j : ℕ) → IsWithin rows cols c → cond (ltb j cols) (c i j) None ≡ c i j
@@ -131,30 +100,6 @@ unfolding word_at
 walk_end c next past cols rest here none i j low high = sym (here.words i j low high) ∙ ap (λ es. word_at es i j) none
 
 -- ---- one row
-
--- the entries of a row in some columns, of which none is below the first
-columns_from : (c : Content) (i n first : ℕ) → All (λ e. (e.row ≡ i) × (first ≤ e.col)) (filter_map (λ k. option_map (entry_at i k) (c i k)) (count_from first n))
-unfolding count_from
-columns_from c i zero first = All-nil (λ (e : Entry). (e.row ≡ i) × (first ≤ e.col))
-columns_from c i (suc n) first =
-    let P : Entry → Type 0 = λ e. (e.row ≡ i) × (first ≤ e.col) in
-    let rest = filter_map (λ k. option_map (entry_at i k) (c i k)) (count_from (first + 1) n) in
-    let later : All P rest = All-weaker (λ (e : Entry). (e.row ≡ i) × (first + 1 ≤ e.col)) P (λ e p. let low = p.1 in (p.0, omega arith)) rest (columns_from c i n (first + 1)) in
-    elim (c i first) as (λ o. All P (cons_option (option_map (entry_at i first) o) rest)) [
-      | None ↦ later
-      | Some w ↦ All-cons P (entry_at i first w) rest (refl, omega arith) later
-    ]
-
-pub columns_rise : (c : Content) (i n first : ℕ) → InOrder (filter_map (λ k. option_map (entry_at i k) (c i k)) (count_from first n))
-unfolding count_from
-columns_rise c i zero first = all_pairs_nil Precedes
-columns_rise c i (suc n) first =
-    let rest = filter_map (λ k. option_map (entry_at i k) (c i k)) (count_from (first + 1) n) in
-    let later = columns_rise c i n (first + 1) in
-    elim (c i first) as (λ o. InOrder (cons_option (option_map (entry_at i first) o) rest)) [
-      | None ↦ later
-      | Some w ↦ all_pairs_cons Precedes (entry_at i first w) rest (All-weaker (λ (e : Entry). (e.row ≡ i) × (first + 1 ≤ e.col)) (Precedes (entry_at i first w)) (λ e p. let low = p.1 in inr (sym p.0, omega arith)) rest (columns_from c i n (first + 1))) later
-    ]
 
 -- the columns and words of a map's row
 pub row_is : (rows cols : ℕ) (c : Content) (i : ℕ) (cs ws : List ℕ) → IsWithin rows cols c → length ws ≡ length cs → entries_along i cs ws ≡ row_entries cols c i → IsRowOf c i cols cs ws

@@ -19,8 +19,12 @@ pub(crate) struct Spot {
     pub(crate) end: usize,
 }
 
-/// The places of the fiber at `outer`; by a binary search.
-pub(crate) fn fiber_at(ends: &[FiberEnd], outer: u64) -> Spot
+/// A hint for whoever has none: it stands for no fiber.
+pub(crate) const NO_HINT: usize = 0;
+
+/// The places of the fiber at `outer`; by a binary search, where the hint isn't the number of fibers before it.
+#[inline(always)]
+pub(crate) fn fiber_near(ends: &[FiberEnd], outer: u64, hint: usize) -> Spot
     requires rises { Rises 0 ends.now }
     requires apart { AreApart ends.now }
     ensures fiber { result.fiber ≤ length ends.now }
@@ -32,7 +36,7 @@ pub(crate) fn fiber_at(ends: &[FiberEnd], outer: u64) -> Spot
         ≡ end_at outer result.end ∷ drop (result.fiber + 1) ends.now }
     ensures absent { result.end ≤ result.start → All (λ r. outer < r.outer) (drop result.fiber ends.now) }
 {
-    let fiber = first_from(ends, outer);
+    let fiber = first_near(ends, outer, hint);
     let start = end_of(ends, fiber);
     if fiber < ends.len() && ends[fiber].outer == outer {
         let end = ends[fiber].end;
@@ -43,6 +47,20 @@ pub(crate) fn fiber_at(ends: &[FiberEnd], outer: u64) -> Spot
         start,
         end: start,
     }
+}
+
+/// How many fibers are before an outer index. Where that is the hint it takes no search.
+#[inline(always)]
+fn first_near(ends: &[FiberEnd], outer: u64, hint: usize) -> usize
+    requires { AreApart ends.now }
+    ensures bound { result ≤ length ends.now }
+    ensures before { All (λ r. r.outer < outer) (take result ends.now) }
+    ensures behind { All (λ r. outer ≤ r.outer) (drop result ends.now) }
+{
+    if hint > 0 && hint < ends.len() && ends[hint - 1].outer < outer && outer <= ends[hint].outer {
+        return hint;
+    }
+    first_from(ends, outer)
 }
 
 /// How many fibers are before an outer index; by a binary search among as many fibers as outer indices
@@ -145,27 +163,30 @@ pub(crate) fn place(
         (word_at (entries_from 0 ends.now inner.now words.now) outer index ≡ None)
         (λ at. word_at (entries_from 0 ends.now inner.now words.now) outer index ≡ Some (slice_index words.now at)) }
 {
-    let Spot { start, end, .. } = fiber_at(ends, outer);
+    let Spot { start, end, .. } = fiber_near(ends, outer, NO_HINT);
     match seek(inner, start, end, index) {
         Ok(at) => Some(at),
         Err(_) => None,
     }
 }
 
-/// The fiber at an outer index: its inner indices and its words.
+/// The fiber at an outer index: its inner indices, its words, and how many fibers are before it. The hint is a
+/// guess at that number.
+#[inline(always)]
 pub(crate) fn fiber<'a>(
     ends: &[FiberEnd],
     inner: &'a [u64],
     words: &'a [u64],
     outer: u64,
-) -> (&'a [u64], &'a [u64])
+    hint: usize,
+) -> (&'a [u64], &'a [u64], usize)
     requires { AreFlat ends.now inner.now words.now }
     ensures lengths { length result.1.now ≡ length result.0.now }
     ensures entries { entries_along outer result.0.now result.1.now
         ≡ entries_in_row outer (entries_from 0 ends.now inner.now words.now) }
 {
-    let Spot { start, end, .. } = fiber_at(ends, outer);
-    (part(inner, start, end), part(words, start, end))
+    let Spot { fiber, start, end } = fiber_near(ends, outer, hint);
+    (part(inner, start, end), part(words, start, end), fiber)
 }
 
 /// A row of a column that is one fiber: a zero and its word, or nothing.

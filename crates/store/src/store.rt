@@ -5,7 +5,7 @@ ghost use Rattle.model.specs.Object.{with_entry, without_entry, IsWithin};
 ghost use Rattle.model.specs.Reductions.{all_words};
 
 use crate::edits::{put, take_out};
-use crate::finding::{fiber, find, row_of_column};
+use crate::finding::{NO_HINT, fiber, find, row_of_column};
 use crate::ranges::{column_between, fibers_between, outer_past, row_past};
 use crate::{FiberLists, Fibers, RowBlock, Rows};
 use model::NoMemory;
@@ -132,11 +132,30 @@ impl Store {
         ensures entries { entries_along i result.0.now result.1.now
             ≡ row_entries self.now.cols (content_of self.now) i }
     {
+        let (cols, words, _) = self.row_near(i, NO_HINT);
+        (cols, words)
+    }
+
+    /// The columns and the words of row `i` as `row` gives them, and a hint for a row behind it. Whoever goes
+    /// along rising rows hands on the hint that the row before gave, at first 0: a row takes no search where no
+    /// row between the two has entries. Any hint serves.
+    #[inline(always)]
+    pub fn row_near(&self, i: u64, hint: usize) -> (&[u64], &[u64], usize)
+        ensures lengths { length result.1.now ≡ length result.0.now }
+        ensures entries { entries_along i result.0.now result.1.now
+            ≡ row_entries self.now.cols (content_of self.now) i }
+    {
         let FiberLists { ends, inner, words } = &self.lists;
         if self.cols == 1 {
-            row_of_column(ends, inner, words, i)
+            let (cols, words) = row_of_column(ends, inner, words, i);
+            (cols, words, hint)
         } else {
-            fiber(ends, inner, words, i)
+            let (cols, words, fiber) = fiber(ends, inner, words, i, hint);
+            (
+                cols,
+                words,
+                fiber.saturating_add(usize::from(!cols.is_empty())),
+            )
         }
     }
 

@@ -4,7 +4,7 @@ use Rattle.model.specs.Regions.{extracted}
 use Rattle.store.specs.Stored.{Block, block_content, content_of}
 use Rattle.shapes.proofs.Extracts.{all_of_all}
 use Rattle.shapes.proofs.Going.{if_ok}
-use Rattle.shapes.proofs.Walked.{no_column}
+use Rattle.store.proofs.RowWords.{no_column}
 use Rattle.shapes.proofs.extracting.extract_whole.Goals as goal
 
 pub returns-clause-words : goal.returns-clause-words
