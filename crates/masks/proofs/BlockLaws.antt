@@ -1,5 +1,6 @@
 -- Joins, and what a mask keeps, of entries by rows and columns.
 use Rattle.std.proofs.Common.{◌≡◌, ℕ, Bool, true, false, ◌&&◌, cond, eqb, List, [], ◌∷◌, length, Option, None, refl, sym, ◌∙◌, inl, inr, arith, ap, ◌<◌, ◌≤◌}
+use Rattle.std.specs.List.{filter}
 use Rattle.std.proofs.lemmas.Bool.{cases_Bool}
 use Rattle.std.proofs.lemmas.Bool.Decides.{nat_tests}
 use Rattle.std.proofs.lemmas.List.Elements.{All-filter}
@@ -18,25 +19,29 @@ either_way : (b : Bool) (o : Option ℕ) → cond b o o ≡ o
 either_way true o = refl
 either_way false o = refl
 
--- what a mask keeps has the words at the positions that it lets through
-pub kept_words : (mask : MaskView) (stored es : List Entry) (i j : ℕ) → word_at (kept_by mask stored es) i j ≡ cond (lets_word mask (word_at stored i j)) (word_at es i j) None
+-- entries at some positions have the words there
+pub filtered_words : (keeps : ℕ → ℕ → Bool) (es : List Entry) (i j : ℕ) → word_at (filter (λ e. keeps e.row e.col) es) i j ≡ cond (keeps i j) (word_at es i j) None
 unfolding word_at
-kept_words mask stored [] i j = sym (either_way (lets_word mask (word_at stored i j)) None)
-kept_words mask stored (e ∷ es) i j =
-    let rest = kept_words mask stored es i j in
+filtered_words keeps [] i j = sym (either_way (keeps i j) None)
+filtered_words keeps (e ∷ es) i j =
+    let rest = filtered_words keeps es i j in
     elim (cases_Bool (eqb i e.row && eqb j e.col)) [
       | inl at ↦
           let same = same_at i j e.row e.col at in
-          let test : lets_word mask (word_at stored e.row e.col) ≡ lets_word mask (word_at stored i j) = rw (same.0, same.1) refl in
-          elim (cases_Bool (lets_word mask (word_at stored i j))) [
+          let test : keeps e.row e.col ≡ keeps i j = rw (same.0, same.1) refl in
+          elim (cases_Bool (keeps i j)) [
             | inl stays ↦ rw (test, stays, at) refl
             | inr goes ↦ rw (test, goes) (rw goes at rest)
           ]
-      | inr away ↦ elim (cases_Bool (lets_word mask (word_at stored e.row e.col))) [
+      | inr away ↦ elim (cases_Bool (keeps e.row e.col)) [
         | inl stays ↦ rw (stays, away) rest
         | inr goes ↦ rw (goes, away) rest
       ]
     ]
+
+-- what a mask keeps has the words at the positions that it lets through
+pub kept_words : (mask : MaskView) (stored es : List Entry) (i j : ℕ) → word_at (kept_by mask stored es) i j ≡ cond (lets_word mask (word_at stored i j)) (word_at es i j) None
+kept_words mask stored es i j = filtered_words (λ i j. lets_word mask (word_at stored i j)) es i j
 
 pub kept_along : (mask : MaskView) (cols : ℕ) (stored es : List Entry) (i j : ℕ) → word_at (along cols (kept_by mask stored es)) i j ≡ cond (lets_word mask (word_at (along cols stored) i j)) (word_at (along cols es) i j) None
 kept_along mask cols stored es i j =

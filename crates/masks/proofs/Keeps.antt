@@ -1,12 +1,14 @@
 -- What a mask keeps of a fiber, entry by entry.
-use Rattle.std.proofs.Common.{◌≡◌, ◌≢◌, ℕ, ◌+◌, ◌<◌, ◌≤◌, Bool, true, false, List, [], ◌∷◌, ◌++◌, length, get_or, set, take, drop, Some, None, refl, sym, ◌∙◌, ap, inl, inr, arith, append_assoc, length-append, length-take, length-drop}
+use Rattle.std.proofs.Common.{◌≡◌, ◌≢◌, ℕ, ◌+◌, ◌<◌, ◌≤◌, ◌-◌, ltb, Bool, true, false, List, [], ◌∷◌, ◌++◌, length, get_or, set, take, drop, Some, None, refl, sym, ◌∙◌, ap, inl, inr, arith, append_assoc, length-append, length-take, length-drop}
 use Rattle.std.specs.List.{All, AllPairs, filter}
-use Rattle.std.proofs.lemmas.Bool.{cases_Bool, cases_eq}
+use Rattle.std.specs.List.Sorted.{IsPartitionPoint}
+use Rattle.std.proofs.lemmas.Bool.{cases_Bool, cases_eq, cases_lt, ltb-true}
 use Rattle.std.proofs.lemmas.List.{drop-set-lt, drop_more, get_or-drop, get_or-take, take-set-le, take_more_set}
 use Rattle.model.specs.declared.entry.Entry.{Entry}
 use Rattle.model.specs.Entries.{entry_at, word_at}
 use Rattle.store.specs.Fibers.{entries_along}
 use Rattle.store.proofs.FlatLaws.{row_in_order}
+use Rattle.store.proofs.Order.{all_take}
 use Rattle.store.proofs.Places.{length_row, row_at}
 use Rattle.store.proofs.Positions.{word_at-found, word_at-gap}
 
@@ -17,6 +19,21 @@ pub record IsFirstFrom (x : ℕ) (xs : List ℕ) (n : ℕ) : Type 0 where
   pub bound : n ≤ length xs
   pub before : All (λ y. y < x) (take n xs)
   pub next : n < length xs → x ≤ get_or xs n 0
+
+-- where the numbers behind the start of a list are below x up to a point, and those before are
+pub all_before : (x : ℕ) (xs : List ℕ) (start n : ℕ) → start ≤ length xs → n ≤ length (drop start xs) → IsPartitionPoint (λ y. ltb y x ≡ true) (λ y. ltb y x ≡ false) (drop start xs) n
+    → All (λ y. y < x) (take start xs) → All (λ y. y < x) (take (start + n) xs)
+all_before x xs start n room few point before =
+    all_take (λ y. y < x) (start + n) xs
+    (λ k d low high.
+    elim (cases_lt k start) [
+      | inl less ↦ let is = get_or-take start xs k d less in let small : get_or (take start xs) k d < x = before k d (omega (arith, length-take start xs)) in rw is at small
+      | inr more ↦
+          let at : start + (k - start) ≡ k = omega arith in
+          let test : ltb (get_or (drop start xs) (k - start) d) x ≡ true = point.0 (k - start) d (omega arith) (omega arith) in
+          let is : get_or (drop start xs) (k - start) d ≡ get_or xs k d = get_or-drop start xs (k - start) d ∙ ap (λ k. get_or xs k d) at in
+          ltb-true (get_or xs k d) x (rw is at test)
+    ])
 
 pub word_found : (outer index : ℕ) (inner words : List ℕ) (n : ℕ) → length words ≡ length inner → AllPairs (λ a b. a < b) inner → n < length inner → get_or inner n 0 ≡ index → word_at (entries_along outer inner words) outer index ≡ Some (get_or words n 0)
 word_found outer index inner words n same rising within is =

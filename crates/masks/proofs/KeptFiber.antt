@@ -165,6 +165,22 @@ one_behind mask all_inner all_words from mi mw inner words kept at next step num
     (All-weaker (λ z. z < x) (λ z. z ≤ x) (λ z less. omega arith) (take next mi) (here.ahead within))
     (λ outer. rw (word_absent outer x mi mw next same rises first (λ more. absurd (omega arith))) (no_word_lets mask.complement)) stepped one none
 
+-- some of the mask's indices below the entry at hand are passed over
+pub some_passed : (mask : MaskView) (all_inner all_words : List ℕ) (from : ℕ) (mi mw inner words : List ℕ) (kept at next next' : ℕ)
+    → IsKept mask all_inner all_words from mi mw inner words kept at next → next' ≤ length mi
+    → (at < length inner → All (λ y. y < get_or inner at 0) (take next mi) → All (λ y. y < get_or inner at 0) (take next' mi))
+    → IsKept mask all_inner all_words from mi mw inner words kept at next'
+some_passed mask all_inner all_words from mi mw inner words kept at next next' here bound passed = record {
+  low = here.low;
+  within = here.within;
+  inner_long = here.inner_long;
+  words_long = here.words_long;
+  bound = bound;
+  ahead = λ within. passed within (here.ahead within);
+  rising = here.rising;
+  whole = here.whole;
+}
+
 -- all entries are done
 pub kept_all : (mask : MaskView) (all_inner all_words : List ℕ) (from : ℕ) (mi mw inner words : List ℕ) (kept at next : ℕ) → IsKept mask all_inner all_words from mi mw inner words kept at next → length inner ≤ at
     → (outer : ℕ) → entries_along outer (take kept inner) (take kept words) ≡ kept_by mask (entries_along outer mi mw) (entries_along outer (drop from all_inner) (drop from all_words))

@@ -1,4 +1,4 @@
-mod BlockLaws
+pub mod BlockLaws
 pub mod FiberMerges
 mod JoinedWords
 pub mod Joins

@@ -1,5 +1,5 @@
 //! What a mask keeps of the entries of fibers, in the same memory.
-ghost use Rattle.std.specs.Prelude.{◌≡◌, ℕ, ◌<◌, ◌≤◌, ◌-◌, ◌==◌, if◌then◌else◌, length, take, drop, false, Some, None};
+ghost use Rattle.std.specs.Prelude.{◌≡◌, ℕ, ◌<◌, ◌≤◌, ◌-◌, ◌==◌, if◌then◌else◌, length, take, drop, slice_index, false, Some, None};
 ghost use Rattle.std.specs.List.{All, AllPairs};
 ghost use Rattle.model.specs.Entries.{word_at};
 ghost use Rattle.store.specs.Fibers.{AreFlat, entries_along, entries_from, entries_in};
@@ -89,10 +89,14 @@ fn seek<'a>(fibers: Fibers<'a>, outer: u64) -> (&'a [u64], &'a [u64], Fibers<'a>
     rest.split(outer)
 }
 
-/// Brings what the mask keeps of a fiber's entries, which lie from the place `from` on, to the front of the
-/// lists, and answers how many there are.
+/// How many times as long as the entries a mask's fiber is, where to look each of them up pays.
+const MUCH_LONGER: usize = 16;
+
+/// Brings what a mask keeps of a fiber's entries, which lie from the place `from` on, to the front of the
+/// lists, and answers how many there are. The fiber of the mask's store has `stored_inner` and
+/// `stored_words`. It goes along both fibers; where that of the mask is much longer it looks each entry up.
 #[inline(never)]
-fn keep_fiber(
+pub fn keep_fiber(
     inner: &mut [u64],
     words: &mut [u64],
     from: usize,
@@ -112,6 +116,7 @@ fn keep_fiber(
         ≡ kept_by mask.now (entries_along outer stored_inner.now stored_words.now)
         (entries_along outer (drop from inner.old) (drop from words.old)) }
 {
+    let looks_up = stored_inner.len() / MUCH_LONGER > inner.len() - from;
     let mut kept = 0;
     let mut at = from;
     let mut next = 0;
@@ -123,6 +128,7 @@ fn keep_fiber(
         kept += usize::from(is_kept);
         at += usize::from(index <= other);
         next += usize::from(other <= index);
+        next = pass_over(stored_inner, next, inner, at, looks_up);
     }
     while at < inner.len() {
         inner[kept] = inner[at];
@@ -131,6 +137,24 @@ fn keep_fiber(
         at += 1;
     }
     kept
+}
+
+/// From a place of a mask's fiber on the first index that isn't below the one at hand, where it is looked up;
+/// else the place itself. The lookup is a binary search.
+#[inline(always)]
+fn pass_over(stored: &[u64], next: usize, inner: &[u64], at: usize, looks_up: bool) -> usize
+    requires rising { AllPairs (λ a b. a < b) stored.now }
+    requires bound { next ≤ length stored.now }
+    ensures bound { result ≤ length stored.now }
+    ensures behind { next ≤ result }
+    ensures passed { at < length inner.now → All (λ y. y < slice_index inner.now at) (take next stored.now)
+        → All (λ y. y < slice_index inner.now at) (take result stored.now) }
+{
+    if !looks_up || at >= inner.len() {
+        return next;
+    }
+    let index = inner[at];
+    next + stored[next..].partition_point(|x| *x < index)
 }
 
 /// Whether the mask keeps an index, where `other` is the first in a fiber of its store that isn't below it,

@@ -10,5 +10,6 @@ mod view;
 mod write;
 
 pub use join::{Joining, join_rows};
+pub use keep::keep_fiber;
 pub use view::MaskView;
 pub use write::write_back;

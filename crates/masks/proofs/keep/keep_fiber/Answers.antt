@@ -1,7 +1,7 @@
 -- One step more beside the mask's fiber, and behind it.
-use Rattle.std.proofs.Common.{◌<◌, ◌≤◌, length, refl, arith}
+use Rattle.std.proofs.Common.{◌+◌, ◌<◌, ◌≤◌, length, refl, arith}
 use mir.Val.{bool_byte}
-use Rattle.masks.proofs.KeptFiber.{kept_all, kept_none, one_behind, one_step}
+use Rattle.masks.proofs.KeptFiber.{kept_all, kept_none, one_behind, one_step, some_passed}
 use Rattle.masks.proofs.keep.keep_fiber.Goals as goal
 
 pub loop-at-init : goal.loop-at-init
@@ -10,8 +10,11 @@ loop-at-init c = kept_none c.args.mask.now c.args.inner.now c.args.words.now c.a
 pub loop-at-preserved : goal.loop-at-preserved
 loop-at-preserved c =
     let s = c.loop-at in
+    let stepped =
     one_step c.args.mask.now c.args.inner.now c.args.words.now c.args.from c.args.stored_inner.now c.args.stored_words.now s.inner s.words s.kept s.at s.next c.from-kept.result c.from-at.result c.from-next.result c.keeps-is_kept.result bool_byte
-    s.invariant c.requires.stored_words c.requires.stored_rising (let test = c.loop-at-test.true in let long = s.invariant.inner_long in omega arith) c.if-next-stored_inner.true c.keeps-is_kept.ensures.kept c.keeps-is_kept.ensures.passed c.from-kept.ensures c.from-at.ensures c.from-next.ensures refl refl
+    s.invariant c.requires.stored_words c.requires.stored_rising (let test = c.loop-at-test.true in let long = s.invariant.inner_long in omega arith) c.if-next-stored_inner.true c.keeps-is_kept.ensures.kept c.keeps-is_kept.ensures.passed c.from-kept.ensures c.from-at.ensures c.from-next.ensures refl refl in
+    some_passed c.args.mask.now c.args.inner.now c.args.words.now c.args.from c.args.stored_inner.now c.args.stored_words.now _ _ (s.kept + c.from-kept.result) (s.at + c.from-at.result) (s.next + c.from-next.result) c.pass_over-next.result
+    stepped c.pass_over-next.ensures.bound c.pass_over-next.ensures.passed
 
 pub loop-at-2-preserved : goal.loop-at-2-preserved
 loop-at-2-preserved c =
