@@ -1,0 +1,1 @@
+"""What bench/beside is made of."""
