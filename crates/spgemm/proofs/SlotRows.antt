@@ -1,17 +1,17 @@
 -- The columns that a mask has as slots, and the row of the sums at them.
-use Rattle.std.proofs.Common.{◌≡◌, ◌≢◌, ℕ, zero, suc, ◌+◌, ◌-◌, ◌<◌, ◌≤◌, true, false, cond, ◌&&◌, ◌||◌, not, eqb, leb, ltb, Bool, List, [], ◌∷◌, ◌++◌, length, get_or, map, Option, Some, None, Result, Ok, Err, OnOk, Vec, refl, sym, ◌∙◌, ap, subst, add-one, inl, inr, arith}
+use Rattle.std.proofs.Common.{◌≡◌, ◌≢◌, ℕ, zero, suc, ◌+◌, ◌-◌, ◌<◌, ◌≤◌, true, false, cond, ◌&&◌, ◌||◌, eqb, leb, ltb, Bool, List, [], ◌∷◌, ◌++◌, length, get_or, map, Option, Some, None, Result, Ok, Err, OnOk, Vec, refl, sym, ◌∙◌, ap, subst, add-one, inl, inr, arith}
 use Rattle.std.specs.Option.{is_some, option_map, option_to_list}
 use Rattle.std.specs.List.{All, AllPairs, Contains, cons_option, filter, filter_map}
 use Rattle.std.proofs.lemmas.Bool.{cases_Bool, cases_eq, eq-eqb, ne_eqb}
 use Rattle.std.proofs.lemmas.Bool.Decides.{nat_tests}
 use Rattle.std.proofs.lemmas.List.{append-nil, length-map}
-use Rattle.std.proofs.lemmas.List.Elements.{All-nil, All-cons, All-head, All-tail, All-weaker, All-map, Contains-append_right, filter_agree}
+use Rattle.std.proofs.lemmas.List.Elements.{All-nil, All-cons, All-head, All-tail, All-weaker, All-map, Contains-append_right}
 use Rattle.std.proofs.lemmas.List.Folds.{list_any_none}
 use Rattle.algebra.specs.declared.binary.BinaryOp.{BinaryOp}
 use Rattle.masks.specs.declared.view.MaskView.{MaskView}
 use Rattle.masks.specs.Masks.{counts, has_word}
 use Rattle.model.specs.declared.entry.Entry.{Entry}
-use Rattle.model.specs.Entries.{below, count_from, entry_at, row_entries}
+use Rattle.model.specs.Entries.{InOrder, below, count_from, entry_at, row_entries, word_at}
 use Rattle.model.specs.declared.memory.NoMemory.{NoMemory}
 use Rattle.store.specs.declared.lists.FiberEnd.{FiberEnd}
 use Rattle.store.specs.declared.lists.FiberLists.{FiberLists}
@@ -19,7 +19,10 @@ use Rattle.store.specs.Fibers.{entries_along}
 use Rattle.store.specs.Stored.{Stored, content_of}
 use Rattle.store.proofs.CloseLaws.{closed}
 use Rattle.store.proofs.Order.{all_pairs_cons, all_pairs_filter, all_pairs_head, all_pairs_map, all_pairs_nil, all_pairs_tail}
+use Rattle.store.proofs.RowWords.{columns_rise, word_at-row_entries}
+use Rattle.store.proofs.Walks.{cols_rise}
 use Rattle.spgemm.specs.declared.term.Term.{Term}
+use Rattle.spgemm.specs.Keeping.{keeps_among}
 use Rattle.spgemm.specs.Products.{HasRow, IsSumRow}
 use Rattle.spgemm.specs.Slots.{AreSlots, AreSlotSums, IsSlotOf, counted, has_in_column, has_in_row, is_slot, lets_by, present}
 use Rattle.spgemm.specs.Terms.{kept_terms, sum_at, term_at, words_at}
@@ -82,7 +85,7 @@ one_number test col first (suc n) =
 
 -- ---- slots
 
-slots_from : (test keeps : ℕ → Bool) (first n : ℕ) → ((col : ℕ) → ((leb first col && ltb col (first + n)) && test col) ≡ keeps col) → AreSlots keeps (filter test (count_from first n))
+pub slots_from : (test keeps : ℕ → Bool) (first n : ℕ) → ((col : ℕ) → ((leb first col && ltb col (first + n)) && test col) ≡ keeps col) → AreSlots keeps (filter test (count_from first n))
 slots_from test keeps first n is = record {
   rising = all_pairs_filter (λ p q. p < q) test (count_from first n) (numbers_rise first n);
   kept =
@@ -131,6 +134,12 @@ column_slots valued store first past rows words le is =
 pub ok_slots : (r : Result (Unit {0}) NoMemory) (keeps : ℕ → Bool) (xs ys : List ℕ) → OnOk r (xs ≡ ys) → AreSlots keeps ys → OnOk r (AreSlots keeps xs)
 ok_slots (Err e) keeps xs ys same are = tt
 ok_slots (Ok u) keeps xs ys same are = subst (AreSlots keeps) (sym same) are
+
+pub row_held : (valued : Bool) (store : Stored) (i : ℕ) (cols words slots : List ℕ) → entries_along i cols words ≡ row_entries store.cols (content_of store) i → slots ≡ counted valued (entries_along 0 cols words) → AreSlots (has_in_row valued store i) slots
+row_held valued store i cols words slots is held = subst (AreSlots (has_in_row valued store i)) (sym held) (row_slots valued store i cols words is)
+
+pub column_held : (valued : Bool) (store : Stored) (first past : ℕ) (rows words slots : List ℕ) → first ≤ past → entries_along 0 rows words ≡ entries_of_column (content_of store) first past → slots ≡ counted valued (entries_along 0 rows words) → AreSlots (has_in_column valued store first past) slots
+column_held valued store first past rows words slots le is held = subst (AreSlots (has_in_column valued store first past)) (sym held) (column_slots valued store first past rows words le is)
 
 -- ---- whether a column is a slot
 
@@ -181,10 +190,6 @@ slot_kept keeps slots col are =
           let none : filter (λ slot. eqb slot col) slots ≡ [] = rw without at once in
           any_not_filter col slots none ∙ sym without
     ]
-
--- the terms that are at no slot are those that are not kept
-pub outside_is : (keeps : ℕ → Bool) (slots : List ℕ) (terms : List Term) → AreSlots keeps slots → kept_terms (λ col. not (is_slot slots col)) terms ≡ kept_terms (λ col. not (keeps col)) terms
-outside_is keeps slots terms are = filter_agree (λ t. not (is_slot slots t.col)) (λ t. not (keeps t.col)) (λ t. ap not (slot_kept keeps slots t.col are)) terms
 
 -- ---- the row of the sums
 
@@ -275,20 +280,28 @@ found_kept op keeps terms (slot ∷ slots) h =
     let rest = found_kept op keeps terms slots (All-tail (λ slot. keeps slot ≡ true) slot slots h) in
     found_more op keeps terms slot (found_sums (λ col. sum_at op col terms) slots) (All-head (λ slot. keeps slot ≡ true) slot slots h) rest (sum_at op slot terms) refl
 
--- what stands beside the slots is the row of the sums of the terms that are kept
-slot_row : (op : BinaryOp) (index : ℕ) (keeps : ℕ → Bool) (slots : List ℕ) (terms : List Term) (sums : List (Option ℕ)) → AreSlots keeps slots → AreSlotSums op slots terms sums
-    → IsSumRow op index (kept_terms keeps terms) (map (λ s. s.col) (present slots sums)) (map (λ s. s.word) (present slots sums))
-slot_row op index keeps slots terms sums are here =
+pub filter_all : (ks : List ℕ) → filter (λ k. true) ks ≡ ks
+filter_all [] = refl
+filter_all (k ∷ ks) = ap (λ ks. k ∷ ks) (filter_all ks)
+
+-- the sums at the columns that are kept are the row of the sums of the terms that are kept
+pub found_row : (op : BinaryOp) (index : ℕ) (keeps : ℕ → Bool) (slots : List ℕ) (terms : List Term) → AreSlots keeps slots
+    → IsSumRow op index (kept_terms keeps terms) (map (λ s. s.col) (found_sums (λ col. sum_at op col terms) slots)) (map (λ s. s.word) (found_sums (λ col. sum_at op col terms) slots))
+found_row op index keeps slots terms are =
     let f : ℕ → Option ℕ = λ col. sum_at op col terms in
-    let is = present_is f slots sums here.lengths here.sums_are in
-    rw is (record {
+    record {
       lengths = length-map (found_sums f slots) (λ (s : Term). s.word) ∙ sym (length-map (found_sums f slots) at_term);
       rising = all_pairs_map (λ p q. p < q) at_term (found_sums f slots) (found_rise f slots are.rising);
       columns = All-map (λ col. Contains (map at_term (kept_terms keeps terms)) col) at_term (found_sums f slots) (found_kept op keeps terms slots are.kept);
       words_are = λ col.
           side_by_side_words index col (found_sums f slots) (sum_at op col (kept_terms keeps terms))
           (words_found f col slots ∙ ap (λ ss. words_at col (found_sums f ss)) (are.once col) ∙ words_one f col (keeps col) ∙ ap option_to_list (sym (sum_kept op keeps col terms)));
-    })
+    }
+
+-- what stands beside the slots is the row of the sums of the terms that are kept
+slot_row : (op : BinaryOp) (index : ℕ) (keeps : ℕ → Bool) (slots : List ℕ) (terms : List Term) (sums : List (Option ℕ)) → AreSlots keeps slots → AreSlotSums op slots terms sums
+    → IsSumRow op index (kept_terms keeps terms) (map (λ s. s.col) (present slots sums)) (map (λ s. s.word) (present slots sums))
+slot_row op index keeps slots terms sums are here = rw (present_is (λ col. sum_at op col terms) slots sums here.lengths here.sums_are) (found_row op index keeps slots terms are)
 
 -- the sums behind the rows, where the row was closed
 pub slots_closed : (r : Result (Unit {0}) NoMemory) (op : BinaryOp) (index : ℕ) (slots : List ℕ) (terms : List Term) (sums : List (Option ℕ)) (old mid new : FiberLists) → AreSlotSums op slots terms sums
@@ -314,11 +327,6 @@ no_slots_closed r op index [] terms old new none ends inner words =
     slots_closed r op index [] terms [] old old new (record { lengths = refl; sums_are = λ at within. absurd (omega arith) }) refl (sym (append-nil old.inner.items)) (sym (append-nil old.words.items)) ends inner words
 no_slots_closed r op index (s ∷ slots) terms old new none ends inner words = absurd (omega arith)
 
-pub rows_outside : (r : Result (Unit {0}) NoMemory) (op : BinaryOp) (index : ℕ) (slots : List ℕ) (terms left : List Term) (old new : FiberLists) → left ≡ kept_terms (λ col. not (is_slot slots col)) terms → OnOk r (HasRow op index left old new)
-    → OnOk r ((keeps : ℕ → Bool) → AreSlots keeps slots → HasRow op index (kept_terms (λ col. not (keeps col)) terms) old new)
-rows_outside (Err e) op index slots terms left old new is here = tt
-rows_outside (Ok u) op index slots terms left old new is here = λ keeps are. subst (λ ts. HasRow op index ts old new) (is ∙ outside_is keeps slots terms are) here
-
 -- ---- where terms are at columns below a width
 
 agree_below : (p q : ℕ → Bool) (width : ℕ) (terms : List Term) → All (λ t. t.col < width) terms → ((col : ℕ) → col < width → p col ≡ q col) → kept_terms p terms ≡ kept_terms q terms
@@ -340,8 +348,20 @@ row_let_through mask store i width op terms old new same below plain here =
     subst (λ ts. HasRow op i ts old new)
     (agree_below (has_in_row mask.valued store i) (lets_by mask store i) width terms below (λ col less. rw (plain, same) (inside_width col width (has_word mask.valued (content_of store i col)) less))) here
 
-pub row_let_out : (mask : MaskView) (store : Stored) (i width : ℕ) (op : BinaryOp) (terms : List Term) (old new : FiberLists) → store.cols ≡ width → All (λ t. t.col < width) terms → mask.complement ≡ true
-    → HasRow op i (kept_terms (λ col. not (has_in_row mask.valued store i col)) terms) old new → HasRow op i (kept_terms (lets_by mask store i) terms) old new
-row_let_out mask store i width op terms old new same below turned here =
+-- the row at the columns that a mask keeps, by the entries of its store's row, is the one that the mask lets through
+pub row_kept : (r : Result (Unit {0}) NoMemory) (mask : MaskView) (store : Stored) (i width : ℕ) (op : BinaryOp) (terms : List Term) (old new : FiberLists) (entries : List Entry) → store.cols ≡ width → All (λ t. t.col < width) terms
+    → entries ≡ row_entries store.cols (content_of store) i → OnOk r (HasRow op i (kept_terms (keeps_among mask 0 width entries i) terms) old new) → OnOk r (HasRow op i (kept_terms (lets_by mask store i) terms) old new)
+row_kept (Err e) mask store i width op terms old new entries same below is here = tt
+row_kept (Ok u) mask store i width op terms old new entries same below is here =
     subst (λ ts. HasRow op i ts old new)
-    (agree_below (λ col. not (has_in_row mask.valued store i col)) (lets_by mask store i) width terms below (λ col less. rw (turned, same) (ap not (inside_width col width (has_word mask.valued (content_of store i col)) less)))) here
+    (agree_below (keeps_among mask 0 width entries i) (lets_by mask store i) width terms below
+    (λ col less.
+    let low : leb 0 col ≡ true = grind (arith, nat_tests) in
+    let high : ltb col width ≡ true = grind (arith, nat_tests) in
+    let inside : ltb col store.cols ≡ true = rw same high in
+    let word : word_at entries i col ≡ content_of store i col = ap (λ es. word_at es i col) is ∙ word_at-row_entries store.cols (content_of store) i col ∙ rw inside refl in
+    rw (low, high, word) refl)) here
+
+-- the columns of a row of a store rise
+pub row_rises : (store : Stored) (i : ℕ) (cols words : List ℕ) → length words ≡ length cols → entries_along i cols words ≡ row_entries store.cols (content_of store) i → AllPairs (λ p q. p < q) cols
+row_rises store i cols words same is = cols_rise i cols words same (subst InOrder (sym is) (columns_rise (content_of store) i store.cols 0))

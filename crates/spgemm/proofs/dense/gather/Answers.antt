@@ -1,0 +1,49 @@
+use Rattle.std.proofs.Common.{◌≡◌, ◌*◌, ◌<◌, ◌≤◌, ◌∙◌, ap, append-nil, append_assoc, arith, get_or, length, refl, set, sym, inl, inr, ltb}
+use Rattle.std.proofs.lemmas.Bool.{cases_Bool, cases_eq}
+use Rattle.std.proofs.lemmas.Bool.Decides.{nat_tests}
+use Rattle.std.proofs.lemmas.List.{get_or-set_other, get_or-set_same, get_or_past, map-append}
+use Rattle.spgemm.specs.Dense.{found, word_by, word_in}
+use Rattle.spgemm.specs.declared.term.Term.{Term}
+use Rattle.spgemm.proofs.DenseLaws.{found_next, found_zero}
+use Rattle.spgemm.proofs.dense.gather.Goals as goal
+
+pub loop-at-init : goal.loop-at-init
+loop-at-init c = record {
+  ends = refl;
+  inner = rw (found_zero (word_in c.args.bits.now c.args.words.now) 0) (sym (append-nil _));
+  words = rw (found_zero (word_in c.args.bits.now c.args.words.now) 0) (sym (append-nil _));
+  clear = λ k less. absurd (omega arith);
+  rest = λ k le. refl;
+}
+
+pub loop-at-preserved : goal.loop-at-preserved
+loop-at-preserved c =
+    let s = c.loop-at in
+    let here = s.invariant in
+    let put = c.in_ok-gather_word.ensures in
+    let bits = c.args.bits.now in
+    let words = c.args.words.now in
+    let f = word_in bits words in
+    let word : get_or s.bits s.at 0 ≡ get_or bits s.at 0 = here.rest s.at (omega arith) in
+    let g = word_by (get_or bits s.at 0) (64 * s.at) words in
+    let next = found_next bits words s.at in
+    let inside : s.at < length s.bits = omega (arith, c.loop-at-test.true) in
+    record {
+      ends = put.ends ∙ here.ends;
+      inner = put.inner ∙ rw (word, here.inner, next, map-append (λ (s : Term). s.col) (found f 0 (64 * s.at)) (found g (64 * s.at) 64)) (simp append_assoc);
+      words = put.words ∙ rw (word, here.words, next, map-append (λ (s : Term). s.word) (found f 0 (64 * s.at)) (found g (64 * s.at) 64)) (simp append_assoc);
+      clear = λ k less.
+          elim (cases_eq k s.at) [
+            | inl same ↦ ap (λ k. get_or (set s.bits s.at 0) k 0) same ∙ get_or-set_same s.bits s.at 0 0 inside
+            | inr other ↦ get_or-set_other s.bits s.at k 0 0 other ∙ here.clear k (omega arith)
+          ];
+      rest = λ k le. get_or-set_other s.bits s.at k 0 0 (λ e. absurd (omega arith)) ∙ here.rest k (omega arith);
+    }
+
+pub returns-clause-clear : goal.returns-clause-clear
+returns-clause-clear c = λ k.
+    let s = c.loop-at in
+    elim (cases_Bool (ltb k s.at)) [
+      | inl done ↦ s.invariant.clear k (grind (arith, nat_tests))
+      | inr past ↦ get_or_past s.bits k 0 (let le : s.at ≤ k = grind (arith, nat_tests) in omega (arith, c.loop-at-test.false))
+    ]

@@ -1,0 +1,19 @@
+use Rattle.std.proofs.Common.{◌≡◌, ◌+◌, ◌-◌, ◌≤◌, ◌++◌, ℕ, map}
+use Rattle.std.specs.Vec.{vec_len, vec_capacity}
+use Rattle.spgemm.specs.Dense.{found, word_by}
+use Rattle.spgemm.proofs.DenseLaws.{AreLeft}
+use Rattle.spgemm.proofs.dense.gather_word.Given as goal
+
+abbrev pub invariant-loop-left : goal.invariant-loop-left
+invariant-loop-left l = record {
+  p : ℕ;
+  are_left : AreLeft l.bits l.left p;
+  ends : l.lists.ends ≡ l.initial.lists.ends;
+  inner : l.lists.inner.items ≡ l.initial.lists.inner.items ++ map (λ s. s.col) (found (word_by l.bits l.base l.words) l.base p);
+  words : l.lists.words.items ≡ l.initial.lists.words.items ++ map (λ s. s.word) (found (word_by l.bits l.base l.words) l.base p);
+  inner_room : vec_len l.lists.inner + (64 - p) ≤ vec_capacity l.lists.inner;
+  words_room : vec_len l.lists.words + (64 - p) ≤ vec_capacity l.lists.words;
+}
+
+abbrev pub decreases-loop-left : goal.decreases-loop-left
+decreases-loop-left l = l.left

@@ -1,0 +1,38 @@
+-- Sums of a row that have a place for each column, and bits that say where there is one.
+use Rattle.std.specs.Prelude.{ℕ, ◌≡◌, ◌<◌, ◌-◌, ◌*◌, ◌/◌, ◌%◌, ◌==◌, if◌then◌else◌, Bool, List, length, slice_index}
+use Rattle.std.specs.Prelude.{Option, None, Some}
+use Rattle.std.specs.Int.{bit_at}
+use Rattle.std.specs.Option.{option_map}
+use Rattle.std.specs.List.{filter_map}
+use Rattle.algebra.specs.declared.binary.BinaryOp.{BinaryOp}
+use Rattle.model.specs.Entries.{count_from}
+use Rattle.spgemm.specs.declared.term.Term.{Term}
+use Rattle.spgemm.specs.Terms.{sum_at, term_at}
+
+-- whether the bit of a place is set; 64 places have theirs in one word
+abbrev pub has_bit : List ℕ → ℕ → Bool
+has_bit bits at = bit_at (slice_index bits (at / 64)) (at % 64) == 1
+
+-- the word at a place whose bit is set
+abbrev pub word_in : List ℕ → List ℕ → ℕ → Option ℕ
+word_in bits words at = if has_bit bits at then Some (slice_index words at) else None
+
+-- the word at a place, by the word of bits of 64 places that begin at base
+abbrev pub word_by : ℕ → ℕ → List ℕ → ℕ → Option ℕ
+word_by bits base words at = if bit_at bits (at - base) == 1 then Some (slice_index words at) else None
+
+-- at each place stands the sum of the terms at that column
+pub record AreColumnSums (op : BinaryOp) (terms : List Term) (bits words : List ℕ) : Type 0 where
+  pub sums_are : (col : ℕ) → col < length words → word_in bits words col ≡ sum_at op col terms
+
+-- 64 words for each word of bits
+abbrev pub HaveRoom : List ℕ → List ℕ → Type 0
+HaveRoom bits words = length words ≡ 64 * length bits
+
+-- no bit is set
+abbrev pub AreClear : List ℕ → Type 0
+AreClear bits = (at : ℕ) → slice_index bits at ≡ 0
+
+-- what a function has at n places from first on, each at its place
+abbrev pub found : (ℕ → Option ℕ) → ℕ → ℕ → List Term
+found f first n = filter_map (λ at. option_map (term_at at) (f at)) (count_from first n)
