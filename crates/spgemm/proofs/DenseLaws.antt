@@ -15,7 +15,7 @@ use Rattle.store.specs.Stored.{Stored, content_of}
 use Rattle.store.proofs.RowEntries.{row_entries-inside}
 use Rattle.model.specs.Entries.{below, count_from, entry_at, row_entries}
 use Rattle.spgemm.specs.declared.term.Term.{Term}
-use Rattle.spgemm.specs.Dense.{AreClear, AreColumnSums, found, has_bit, word_by, word_in}
+use Rattle.spgemm.specs.Dense.{AreClear, AreColumnSums, HaveRoom, found, has_bit, word_by, word_in}
 use Rattle.spgemm.specs.Terms.{apply, kept_terms, sum_at, term_at, terms_of_row, times_row}
 use Rattle.model.specs.declared.memory.NoMemory.{NoMemory}
 use Rattle.store.specs.declared.lists.FiberLists.{FiberLists}
@@ -55,13 +55,6 @@ sum_more op terms col word bits words bits' words' within bits_are words_are her
                 rw (bit, word_is) (was ∙ sym (sum_away op k terms t (λ e. other (sym e))))
           ];
     }
-
-pub bit_there : (bits : List ℕ) (col : ℕ) → has_bit bits col ≡ true → (k : ℕ) → has_bit bits k ≡ (eqb k col || has_bit bits k)
-bit_there bits col there k =
-    elim (cases_eq k col) [
-      | inl same ↦ rw (eq-eqb k col same) (ap (has_bit bits) same ∙ there)
-      | inr other ↦ rw (ne_eqb k col other) refl
-    ]
 
 -- ---- a product more
 
@@ -192,6 +185,24 @@ all_found bits p base words here =
 
 pub no_bits : (bits base : ℕ) (words : List ℕ) → bits ≡ 0 → found (word_by bits base words) base 64 ≡ []
 no_bits bits base words none = found_none (word_by bits base words) base 64 (λ at low high. no_word bits base words at (ap (λ n. bit_at n (at - base)) none ∙ bit_at-zero (at - base)))
+
+-- ---- words of bits without a bit
+
+zero_word : (bits words : List ℕ) (col : ℕ) → get_or bits (col / 64) 0 ≡ 0 → word_in bits words col ≡ None
+zero_word bits words col zero_is = let none : has_bit bits col ≡ false = rw (zero_is, bit_at-zero (col % 64)) refl in rw none refl
+
+-- nothing is found before the first word that has a bit
+pub none_before : (bits words : List ℕ) (start : ℕ) → ((at : ℕ) → at < start → get_or bits at 0 ≡ 0) → found (word_in bits words) 0 (64 * start) ≡ []
+none_before bits words start clear = found_none (word_in bits words) 0 (64 * start) (λ col low high. zero_word bits words col (clear (col / 64) (omega arith)))
+
+-- and nothing behind the last one
+pub all_before : (bits words : List ℕ) (end : ℕ) → HaveRoom bits words → end ≤ length bits → ((at : ℕ) → end ≤ at → get_or bits at 0 ≡ 0) → found (word_in bits words) 0 (length words) ≡ found (word_in bits words) 0 (64 * end)
+all_before bits words end room le clear =
+    let f = word_in bits words in
+    let rest = length words - 64 * end in
+    let whole : length words ≡ 64 * end + rest = omega arith in
+    ap (found f 0) whole ∙ found_append f 0 (64 * end) rest
+    ∙ rw (found_none f (0 + 64 * end) rest (λ col low high. zero_word bits words col (clear (col / 64) (omega arith)))) (append-nil (found f 0 (64 * end)))
 
 -- ---- all places
 

@@ -1,6 +1,7 @@
 //! The sums of a row of a product in a list with a place for each column.
-ghost use Rattle.std.specs.Prelude.{◌≡◌, ◌<◌, ◌≤◌, ◌+◌, ◌*◌, ◌^◌, ◌++◌, true, ◌∷◌, [], ℕ, List, length, map, take, OnOk};
+ghost use Rattle.std.specs.Prelude.{◌≡◌, ◌≢◌, ◌<◌, ◌≤◌, ◌+◌, ◌*◌, ◌/◌, ◌^◌, ◌++◌, true, if◌then◌else◌, ◌∷◌, [], ℕ, List, length, map, slice_index, take, OnOk};
 ghost use Rattle.std.specs.List.{All};
+ghost use Rattle.algebra.specs.declared.binary.BinaryOp.{BinaryOp};
 ghost use Rattle.store.specs.Fibers.{entries_along};
 ghost use Rattle.spgemm.specs.Dense.{AreClear, AreColumnSums, HaveRoom, found, word_by, word_in};
 ghost use Rattle.spgemm.specs.Products.{HasOpenRow};
@@ -10,8 +11,9 @@ ghost use Rattle.spgemm.specs.declared.term.Term.{Term};
 use crate::bits::{has_bit, set_bit};
 use crate::sums::push_sum;
 use crate::term::Term;
-use algebra::{BinaryOp, Semiring};
+use algebra::{BinaryOp, Semiring, with_semiring};
 use model::NoMemory;
+use std::ops::Range;
 use store::{FiberLists, Row, Store};
 
 /// Adds a word to the sum at a column.
@@ -19,15 +21,22 @@ use store::{FiberLists, Row, Store};
 fn add_at(bits: &mut [u64], sums: &mut [u64], col: usize, word: u64, add: BinaryOp)
     requires room { HaveRoom bits.old sums.old }
     requires inside { col < length sums.old }
-    ensures { (terms : List Term) → AreColumnSums add terms bits.old sums.old
+    ensures sums { (terms : List Term) → AreColumnSums add terms bits.old sums.old
         → AreColumnSums add (terms ++ term_at col word ∷ []) bits.new sums.new }
+    ensures others { (at : ℕ) → at ≢ col / 64 → slice_index bits.new at ≡ slice_index bits.old at }
 {
-    if has_bit(bits, col) {
-        sums[col] = add.eval(sums[col], word);
-    } else {
-        sums[col] = word;
-        set_bit(bits, col);
-    }
+    // Without a branch: whether a column was met before can't be foreseen. What stands at one that wasn't is no sum.
+    let sum = add.eval(sums[col], word);
+    sums[col] = choose(has_bit(bits, col), sum, word);
+    set_bit(bits, col);
+}
+
+/// One word of two.
+#[inline(always)]
+fn choose(is_first: bool, first: u64, second: u64) -> u64
+    ensures { result ≡ (if is_first then first else second) }
+{
+    if is_first { first } else { second }
 }
 
 /// Adds a word times each entry of a row to the sum at its column.
@@ -43,9 +52,12 @@ fn add_products(
     requires room { HaveRoom bits.old sums.old }
     requires lengths { length words.now ≡ length cols.now }
     requires inside { All (λ col. col < length sums.old) cols.now }
-    ensures { (terms : List Term) → AreColumnSums semiring.add.op terms bits.old sums.old
+    ensures sums { (terms : List Term) → AreColumnSums semiring.add.op terms bits.old sums.old
         → AreColumnSums semiring.add.op
         (terms ++ times_row semiring.multiply word (entries_along 0 cols.now words.now)) bits.new sums.new }
+    ensures others { (at : ℕ) → All (λ t. t.col / 64 ≢ at)
+        (times_row semiring.multiply word (entries_along 0 cols.now words.now))
+        → slice_index bits.new at ≡ slice_index bits.old at }
 {
     for k in 0..cols.len() {
         let product = semiring.multiply.eval(word, words[k]);
@@ -53,42 +65,41 @@ fn add_products(
     }
 }
 
-/// Adds terms to the sums at their columns.
-#[inline(always)]
-fn add_terms(bits: &mut [u64], sums: &mut [u64], terms: &[Term], add: BinaryOp)
-    requires room { HaveRoom bits.old sums.old }
-    requires inside { All (λ t. t.col < length sums.old) terms.now }
-    requires none { AreClear bits.old }
-    ensures { AreColumnSums add terms.now bits.new sums.new }
-{
-    for term in terms {
-        add_at(bits, sums, term.col as usize, term.word, add);
-    }
-}
-
-/// Adds the products of a row of A with B, from an entry of that row on, each entry times the row of B that its
-/// column names. The sums are those of the entries before.
-#[inline(always)]
-fn add_rows(
-    bits: &mut [u64],
-    sums: &mut [u64],
-    row: Row<'_>,
-    from: usize,
-    b: &Store,
-    semiring: Semiring,
-)
+/// Makes the sums those of the products of a row of A with B, each entry times the row of B that its column
+/// names.
+#[tactic(auto, using(crate::proofs::Arms::same_sums))]
+fn add_row(bits: &mut [u64], sums: &mut [u64], row: Row<'_>, b: &Store, semiring: Semiring)
     requires room { HaveRoom bits.old sums.old }
     requires lengths { length row.words.now ≡ length row.cols.now }
     requires inside { b.now.cols ≤ length sums.old }
-    requires from { from ≤ length row.cols.now }
-    requires before { AreColumnSums semiring.add.op (terms_of_row semiring.multiply
-        (take from (entries_along row.index row.cols.now row.words.now)) b.now) bits.old sums.old }
-    ensures { AreColumnSums semiring.add.op
+    requires none { AreClear bits.old }
+    ensures sums { AreColumnSums semiring.add.op
         (terms_of_row semiring.multiply (entries_along row.entry.index row.entry.cols.now row.entry.words.now) b.now)
         bits.new sums.new }
+    ensures others { (at : ℕ) → ((op : BinaryOp) → All (λ t. t.col / 64 ≢ at)
+        (terms_of_row op (entries_along row.entry.index row.entry.cols.now row.entry.words.now) b.now))
+        → slice_index bits.new at ≡ 0 }
+{
+    // All that runs below the arms is inlined, so that its loops are compiled for each.
+    with_semiring!(semiring, |own| add_row_by(bits, sums, row, b, own))
+}
+
+/// What `add_row` does, by one semiring of its arms.
+#[inline(always)]
+fn add_row_by(bits: &mut [u64], sums: &mut [u64], row: Row<'_>, b: &Store, semiring: Semiring)
+    requires room { HaveRoom bits.old sums.old }
+    requires lengths { length row.words.now ≡ length row.cols.now }
+    requires inside { b.now.cols ≤ length sums.old }
+    requires none { AreClear bits.old }
+    ensures sums { AreColumnSums semiring.add.op
+        (terms_of_row semiring.multiply (entries_along row.entry.index row.entry.cols.now row.entry.words.now) b.now)
+        bits.new sums.new }
+    ensures others { (at : ℕ) → ((op : BinaryOp) → All (λ t. t.col / 64 ≢ at)
+        (terms_of_row op (entries_along row.entry.index row.entry.cols.now row.entry.words.now) b.now))
+        → slice_index bits.new at ≡ 0 }
 {
     let mut hint = 0;
-    for k in from..row.cols.len() {
+    for k in 0..row.cols.len() {
         let (cols, words, next) = b.row_near(row.cols[k], hint);
         hint = next;
         add_products(bits, sums, row.words[k], cols, words, semiring);
@@ -96,7 +107,7 @@ fn add_rows(
 }
 
 /// Puts the words of 64 places that have their bits set behind the inner indices and words, in order.
-#[inline(always)]
+#[inline]
 fn gather_word(
     lists: &mut FiberLists,
     bits: u64,
@@ -132,10 +143,19 @@ fn gather_word(
 }
 
 /// Puts the words at all places that have their bits set behind the inner indices and words, in order, and
-/// clears the bits.
-#[inline(always)]
-fn gather(lists: &mut FiberLists, bits: &mut [u64], words: &[u64]) -> Result<(), NoMemory>
-    requires { HaveRoom bits.old words.now }
+/// clears the bits. Outside a span no word of bits has one.
+#[inline(never)]
+fn gather(
+    lists: &mut FiberLists,
+    bits: &mut [u64],
+    words: &[u64],
+    span: Range<usize>,
+) -> Result<(), NoMemory>
+    requires room { HaveRoom bits.old words.now }
+    requires order { span.start ≤ span.end }
+    requires end { span.end ≤ length bits.old }
+    requires before { (at : ℕ) → at < span.start → slice_index bits.old at ≡ 0 }
+    requires behind { (at : ℕ) → span.end ≤ at → slice_index bits.old at ≡ 0 }
     ensures ends { OnOk result (lists.new.ends ≡ lists.old.ends) }
     ensures inner { OnOk result (lists.new.inner.items
         ≡ lists.old.inner.items ++ map (λ s. s.col) (found (word_in bits.old words.now) 0 (length words.now))) }
@@ -143,7 +163,8 @@ fn gather(lists: &mut FiberLists, bits: &mut [u64], words: &[u64]) -> Result<(),
         ≡ lists.old.words.items ++ map (λ s. s.word) (found (word_in bits.old words.now) 0 (length words.now))) }
     ensures clear { OnOk result (AreClear bits.new) }
 {
-    for at in 0..bits.len() {
+    let Range { start, end } = span;
+    for at in start..end {
         let here = bits[at];
         bits[at] = 0;
         gather_word(lists, here, 64 * at, words)?;
@@ -152,34 +173,31 @@ fn gather(lists: &mut FiberLists, bits: &mut [u64], words: &[u64]) -> Result<(),
 }
 
 /// Puts the sums of the row of the product with B that a row of A gives behind the inner indices and words, where
-/// the products of the first `done` entries of the row are `terms`. It sums in a place for each column, and leaves
-/// all bits clear.
-#[inline(always)]
+/// the bits of its columns lie in a span. It sums in a place for each column, and leaves all bits clear.
 pub(crate) fn sum_densely(
     lists: &mut FiberLists,
     bits: &mut [u64],
     sums: &mut [u64],
-    terms: &[Term],
     row: Row<'_>,
-    done: usize,
     b: &Store,
     semiring: Semiring,
+    span: Range<usize>,
 ) -> Result<(), NoMemory>
     requires room { HaveRoom bits.old sums.old }
     requires lengths { length row.words.now ≡ length row.cols.now }
     requires inside { b.now.cols ≤ length sums.old }
     requires none { AreClear bits.old }
-    requires done { done ≤ length row.cols.now }
-    requires terms { terms.now ≡ terms_of_row semiring.multiply
-        (take done (entries_along row.index row.cols.now row.words.now)) b.now }
+    requires order { span.start ≤ span.end }
+    requires end { span.end ≤ length bits.old }
+    requires span { (op : BinaryOp) → All (λ t. (span.start ≤ t.col / 64) × (t.col / 64 < span.end))
+        (terms_of_row op (entries_along row.index row.cols.now row.words.now) b.now) }
     ensures row { OnOk result (HasOpenRow semiring.add.op row.entry.index
         (terms_of_row semiring.multiply (entries_along row.entry.index row.entry.cols.now row.entry.words.now) b.now)
         lists.old lists.new) }
     ensures clear { OnOk result (AreClear bits.new) }
 {
-    add_terms(bits, sums, terms, semiring.add.op);
-    add_rows(bits, sums, row, done, b, semiring);
-    gather(lists, bits, sums)
+    add_row(bits, sums, row, b, semiring);
+    gather(lists, bits, sums, span)
 }
 
 /// The greatest number of columns for which sums have places of their own.
@@ -192,7 +210,7 @@ pub(crate) fn fit(bits: &mut Vec<u64>, sums: &mut Vec<u64>, cols: u64) -> Result
     requires none { AreClear bits.old.items }
     ensures room { OnOk result (HaveRoom bits.new.items sums.new.items) }
     ensures none { OnOk result (AreClear bits.new.items) }
-    ensures inside { OnOk result (cols ≤ length sums.new.items) }
+    ensures words { OnOk result (cols / 64 < length bits.new.items) }
 {
     let count = cols as usize / 64 + 1;
     if bits.len() < count {
@@ -202,15 +220,4 @@ pub(crate) fn fit(bits: &mut Vec<u64>, sums: &mut Vec<u64>, cols: u64) -> Result
         sums.resize(64 * count, 0)?;
     }
     Ok(())
-}
-
-/// How many products of a row are sorted at most, where there are so many columns: where there are more, a place
-/// for each column pays.
-pub(crate) fn most_sorted(cols: u64) -> usize
-    ensures { result + 1 < 2 ^ 64 → cols ≤ 2 ^ 24 }
-{
-    if cols > MOST_PLACES {
-        return usize::MAX;
-    }
-    (cols / 64) as usize
 }

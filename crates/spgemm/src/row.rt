@@ -1,15 +1,16 @@
 //! One row of a product.
-ghost use Rattle.std.specs.Prelude.{◌≡◌, ℕ, length, OnOk};
+ghost use Rattle.std.specs.Prelude.{◌≡◌, ℕ, length, IfOk, OnOk};
 ghost use Rattle.store.specs.Fibers.{entries_along};
 ghost use Rattle.spgemm.specs.Dense.{AreClear, HaveRoom};
 ghost use Rattle.spgemm.specs.Products.{HasOpenRow, HasRow};
 ghost use Rattle.spgemm.specs.Terms.{terms_of_row};
 
-use crate::dense::{fit, most_sorted, sum_densely};
+use crate::dense::{MOST_PLACES, fit, sum_densely};
 use crate::expand::expand;
+use crate::span::dense_span;
 use crate::sums::sum_runs;
 use crate::term::Term;
-use algebra::{BinaryOp, Semiring};
+use algebra::{BinaryOp, Semiring, with_semiring};
 use model::NoMemory;
 use std::alloc::Global;
 use store::{FiberLists, Row, Store};
@@ -35,10 +36,22 @@ impl Scratch {
             sums: Vec::new(alloc),
         }
     }
+
+    /// Memory for rows of so many columns. The sums have their places at once where these are few beside the
+    /// entries that a product goes along anyhow.
+    pub(crate) fn for_rows(alloc: Global, cols: u64, entries: usize) -> Result<Scratch, NoMemory>
+        ensures room { IfOk result (λ scratch. HaveRoom scratch.bits.items scratch.sums.items) }
+        ensures none { IfOk result (λ scratch. AreClear scratch.bits.items) }
+    {
+        let mut scratch = Scratch::new(alloc);
+        if cols <= MOST_PLACES && cols as usize / 8 <= entries {
+            fit(&mut scratch.bits, &mut scratch.sums, cols)?;
+        }
+        Ok(scratch)
+    }
 }
 
 /// Puts the row of the product with B that a row of A gives behind the rows in the lists.
-#[inline(always)]
 pub(crate) fn multiply_row(
     lists: &mut FiberLists,
     scratch: &mut Scratch,
@@ -60,8 +73,8 @@ pub(crate) fn multiply_row(
 }
 
 /// Puts the sums of the row of the product with B that a row of A gives behind the inner indices and words.
-/// Where there are many products beside the columns it sums in a place for each column, else it sorts them.
-#[inline(always)]
+/// Where there are many products beside the columns, or beside those that they span, it sums in a place for each
+/// column, else it sorts them.
 pub(crate) fn sum_row(
     lists: &mut FiberLists,
     scratch: &mut Scratch,
@@ -79,12 +92,47 @@ pub(crate) fn sum_row(
     ensures none { OnOk result (AreClear scratch.new.bits.items) }
 {
     let Scratch { terms, bits, sums } = scratch;
-    let done = expand(terms, row, b, semiring.multiply, most_sorted(b.cols()))?;
-    if done == row.cols.len() {
-        return sum_sorted(lists, terms, semiring.add.op);
+    if let Some(span) = dense_span(row, b, sums.len()) {
+        fit(bits, sums, b.cols())?;
+        return sum_densely(lists, bits, sums, row, b, semiring, span);
     }
-    fit(bits, sums, b.cols())?;
-    sum_densely(lists, bits, sums, terms, row, done, b, semiring)
+    sum_by_sorting(lists, terms, row, b, semiring)
+}
+
+/// The same, by sorting.
+#[tactic(auto, using(crate::proofs::Arms::same_open_ok))]
+fn sum_by_sorting(
+    lists: &mut FiberLists,
+    terms: &mut Vec<Term>,
+    row: Row<'_>,
+    b: &Store,
+    semiring: Semiring,
+) -> Result<(), NoMemory>
+    requires { length row.words.now ≡ length row.cols.now }
+    ensures { OnOk result (HasOpenRow semiring.add.op row.entry.index
+        (terms_of_row semiring.multiply (entries_along row.entry.index row.entry.cols.now row.entry.words.now) b.now)
+        lists.old lists.new) }
+{
+    // All that runs below the arms is inlined, so that its loops are compiled for each.
+    with_semiring!(semiring, |own| sum_by_sorting_by(lists, terms, row, b, own))
+}
+
+/// What `sum_by_sorting` does, by one semiring of its arms.
+#[inline(always)]
+fn sum_by_sorting_by(
+    lists: &mut FiberLists,
+    terms: &mut Vec<Term>,
+    row: Row<'_>,
+    b: &Store,
+    semiring: Semiring,
+) -> Result<(), NoMemory>
+    requires { length row.words.now ≡ length row.cols.now }
+    ensures { OnOk result (HasOpenRow semiring.add.op row.entry.index
+        (terms_of_row semiring.multiply (entries_along row.entry.index row.entry.cols.now row.entry.words.now) b.now)
+        lists.old lists.new) }
+{
+    expand(terms, row, b, semiring.multiply)?;
+    sum_sorted(lists, terms, semiring.add.op)
 }
 
 /// Puts the sums of terms behind the inner indices and words. It sorts the terms.

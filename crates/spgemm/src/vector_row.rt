@@ -29,7 +29,6 @@ fn complement_of_nothing<'a>() -> MaskView<'a>
 }
 
 /// Puts a part of the row of the product with A that a row gives behind the rows in the lists.
-#[inline(always)]
 pub(crate) fn multiply_part(
     lists: &mut FiberLists,
     scratch: &mut Scratch,
@@ -57,7 +56,6 @@ pub(crate) fn multiply_part(
 
 /// Puts a part of the row of the product with A that a row gives, at the columns that a mask with this
 /// store lets through, behind the rows in the lists.
-#[inline(always)]
 pub(crate) fn multiply_part_under(
     lists: &mut FiberLists,
     room: &mut Room,

@@ -1,18 +1,18 @@
 use Rattle.std.proofs.Common.{◌≡◌, ◌*◌, ◌<◌, ◌≤◌, ◌∙◌, ap, append-nil, append_assoc, arith, get_or, length, refl, set, sym, inl, inr, ltb}
 use Rattle.std.proofs.lemmas.Bool.{cases_Bool, cases_eq}
 use Rattle.std.proofs.lemmas.Bool.Decides.{nat_tests}
-use Rattle.std.proofs.lemmas.List.{get_or-set_other, get_or-set_same, get_or_past, map-append}
+use Rattle.std.proofs.lemmas.List.{get_or-set_other, get_or-set_same, map-append}
 use Rattle.spgemm.specs.Dense.{found, word_by, word_in}
 use Rattle.spgemm.specs.declared.term.Term.{Term}
-use Rattle.spgemm.proofs.DenseLaws.{found_next, found_zero}
+use Rattle.spgemm.proofs.DenseLaws.{all_before, found_next, none_before}
 use Rattle.spgemm.proofs.dense.gather.Goals as goal
 
 pub loop-at-init : goal.loop-at-init
 loop-at-init c = record {
   ends = refl;
-  inner = rw (found_zero (word_in c.args.bits.now c.args.words.now) 0) (sym (append-nil _));
-  words = rw (found_zero (word_in c.args.bits.now c.args.words.now) 0) (sym (append-nil _));
-  clear = λ k less. absurd (omega arith);
+  inner = rw (none_before c.args.bits.now c.args.words.now c.args.span.start c.requires.before) (sym (append-nil _));
+  words = rw (none_before c.args.bits.now c.args.words.now c.args.span.start c.requires.before) (sym (append-nil _));
+  clear = c.requires.before;
   rest = λ k le. refl;
 }
 
@@ -45,5 +45,19 @@ returns-clause-clear c = λ k.
     let s = c.loop-at in
     elim (cases_Bool (ltb k s.at)) [
       | inl done ↦ s.invariant.clear k (grind (arith, nat_tests))
-      | inr past ↦ get_or_past s.bits k 0 (let le : s.at ≤ k = grind (arith, nat_tests) in omega (arith, c.loop-at-test.false))
+      | inr past ↦ let le : s.at ≤ k = grind (arith, nat_tests) in s.invariant.rest k le ∙ c.requires.behind k (omega (arith, c.loop-at-test.false))
     ]
+
+pub returns-clause-inner : goal.returns-clause-inner
+returns-clause-inner c =
+    let bits = c.args.bits.now in
+    let words = c.args.words.now in
+    let end : c.loop-at.at ≡ c.args.span.end = omega (arith, c.loop-at-test.false) in
+    c.loop-at.invariant.inner ∙ rw (end, all_before bits words c.args.span.end c.requires.room c.requires.end c.requires.behind) refl
+
+pub returns-clause-words : goal.returns-clause-words
+returns-clause-words c =
+    let bits = c.args.bits.now in
+    let words = c.args.words.now in
+    let end : c.loop-at.at ≡ c.args.span.end = omega (arith, c.loop-at-test.false) in
+    c.loop-at.invariant.words ∙ rw (end, all_before bits words c.args.span.end c.requires.room c.requires.end c.requires.behind) refl
