@@ -1,5 +1,6 @@
 //! What a mask keeps of the entries of fibers, in the same memory.
-ghost use Rattle.std.specs.Prelude.{◌≡◌, ℕ, ◌<◌, ◌≤◌, ◌-◌, ◌==◌, if◌then◌else◌, length, take, drop, slice_index, false, Some, None};
+ghost use Rattle.std.specs.Prelude.{◌≡◌, ℕ, ◌<◌, ◌≤◌, ◌-◌, ◌==◌, if◌then◌else◌, false, Some, None};
+ghost use Rattle.std.specs.Prelude.{length, take, drop, slice_index};
 ghost use Rattle.std.specs.List.{All, AllPairs};
 ghost use Rattle.model.specs.Entries.{word_at};
 ghost use Rattle.store.specs.Fibers.{AreFlat, entries_along, entries_from, entries_in};

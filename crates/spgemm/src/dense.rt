@@ -1,5 +1,6 @@
 //! The sums of a row of a product in a list with a place for each column.
-ghost use Rattle.std.specs.Prelude.{◌≡◌, ◌≢◌, ◌<◌, ◌≤◌, ◌+◌, ◌*◌, ◌/◌, ◌^◌, ◌++◌, true, if◌then◌else◌, ◌∷◌, [], ℕ, List, length, map, slice_index, take, OnOk};
+ghost use Rattle.std.specs.Prelude.{◌≡◌, ◌≢◌, ◌<◌, ◌≤◌, ◌+◌, ◌*◌, ◌/◌, ◌^◌, if◌then◌else◌, ℕ, OnOk};
+ghost use Rattle.std.specs.Prelude.{◌++◌, ◌∷◌, [], List, length, map, slice_index};
 ghost use Rattle.std.specs.List.{All};
 ghost use Rattle.algebra.specs.declared.binary.BinaryOp.{BinaryOp};
 ghost use Rattle.store.specs.Fibers.{entries_along};
