@@ -1,6 +1,5 @@
 -- Arms by literal kinds: where two semirings have the same kinds and domains, what one gives the other gives.
-use Rattle.std.proofs.Common.{Err, Ok, OnOk, Option, Result, ◌≡◌, ℕ, List, refl, ◌∙◌}
-use Rattle.algebra.specs.declared.binary.BinaryOp.{BinaryOp}
+use Rattle.std.proofs.Common.{Err, Ok, IfOk, OnOk, Option, Result, ◌≡◌, ℕ, List, refl, ◌∙◌}
 use Rattle.algebra.specs.declared.semiring.Semiring.{Semiring}
 use Rattle.model.specs.declared.entry.Entry.{Entry}
 use Rattle.model.specs.declared.memory.NoMemory.{NoMemory}
@@ -8,33 +7,34 @@ use Rattle.store.specs.declared.lists.FiberLists.{FiberLists}
 use Rattle.store.specs.Stored.{Stored}
 use Rattle.spgemm.specs.Dense.{AreColumnSums}
 use Rattle.spgemm.specs.Slots.{AreSlotSums}
-use Rattle.spgemm.specs.Products.{HasOpenRow}
-use Rattle.spgemm.specs.Terms.{terms_of_row}
+use Rattle.spgemm.specs.Products.{HasSums}
+use Rattle.spgemm.specs.declared.term.Term.{Term}
+use Rattle.spgemm.specs.Terms.{AreFirstTerms, terms_of_row}
 
 -- an operator computes by its kind and its domain alone
-pub same_open : (own op own_multiply multiply : BinaryOp) (index : ℕ) (row : List Entry) (b : Stored) (old new : FiberLists) → own.kind ≡ op.kind → own.domain ≡ op.domain → own_multiply.kind ≡ multiply.kind → own_multiply.domain ≡ multiply.domain
-    → HasOpenRow own index (terms_of_row own_multiply row b) old new → HasOpenRow op index (terms_of_row multiply row b) old new
-same_open own op own_multiply multiply index row b old new kind domain multiply_kind multiply_domain here =
-    let terms : terms_of_row own_multiply row b ≡ terms_of_row multiply row b = rw (multiply_kind, multiply_domain) refl in
-    record {
-      cols = here.cols;
-      added = here.added;
-      sums = record {
-        lengths = here.sums.lengths;
-        rising = here.sums.rising;
-        columns = rw terms at here.sums.columns;
-        words_are = λ col. here.sums.words_are col ∙ rw (kind, domain, terms) refl;
-      };
-      inner = here.inner;
-      words = here.words;
-      ends = here.ends;
-    }
+pub same_terms : (r : Result ℕ NoMemory) (own semiring : Semiring) (row : List Entry) (b : Stored) (terms : List Term) → IfOk r (AreFirstTerms own.multiply row b terms) → own.multiply.kind ≡ semiring.multiply.kind → own.multiply.domain ≡ semiring.multiply.domain
+    → IfOk r (AreFirstTerms semiring.multiply row b terms)
+same_terms (Err e) own semiring row b terms here kind domain = tt
+same_terms (Ok done) own semiring row b terms here kind domain = record { are_those = here.are_those ∙ rw (kind, domain) refl }
 
-pub same_open_ok : (r : Result (Unit {0}) NoMemory) (own semiring : Semiring) (index : ℕ) (row : List Entry) (b : Stored) (old new : FiberLists)
-    → OnOk r (HasOpenRow own.add.op index (terms_of_row own.multiply row b) old new) → own.add.op.kind ≡ semiring.add.op.kind → own.add.op.domain ≡ semiring.add.op.domain → own.multiply.kind ≡ semiring.multiply.kind → own.multiply.domain ≡ semiring.multiply.domain
-    → OnOk r (HasOpenRow semiring.add.op index (terms_of_row semiring.multiply row b) old new)
-same_open_ok (Err e) own semiring index row b old new here kind domain multiply_kind multiply_domain = tt
-same_open_ok (Ok u) own semiring index row b old new here kind domain multiply_kind multiply_domain = same_open own.add.op semiring.add.op own.multiply semiring.multiply index row b old new kind domain multiply_kind multiply_domain here
+pub same_runs : (r : Result (Unit {0}) NoMemory) (own semiring : Semiring) (terms : List Term) (old new : FiberLists) → OnOk r (HasSums own.add.op terms old new) → own.add.op.kind ≡ semiring.add.op.kind → own.add.op.domain ≡ semiring.add.op.domain
+    → OnOk r (HasSums semiring.add.op terms old new)
+same_runs (Err e) own semiring terms old new here kind domain = tt
+same_runs (Ok u) own semiring terms old new here kind domain = record {
+  sums = here.sums;
+  are_sums = record {
+    rising = here.are_sums.rising;
+    columns = here.are_sums.columns;
+    words = λ col. here.are_sums.words col ∙ rw (kind, domain) refl;
+  };
+  ends = here.ends;
+  inner = here.inner;
+  words = here.words;
+}
+
+pub same_term_sums : (own semiring : Semiring) (terms : List Term) (bits words : List ℕ) → AreColumnSums own.add.op terms bits words → own.add.op.kind ≡ semiring.add.op.kind → own.add.op.domain ≡ semiring.add.op.domain
+    → AreColumnSums semiring.add.op terms bits words
+same_term_sums own semiring terms bits words here kind domain = record { sums_are = λ col within. here.sums_are col within ∙ rw (kind, domain) refl }
 
 pub same_sums : (own semiring : Semiring) (row : List Entry) (b : Stored) (bits words : List ℕ) → AreColumnSums own.add.op (terms_of_row own.multiply row b) bits words
     → own.add.op.kind ≡ semiring.add.op.kind → own.add.op.domain ≡ semiring.add.op.domain → own.multiply.kind ≡ semiring.multiply.kind → own.multiply.domain ≡ semiring.multiply.domain

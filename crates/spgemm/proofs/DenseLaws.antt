@@ -259,6 +259,13 @@ pub dense_open_ok : (r : Result (Unit {0}) NoMemory) (op : BinaryOp) (index : �
 dense_open_ok (Err e) op index terms bits words old new inside here same put_inner put_words = tt
 dense_open_ok (Ok u) op index terms bits words old new inside here same put_inner put_words = dense_open op index terms bits words old new inside here same put_inner put_words
 
+-- the same, whatever the index
+pub dense_open_each : (r : Result (Unit {0}) NoMemory) (op : BinaryOp) (terms : List Term) (bits words : List ℕ) (old new : FiberLists) → All (λ t. t.col < length words) terms → AreColumnSums op terms bits words
+    → OnOk r (new.ends ≡ old.ends) → OnOk r (new.inner.items ≡ old.inner.items ++ map (λ s. s.col) (found (word_in bits words) 0 (length words))) → OnOk r (new.words.items ≡ old.words.items ++ map (λ s. s.word) (found (word_in bits words) 0 (length words)))
+    → OnOk r ((index : ℕ) → HasOpenRow op index terms old new)
+dense_open_each (Err e) op terms bits words old new inside here same put_inner put_words = tt
+dense_open_each (Ok u) op terms bits words old new inside here same put_inner put_words = λ index. dense_open op index terms bits words old new inside here same put_inner put_words
+
 pub below_width : (op : BinaryOp) (row : List Entry) (b : Stored) (width : ℕ) → b.cols ≤ width → All (λ t. t.col < width) (terms_of_row op row b)
 below_width op row b width fits = All-weaker (λ t. t.col < b.cols) (λ t. t.col < width) (λ t less. omega arith) (terms_of_row op row b) (terms_inside op row b)
 

@@ -1,15 +1,15 @@
 //! The sums of a row of a product in a list with a place for each column.
-ghost use Rattle.std.specs.Prelude.{◌≡◌, ◌≢◌, ◌<◌, ◌≤◌, ◌+◌, ◌*◌, ◌/◌, ◌^◌, if◌then◌else◌, ℕ, OnOk};
-ghost use Rattle.std.specs.Prelude.{◌++◌, ◌∷◌, [], List, length, map, slice_index};
+ghost use Rattle.std.specs.Prelude.{◌≡◌, ◌≢◌, ◌<◌, ◌≤◌, ◌+◌, ◌*◌, ◌/◌, ◌^◌, if◌then◌else◌, ℕ, true, IfSome, OnOk};
+ghost use Rattle.std.specs.Prelude.{◌++◌, ◌∷◌, [], List, length, map, slice_index, take};
 ghost use Rattle.std.specs.List.{All};
 ghost use Rattle.algebra.specs.declared.binary.BinaryOp.{BinaryOp};
 ghost use Rattle.store.specs.Fibers.{entries_along};
-ghost use Rattle.spgemm.specs.Dense.{AreClear, AreColumnSums, HaveRoom, found, word_by, word_in};
+ghost use Rattle.spgemm.specs.Dense.{AreClear, AreColumnSums, HaveRoom, found, has_bit, word_by, word_in};
 ghost use Rattle.spgemm.specs.Products.{HasOpenRow};
-ghost use Rattle.spgemm.specs.Terms.{term_at, terms_of_row, times_row};
+ghost use Rattle.spgemm.specs.Terms.{AreFirstTerms, term_at, terms_of_row, times_row};
 ghost use Rattle.spgemm.specs.declared.term.Term.{Term};
 
-use crate::bits::{has_bit, set_bit};
+use crate::bits::{full_words, has_bit, set_bit};
 use crate::sums::push_sum;
 use crate::term::Term;
 use algebra::{BinaryOp, Semiring, with_semiring};
@@ -17,19 +17,46 @@ use model::NoMemory;
 use std::ops::Range;
 use store::{FiberLists, Row, Store};
 
-/// Adds a word to the sum at a column.
+/// Adds a word to the sum at a column. Whether the column was met before can't be foreseen, so there is no branch:
+/// what stands at one that wasn't met is no sum. Where `met` is given, most columns were met, as all below it
+/// were, and a branch is faster.
 #[inline(always)]
-fn add_at(bits: &mut [u64], sums: &mut [u64], col: usize, word: u64, add: BinaryOp)
+fn add_at(
+    bits: &mut [u64],
+    sums: &mut [u64],
+    col: usize,
+    word: u64,
+    add: BinaryOp,
+    met: Option<usize>,
+)
     requires room { HaveRoom bits.old sums.old }
     requires inside { col < length sums.old }
+    requires met { IfSome met (λ met. (at : ℕ) → at < met → has_bit bits.old at ≡ true) }
     ensures sums { (terms : List Term) → AreColumnSums add terms bits.old sums.old
         → AreColumnSums add (terms ++ term_at col word ∷ []) bits.new sums.new }
     ensures others { (at : ℕ) → at ≢ col / 64 → slice_index bits.new at ≡ slice_index bits.old at }
+    ensures stay { (at : ℕ) → has_bit bits.old at ≡ true → has_bit bits.new at ≡ true }
 {
-    // Without a branch: whether a column was met before can't be foreseen. What stands at one that wasn't is no sum.
     let sum = add.eval(sums[col], word);
+    if is_met(bits, col, met) {
+        sums[col] = sum;
+        return;
+    }
     sums[col] = choose(has_bit(bits, col), sum, word);
     set_bit(bits, col);
+}
+
+/// Whether it is seen by a branch that a column was met.
+#[inline(always)]
+fn is_met(bits: &[u64], col: usize, met: Option<usize>) -> bool
+    requires inside { col < 64 * length bits.now }
+    requires met { IfSome met (λ met. (at : ℕ) → at < met → has_bit bits.now at ≡ true) }
+    ensures { result ≡ true → has_bit bits.now col ≡ true }
+{
+    match met {
+        Some(met) => col < met || has_bit(bits, col),
+        None => false,
+    }
 }
 
 /// One word of two.
@@ -49,63 +76,126 @@ fn add_products(
     cols: &[u64],
     words: &[u64],
     semiring: Semiring,
+    met: Option<usize>,
 )
     requires room { HaveRoom bits.old sums.old }
     requires lengths { length words.now ≡ length cols.now }
     requires inside { All (λ col. col < length sums.old) cols.now }
+    requires met { IfSome met (λ met. (at : ℕ) → at < met → has_bit bits.old at ≡ true) }
     ensures sums { (terms : List Term) → AreColumnSums semiring.add.op terms bits.old sums.old
         → AreColumnSums semiring.add.op
         (terms ++ times_row semiring.multiply word (entries_along 0 cols.now words.now)) bits.new sums.new }
-    ensures others { (at : ℕ) → All (λ t. t.col / 64 ≢ at)
-        (times_row semiring.multiply word (entries_along 0 cols.now words.now))
-        → slice_index bits.new at ≡ slice_index bits.old at }
+    ensures stay { (at : ℕ) → has_bit bits.old at ≡ true → has_bit bits.new at ≡ true }
 {
     for k in 0..cols.len() {
         let product = semiring.multiply.eval(word, words[k]);
-        add_at(bits, sums, cols[k] as usize, product, semiring.add.op);
+        add_at(bits, sums, cols[k] as usize, product, semiring.add.op, met);
     }
 }
 
-/// Makes the sums those of the products of a row of A with B, each entry times the row of B that its column
-/// names.
+/// Makes the sums those of terms.
+#[tactic(auto, using(crate::proofs::Arms::same_term_sums))]
+fn add_terms(bits: &mut [u64], sums: &mut [u64], terms: &[Term], semiring: Semiring)
+    requires room { HaveRoom bits.old sums.old }
+    requires inside { All (λ t. t.col < length sums.old) terms.now }
+    requires none { AreClear bits.old }
+    ensures sums { AreColumnSums semiring.add.op terms.now bits.new sums.new }
+    ensures others { (at : ℕ) → All (λ t. t.col / 64 ≢ at) terms.now → slice_index bits.new at ≡ 0 }
+{
+    with_semiring!(semiring, |own| add_terms_by(bits, sums, terms, own))
+}
+
+/// What `add_terms` does, by one semiring of its arms.
+#[inline(always)]
+fn add_terms_by(bits: &mut [u64], sums: &mut [u64], terms: &[Term], semiring: Semiring)
+    requires room { HaveRoom bits.old sums.old }
+    requires inside { All (λ t. t.col < length sums.old) terms.now }
+    requires none { AreClear bits.old }
+    ensures sums { AreColumnSums semiring.add.op terms.now bits.new sums.new }
+    ensures others { (at : ℕ) → All (λ t. t.col / 64 ≢ at) terms.now → slice_index bits.new at ≡ 0 }
+{
+    for term in terms {
+        add_at(
+            bits,
+            sums,
+            term.col as usize,
+            term.word,
+            semiring.add.op,
+            None,
+        );
+    }
+}
+
+/// Adds the products of a row of A with B, from an entry of that row on, each entry times the row of B that its
+/// column names. The sums are those of the entries before.
 #[tactic(auto, using(crate::proofs::Arms::same_sums))]
-fn add_row(bits: &mut [u64], sums: &mut [u64], row: Row<'_>, b: &Store, semiring: Semiring)
+fn add_rows(
+    bits: &mut [u64],
+    sums: &mut [u64],
+    row: Row<'_>,
+    from: usize,
+    b: &Store,
+    semiring: Semiring,
+)
     requires room { HaveRoom bits.old sums.old }
     requires lengths { length row.words.now ≡ length row.cols.now }
     requires inside { b.now.cols ≤ length sums.old }
-    requires none { AreClear bits.old }
-    ensures sums { AreColumnSums semiring.add.op
+    requires from { from ≤ length row.cols.now }
+    requires before { AreColumnSums semiring.add.op (terms_of_row semiring.multiply
+        (take from (entries_along row.index row.cols.now row.words.now)) b.now) bits.old sums.old }
+    ensures { AreColumnSums semiring.add.op
         (terms_of_row semiring.multiply (entries_along row.entry.index row.entry.cols.now row.entry.words.now) b.now)
         bits.new sums.new }
-    ensures others { (at : ℕ) → ((op : BinaryOp) → All (λ t. t.col / 64 ≢ at)
-        (terms_of_row op (entries_along row.entry.index row.entry.cols.now row.entry.words.now) b.now))
-        → slice_index bits.new at ≡ 0 }
 {
     // All that runs below the arms is inlined, so that its loops are compiled for each.
-    with_semiring!(semiring, |own| add_row_by(bits, sums, row, b, own))
+    with_semiring!(semiring, |own| add_rows_by(bits, sums, row, from, b, own))
 }
 
-/// What `add_row` does, by one semiring of its arms.
+/// What `add_rows` does, by one semiring of its arms.
 #[inline(always)]
-fn add_row_by(bits: &mut [u64], sums: &mut [u64], row: Row<'_>, b: &Store, semiring: Semiring)
+fn add_rows_by(
+    bits: &mut [u64],
+    sums: &mut [u64],
+    row: Row<'_>,
+    from: usize,
+    b: &Store,
+    semiring: Semiring,
+)
     requires room { HaveRoom bits.old sums.old }
     requires lengths { length row.words.now ≡ length row.cols.now }
     requires inside { b.now.cols ≤ length sums.old }
-    requires none { AreClear bits.old }
-    ensures sums { AreColumnSums semiring.add.op
+    requires from { from ≤ length row.cols.now }
+    requires before { AreColumnSums semiring.add.op (terms_of_row semiring.multiply
+        (take from (entries_along row.index row.cols.now row.words.now)) b.now) bits.old sums.old }
+    ensures { AreColumnSums semiring.add.op
         (terms_of_row semiring.multiply (entries_along row.entry.index row.entry.cols.now row.entry.words.now) b.now)
         bits.new sums.new }
-    ensures others { (at : ℕ) → ((op : BinaryOp) → All (λ t. t.col / 64 ≢ at)
-        (terms_of_row op (entries_along row.entry.index row.entry.cols.now row.entry.words.now) b.now))
-        → slice_index bits.new at ≡ 0 }
 {
+    let many = sums.len() / COLUMNS_AN_ENTRY;
+    let mut full = 0;
     let mut hint = 0;
-    for k in 0..row.cols.len() {
+    for k in from..row.cols.len() {
         let (cols, words, next) = b.row_near(row.cols[k], hint);
         hint = next;
-        add_products(bits, sums, row.words[k], cols, words, semiring);
+        if cols.len() > many {
+            add_products(
+                bits,
+                sums,
+                row.words[k],
+                cols,
+                words,
+                semiring,
+                Some(64 * full),
+            );
+            full = full_words(bits, full);
+        } else {
+            add_products(bits, sums, row.words[k], cols, words, semiring, None);
+        }
     }
 }
+
+/// Where a row of B has an entry for each so many columns, most of its columns were met in rows before it.
+const COLUMNS_AN_ENTRY: usize = 8;
 
 /// Puts the words of 64 places that have their bits set behind the inner indices and words, in order.
 #[inline]
@@ -174,30 +264,55 @@ fn gather(
 }
 
 /// Puts the sums of the row of the product with B that a row of A gives behind the inner indices and words, where
-/// the bits of its columns lie in a span. It sums in a place for each column, and leaves all bits clear.
+/// the products of the first `done` entries of the row are `terms`. It sums in a place for each column, and leaves
+/// all bits clear.
 pub(crate) fn sum_densely(
     lists: &mut FiberLists,
     bits: &mut [u64],
     sums: &mut [u64],
+    terms: &[Term],
     row: Row<'_>,
+    done: usize,
     b: &Store,
     semiring: Semiring,
-    span: Range<usize>,
 ) -> Result<(), NoMemory>
     requires room { HaveRoom bits.old sums.old }
     requires lengths { length row.words.now ≡ length row.cols.now }
     requires inside { b.now.cols ≤ length sums.old }
     requires none { AreClear bits.old }
-    requires order { span.start ≤ span.end }
-    requires end { span.end ≤ length bits.old }
-    requires span { (op : BinaryOp) → All (λ t. (span.start ≤ t.col / 64) × (t.col / 64 < span.end))
-        (terms_of_row op (entries_along row.index row.cols.now row.words.now) b.now) }
+    requires done { done ≤ length row.cols.now }
+    requires terms { AreFirstTerms semiring.multiply (entries_along row.index row.cols.now row.words.now) b.now
+        terms.now done }
     ensures row { OnOk result (HasOpenRow semiring.add.op row.entry.index
         (terms_of_row semiring.multiply (entries_along row.entry.index row.entry.cols.now row.entry.words.now) b.now)
         lists.old lists.new) }
     ensures clear { OnOk result (AreClear bits.new) }
 {
-    add_row(bits, sums, row, b, semiring);
+    add_terms(bits, sums, terms, semiring);
+    add_rows(bits, sums, row, done, b, semiring);
+    gather(lists, bits, sums, 0..bits.len())
+}
+
+/// Puts the sums of terms behind the inner indices and words, where the bits of their columns lie in a span. It
+/// sums in a place for each column, and leaves all bits clear.
+pub(crate) fn sum_in_span(
+    lists: &mut FiberLists,
+    bits: &mut [u64],
+    sums: &mut [u64],
+    terms: &[Term],
+    span: Range<usize>,
+    semiring: Semiring,
+) -> Result<(), NoMemory>
+    requires room { HaveRoom bits.old sums.old }
+    requires inside { All (λ t. t.col < length sums.old) terms.now }
+    requires none { AreClear bits.old }
+    requires order { span.start ≤ span.end }
+    requires end { span.end ≤ length bits.old }
+    requires span { All (λ t. (span.start ≤ t.col / 64) × (t.col / 64 < span.end)) terms.now }
+    ensures row { OnOk result ((index : ℕ) → HasOpenRow semiring.add.op index terms.now lists.old lists.new) }
+    ensures clear { OnOk result (AreClear bits.new) }
+{
+    add_terms(bits, sums, terms, semiring);
     gather(lists, bits, sums, span)
 }
 

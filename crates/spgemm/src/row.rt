@@ -5,12 +5,12 @@ ghost use Rattle.spgemm.specs.Dense.{AreClear, HaveRoom};
 ghost use Rattle.spgemm.specs.Products.{HasOpenRow, HasRow};
 ghost use Rattle.spgemm.specs.Terms.{terms_of_row};
 
-use crate::dense::{MOST_PLACES, fit, sum_densely};
+use crate::dense::{MOST_PLACES, fit, sum_densely, sum_in_span};
 use crate::expand::expand;
-use crate::span::dense_span;
+use crate::span::{most_collected, pays, span_of};
 use crate::sums::sum_runs;
 use crate::term::Term;
-use algebra::{BinaryOp, Semiring, with_semiring};
+use algebra::Semiring;
 use model::NoMemory;
 use std::alloc::Global;
 use store::{FiberLists, Row, Store};
@@ -92,54 +92,26 @@ pub(crate) fn sum_row(
     ensures none { OnOk result (AreClear scratch.new.bits.items) }
 {
     let Scratch { terms, bits, sums } = scratch;
-    if let Some(span) = dense_span(row, b, sums.len()) {
+    let done = expand(terms, row, b, semiring, most_collected(b.cols()))?;
+    if done < row.cols.len() {
         fit(bits, sums, b.cols())?;
-        return sum_densely(lists, bits, sums, row, b, semiring, span);
+        return sum_densely(lists, bits, sums, terms, row, done, b, semiring);
     }
-    sum_by_sorting(lists, terms, row, b, semiring)
-}
-
-/// The same, by sorting.
-#[tactic(auto, using(crate::proofs::Arms::same_open_ok))]
-fn sum_by_sorting(
-    lists: &mut FiberLists,
-    terms: &mut Vec<Term>,
-    row: Row<'_>,
-    b: &Store,
-    semiring: Semiring,
-) -> Result<(), NoMemory>
-    requires { length row.words.now ≡ length row.cols.now }
-    ensures { OnOk result (HasOpenRow semiring.add.op row.entry.index
-        (terms_of_row semiring.multiply (entries_along row.entry.index row.entry.cols.now row.entry.words.now) b.now)
-        lists.old lists.new) }
-{
-    // All that runs below the arms is inlined, so that its loops are compiled for each.
-    with_semiring!(semiring, |own| sum_by_sorting_by(lists, terms, row, b, own))
-}
-
-/// What `sum_by_sorting` does, by one semiring of its arms.
-#[inline(always)]
-fn sum_by_sorting_by(
-    lists: &mut FiberLists,
-    terms: &mut Vec<Term>,
-    row: Row<'_>,
-    b: &Store,
-    semiring: Semiring,
-) -> Result<(), NoMemory>
-    requires { length row.words.now ≡ length row.cols.now }
-    ensures { OnOk result (HasOpenRow semiring.add.op row.entry.index
-        (terms_of_row semiring.multiply (entries_along row.entry.index row.entry.cols.now row.entry.words.now) b.now)
-        lists.old lists.new) }
-{
-    expand(terms, row, b, semiring.multiply)?;
-    sum_sorted(lists, terms, semiring.add.op)
+    let span = span_of(terms);
+    if pays(&span, terms.len(), b.cols(), sums.len()) {
+        return sum_in_span(lists, bits, sums, terms, span, semiring);
+    }
+    sum_sorted(lists, terms, semiring)
 }
 
 /// Puts the sums of terms behind the inner indices and words. It sorts the terms.
-#[inline(always)]
-fn sum_sorted(lists: &mut FiberLists, terms: &mut Vec<Term>, add: BinaryOp) -> Result<(), NoMemory>
-    ensures { OnOk result ((index : ℕ) → HasOpenRow add index terms.old.items lists.old lists.new) }
+fn sum_sorted(
+    lists: &mut FiberLists,
+    terms: &mut Vec<Term>,
+    semiring: Semiring,
+) -> Result<(), NoMemory>
+    ensures { OnOk result ((index : ℕ) → HasOpenRow semiring.add.op index terms.old.items lists.old lists.new) }
 {
     terms.sort_by_key(|term| term.col)?;
-    sum_runs(lists, terms, add)
+    sum_runs(lists, terms, semiring)
 }

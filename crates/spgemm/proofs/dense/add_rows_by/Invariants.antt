@@ -1,0 +1,12 @@
+use Rattle.std.proofs.Common.{◌≡◌, ◌*◌, ◌<◌, ◌≤◌, ℕ, length, take, true}
+use Rattle.store.specs.Fibers.{entries_along}
+use Rattle.spgemm.specs.Dense.{AreColumnSums, has_bit}
+use Rattle.spgemm.specs.Terms.{terms_of_row}
+use Rattle.spgemm.proofs.dense.add_rows_by.Given as goal
+
+abbrev pub invariant-loop-k : goal.invariant-loop-k
+invariant-loop-k l = record {
+  sums : AreColumnSums l.semiring.add.op (terms_of_row l.semiring.multiply (take l.k (entries_along l.row.index l.row.cols.now l.row.words.now)) l.b) l.bits l.sums;
+  bound : l.full ≤ length l.bits;
+  full : (at : ℕ) → at < 64 * l.full → has_bit l.bits at ≡ true;
+}

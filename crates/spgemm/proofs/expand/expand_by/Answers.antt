@@ -1,0 +1,11 @@
+use Rattle.std.proofs.Common.{◌∙◌, arith, sym}
+use Rattle.spgemm.proofs.Terms.{row_more}
+use Rattle.spgemm.proofs.expand.expand_by.Goals as goal
+
+pub loop-done-preserved : goal.loop-done-preserved
+loop-done-preserved c =
+    let more = row_more c.args.semiring.multiply c.args.b.now c.args.row.index c.args.row.cols.now c.args.row.words.now c.loop-done.done c.row_near-next.result.0.now c.row_near-next.result.1.now c.requires c.loop-done-test.true c.row_near-next.ensures.entries in
+    record {
+      terms = c.in_ok-append_products.ensures ∙ rw c.loop-done.invariant.terms (sym more);
+      bound = omega (arith, c.loop-done-test.true);
+    }
