@@ -65,6 +65,19 @@ row_are cols c i = λ k d within.
     let there : cond (ltb s.col cols) (c i s.col) None ≡ Some s.word = sym (word_at-row_entries cols c i s.col) ∙ ap (λ r. word_at (row_entries cols c i) r s.col) (sym at.0) ∙ is in
     (less, rw in_it at there)
 
+empty : (xs : List Entry) (P : Entry → Type 0) → ((x : Entry) → P x → ⊥) → All P xs → xs ≡ []
+empty [] P none all = refl
+empty (x ∷ xs) P none all = absurd (none x (All-head P x xs all))
+
+-- a column that isn't listed has no place
+pub no_places : (cols : List ℕ) (n : ℕ) (places : Content) (col : ℕ) → ((i j : ℕ) → places i j ≡ index_content cols i j) → ((k : ℕ) → k < length cols → get_or cols k 0 ≢ col) → row_entries n places col ≡ []
+no_places cols n places col agree other =
+    empty (row_entries n places col) (λ s. (s.col < n) × (places col s.col ≡ Some s.word))
+    (λ s p.
+    let at : slice_get cols s.col ≡ Some col = column_of (slice_get cols s.col) col s.word (sym (agree col s.col) ∙ p.1) in
+    other s.col (slice_get_within cols s.col col at) (get_or_from_slice_get cols s.col col 0 at))
+    (row_are n places col)
+
 -- ---- one row
 
 -- the map of a row's words at listed columns
@@ -254,11 +267,11 @@ places_whole size cols k i j es all here none =
 -- ---- what the code appends
 
 -- the columns of a row's entries, as entries of another row
-pub along_cols : (index w row : ℕ) (cs ws : List ℕ) → length ws ≡ length cs → map (λ (s : Entry). entry_at index s.col w) (entries_along row cs ws) ≡ map (λ col. entry_at index col w) cs
-along_cols index w row [] [] same = refl
-along_cols index w row [] (v ∷ ws) same = absurd (omega arith)
-along_cols index w row (c ∷ cs) [] same = absurd (omega arith)
-along_cols index w row (c ∷ cs) (v ∷ ws) same = ap (λ es. entry_at index c w ∷ es) (along_cols index w row cs ws (omega arith))
+pub cols_along : (row : ℕ) (cs ws : List ℕ) → length ws ≡ length cs → map (λ (s : Entry). s.col) (entries_along row cs ws) ≡ cs
+cols_along row [] [] same = refl
+cols_along row [] (v ∷ ws) same = absurd (omega arith)
+cols_along row (c ∷ cs) [] same = absurd (omega arith)
+cols_along row (c ∷ cs) (v ∷ ws) same = ap (λ cs. c ∷ cs) (cols_along row cs ws (omega arith))
 
 -- one entry more
 pub collected_step : (index n k : ℕ) (places : Content) (es old now found : List Entry) (d : Entry) → k < length es → now ≡ old ++ collected index n places (take k es) → found ≡ map (λ (s : Entry). entry_at index s.col (get_or es k d).word) (row_entries n places (get_or es k d).col)

@@ -1,13 +1,12 @@
 -- Walks along the rows of a store: what is left of the map.
-use Rattle.std.proofs.Common.{◌≡◌, ◌≢◌, ℕ, ◌+◌, ◌<◌, ◌≤◌, Bool, true, false, cond, ◌&&◌, eqb, ltb, List, [], ◌∷◌, ◌++◌, length, zero, suc, get_or, Option, Some, None, refl, sym, ◌∙◌, ap, subst, inl, inr, arith}
-use Rattle.std.specs.Option.{option_map, option_to_list}
-use Rattle.std.specs.List.{All, cons_option, filter, filter_map}
+use Rattle.std.proofs.Common.{◌≡◌, ◌≢◌, ℕ, ◌+◌, ◌<◌, ◌≤◌, false, cond, ◌&&◌, ltb, List, [], ◌++◌, length, get_or, None, refl, sym, ◌∙◌, ap, subst, inl, inr, arith}
+use Rattle.std.specs.List.{All}
 use Rattle.std.proofs.lemmas.Bool.Decides.{nat_tests}
-use Rattle.std.proofs.lemmas.Bool.{cases_lt, cases_Bool, eq-eqb, eqb-true, ne_eqb, false≢true}
+use Rattle.std.proofs.lemmas.Bool.{cases_lt, cases_Bool}
 use Rattle.std.proofs.lemmas.List.{get_or_default}
-use Rattle.std.proofs.lemmas.List.Elements.{All-cons, All-head, All-nil, All-tail, All-weaker}
+use Rattle.std.proofs.lemmas.List.Elements.{All-weaker}
 use Rattle.model.specs.declared.entry.Entry.{Entry}
-use Rattle.model.specs.Entries.{InOrder, IsInside, Precedes, count_from, entries_between, entry_at, row_entries, word_at}
+use Rattle.model.specs.Entries.{InOrder, IsInside, entries_between, entry_at, row_entries, word_at}
 use Rattle.model.specs.Object.{Content, IsWithin}
 use Rattle.store.specs.Fibers.{entries_along}
 use Rattle.store.specs.Stored.{AreIn}
@@ -15,11 +14,10 @@ use Rattle.store.specs.Walks.{IsFirstRow}
 use Rattle.shapes.specs.Rows.{IsRowOf, IsWalk}
 use Rattle.store.proofs.Content.{word_at-in_row}
 use Rattle.store.proofs.FlatLaws.{all_rows}
-use Rattle.store.proofs.Order.{all_append_left, all_append_right, all_pairs_cons, all_pairs_nil}
+use Rattle.store.proofs.Order.{all_append_left, all_append_right}
 use Rattle.store.proofs.Walks.{cols_rise}
 use Rattle.store.proofs.PartLaws.{none_there, word_before, word_behind}
 use Rattle.store.proofs.Places.{length_row, row_at}
-use Rattle.store.proofs.Positions.{word_at-here, word_at-skip}
 use Rattle.store.proofs.RowEntries.{entries_between-inside, entries_between-row, row_entries-inside}
 use Rattle.store.proofs.RowWords.{columns_rise, no_column, word_at-row_entries}
 

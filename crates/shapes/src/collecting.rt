@@ -5,8 +5,9 @@ ghost use Rattle.model.specs.Indices.{All, These, are_below};
 ghost use Rattle.model.specs.Regions.{extracted};
 ghost use Rattle.store.specs.Fibers.{entries_along};
 ghost use Rattle.store.specs.Stored.{block_content, content_of};
-ghost use Rattle.shapes.specs.Collects.{collected, index_content};
+ghost use Rattle.shapes.specs.Collects.{collected};
 
+use crate::places::Places;
 use crate::rows::{find_row, walk_rows};
 use model::{Entry, NoMemory};
 use patch::gather;
@@ -31,7 +32,7 @@ pub(crate) fn collect_all(
     ensures words { IfOk result (λ block. (i j : ℕ) → range.start ≤ i → i < range.end → block_content block i j
         ≡ extracted a.now.rows a.now.cols All (These cols.now) (content_of a.now) i j) }
 {
-    let places = place_columns(alloc, a.cols(), cols)?;
+    let places = Places::new(alloc, a.cols(), cols)?;
     let mut entries = Vec::new(alloc);
     let mut rest = walk_rows(a, range.start..range.end);
     while let Some((row, others)) = rest.split_first() {
@@ -59,7 +60,7 @@ pub(crate) fn collect_listed(
     ensures words { IfOk result (λ block. (i j : ℕ) → range.start ≤ i → i < range.end → block_content block i j
         ≡ extracted a.now.rows a.now.cols (These rows.now) (These cols.now) (content_of a.now) i j) }
 {
-    let places = place_columns(alloc, a.cols(), cols)?;
+    let places = Places::new(alloc, a.cols(), cols)?;
     let mut entries = Vec::new(alloc);
     for index in range.start..range.end {
         let (row_cols, words) = find_row(a, rows[index as usize]);
@@ -68,40 +69,21 @@ pub(crate) fn collect_listed(
     gather(alloc, entries, None, range, cols.len() as u64)
 }
 
-/// The places of a list's columns as a store, in the row of each column.
-fn place_columns(alloc: Global, size: u64, cols: &[u64]) -> Result<Store, NoMemory>
-    requires { are_below size (These cols.now) ≡ true }
-    ensures cols { IfOk result (λ places. places.cols ≡ length cols.now) }
-    ensures content { IfOk result (λ places. (i j : ℕ) → content_of places i j ≡ index_content cols.now i j) }
-{
-    let mut entries = Vec::with_capacity(alloc, cols.len())?;
-    for k in 0..cols.len() {
-        entries.push(Entry {
-            row: cols[k],
-            col: k as u64,
-            word: 0,
-        })?;
-    }
-    let block = gather(alloc, entries, None, 0..size, cols.len() as u64)?;
-    Ok(Store::from_block(size, block))
-}
-
-/// Puts what a row has at the columns that stand in a store of places, as entries of another row, behind
-/// the entries.
+/// Puts what a row has at listed columns, as entries of another row, behind the entries.
 fn collect_row(
     entries: &mut Vec<Entry>,
     index: u64,
     cols: &[u64],
     words: &[u64],
-    places: &Store,
+    places: &Places,
 ) -> Result<(), NoMemory>
     requires { length words.now ≡ length cols.now }
     ensures { OnOk result (entries.new.items ≡ entries.old.items
-        ++ collected index places.now.cols (content_of places.now) (entries_along 0 cols.now words.now)) }
+        ++ collected index places.now.store.cols (content_of places.now.store)
+        (entries_along 0 cols.now words.now)) }
 {
     for k in 0..cols.len() {
-        let (found, _) = places.row(cols[k]);
-        put_word(entries, index, found, words[k])?;
+        put_word(entries, index, places.of(cols[k]), words[k])?;
     }
     Ok(())
 }

@@ -10,6 +10,7 @@ mod filling;
 mod finding;
 mod listing;
 mod members;
+mod places;
 mod putting;
 mod resizing;
 mod rows;

@@ -22,7 +22,7 @@ loop-index-preserved c =
     let made = extracted a.rows a.cols (These rows) (These cols) (content_of a) in
     let index = c.loop-index.index in
     let places = c.in_ok-places.places in
-    rw (c.in_ok-collect_row.ensures, c.in_ok-places.ensures.cols) (collected_more (content_of a) made c.args.range.start index c.args.range.end (get_or rows index 0) a.cols (length cols) (content_of places) cols c.find_row.result.0.now c.find_row.result.1.now c.loop-index.entries.items
+    rw (c.in_ok-collect_row.ensures, c.in_ok-places.ensures.cols) (collected_more (content_of a) made c.args.range.start index c.args.range.end (get_or rows index 0) a.cols (length cols) (content_of places.store) cols c.find_row.result.0.now c.find_row.result.1.now c.loop-index.entries.items
     (record { fits = refl; agree = c.in_ok-places.ensures.content }) c.loop-index-test.true c.find_row.ensures
     (λ j. row_of_these a.rows a.cols rows (These cols) (content_of a) index j (omega (arith, c.loop-index-test.true, c.requires.end))) c.loop-index.invariant)
 

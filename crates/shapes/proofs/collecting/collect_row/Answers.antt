@@ -1,12 +1,13 @@
-use Rattle.std.proofs.Common.{◌≡◌, ◌∙◌, ◌++◌, ℕ, ap, arith, get_or, map, sym}
+use Rattle.std.proofs.Common.{◌≡◌, ◌∙◌, ◌++◌, ℕ, ap, arith, get_or, map}
 use Rattle.std.proofs.lemmas.List.{take_all}
+use Rattle.std.proofs.lemmas.Simd.{map-map}
 use Rattle.model.specs.declared.entry.Entry.{Entry}
 use Rattle.model.specs.Entries.{entry_at, row_entries}
 use Rattle.store.specs.Fibers.{entries_along}
 use Rattle.store.specs.Stored.{content_of}
 use Rattle.store.proofs.Places.{length_row, row_at}
 use Rattle.shapes.specs.Collects.{collected}
-use Rattle.shapes.proofs.ColumnPlaces.{along_cols, collected_step}
+use Rattle.shapes.proofs.ColumnPlaces.{collected_step}
 use Rattle.shapes.proofs.collecting.collect_row.Goals as goal
 
 pub loop-k-preserved : goal.loop-k-preserved
@@ -16,17 +17,18 @@ loop-k-preserved c =
     let es = entries_along 0 cs ws in
     let k = c.loop-k.k in
     let d = entry_at 0 0 0 in
-    let n = c.args.places.now.cols in
-    let places = content_of c.args.places.now in
+    let n = c.args.places.now.store.cols in
+    let places = content_of c.args.places.now.store in
     let long = length_row 0 cs ws c.requires in
     let at = row_at 0 cs ws k d c.requires c.loop-k-test.true in
-    let found = c.row.result.0.now in
-    let is : map (λ (col : ℕ). entry_at c.args.index col (get_or ws k 0)) found ≡ map (λ (s : Entry). entry_at c.args.index s.col (get_or es k d).word) (row_entries n places (get_or es k d).col) =
-    rw at (sym (along_cols c.args.index (get_or ws k 0) (get_or cs k 0) found c.row.result.1.now c.row.ensures.lengths) ∙ ap (map (λ (s : Entry). entry_at c.args.index s.col (get_or ws k 0))) c.row.ensures.entries) in
-    c.in_ok-put_word.ensures ∙ collected_step c.args.index n k places es c.args.entries.now.items c.loop-k.entries.items (map (λ (col : ℕ). entry_at c.args.index col (get_or ws k 0)) found) d (omega (arith, long, c.loop-k-test.true)) c.loop-k.invariant is
+    let found = c.of.result.now in
+    let w = get_or ws k 0 in
+    let is : map (λ (col : ℕ). entry_at c.args.index col w) found ≡ map (λ (s : Entry). entry_at c.args.index s.col (get_or es k d).word) (row_entries n places (get_or es k d).col) =
+    rw at (ap (map (λ (col : ℕ). entry_at c.args.index col w)) c.of.ensures ∙ map-map (λ (col : ℕ). entry_at c.args.index col w) (λ (s : Entry). s.col) (row_entries n places (get_or cs k 0))) in
+    c.in_ok-put_word.ensures ∙ collected_step c.args.index n k places es c.args.entries.now.items c.loop-k.entries.items (map (λ (col : ℕ). entry_at c.args.index col w) found) d (omega (arith, long, c.loop-k-test.true)) c.loop-k.invariant is
 
 pub returns : goal.returns
 returns c =
     let es = entries_along 0 c.args.cols.now c.args.words.now in
     let long = length_row 0 c.args.cols.now c.args.words.now c.requires in
-    c.loop-k.invariant ∙ ap (λ es. c.args.entries.now.items ++ collected c.args.index c.args.places.now.cols (content_of c.args.places.now) es) (take_all c.loop-k.k es (omega (arith, long, c.loop-k-test.false)))
+    c.loop-k.invariant ∙ ap (λ es. c.args.entries.now.items ++ collected c.args.index c.args.places.now.store.cols (content_of c.args.places.now.store) es) (take_all c.loop-k.k es (omega (arith, long, c.loop-k-test.false)))

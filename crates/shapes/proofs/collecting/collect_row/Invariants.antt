@@ -5,4 +5,4 @@ use Rattle.shapes.specs.Collects.{collected}
 use Rattle.shapes.proofs.collecting.collect_row.Given as goal
 
 abbrev pub invariant-loop-k : goal.invariant-loop-k
-invariant-loop-k l = l.entries.items ≡ l.fn.entries.items ++ collected l.index l.places.cols (content_of l.places) (take l.k (entries_along 0 l.cols l.words))
+invariant-loop-k l = l.entries.items ≡ l.fn.entries.items ++ collected l.index l.places.store.cols (content_of l.places.store) (take l.k (entries_along 0 l.cols l.words))

@@ -4,7 +4,7 @@ use Rattle.std.proofs.lemmas.List.Sums.{AllPass-from_list_all}
 use Rattle.shapes.specs.Collects.{index_content}
 use Rattle.shapes.proofs.ColumnPlaces.{places_more, places_none, places_whole}
 use Rattle.shapes.proofs.Gathering.{gathered_is}
-use Rattle.shapes.proofs.collecting.place_columns.Goals as goal
+use Rattle.shapes.proofs.places.place_columns.Goals as goal
 
 pub loop-k-init : goal.loop-k-init
 loop-k-init c = places_none c.args.size c.args.cols.now c.in_ok-entries.entries.items c.in_ok-entries.ensures.items

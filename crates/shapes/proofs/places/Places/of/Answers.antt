@@ -1,0 +1,7 @@
+use Rattle.std.proofs.Common.{◌∙◌, ap, map, sym}
+use Rattle.model.specs.declared.entry.Entry.{Entry}
+use Rattle.shapes.proofs.ColumnPlaces.{cols_along}
+use Rattle.shapes.proofs.places.Places.of.Goals as goal
+
+pub returns-in_default : goal.returns-in_default
+returns-in_default c = sym (cols_along c.args.col c.row.result.0.now c.row.result.1.now c.row.ensures.lengths) ∙ ap (map (λ (s : Entry). s.col)) c.row.ensures.entries
