@@ -1,13 +1,18 @@
 -- What two lists of entries have at the same positions.
-use Rattle.std.proofs.Common.{◌≡◌, ℕ, ◌<◌, ◌≤◌, true, false, ◌&&◌, eqb, List, [], ◌∷◌, ◌++◌, Option, Some, None, refl, sym, ◌∙◌, ap, subst, inl, inr, arith}
+use Rattle.std.proofs.Common.{◌≡◌, ℕ, ◌<◌, ◌≤◌, true, false, ◌&&◌, eqb, length, List, [], ◌∷◌, ◌++◌, Option, Some, None, refl, sym, ◌∙◌, ap, subst, inl, inr, arith}
 use Rattle.std.specs.Option.{option_map}
-use Rattle.std.specs.List.{All, cons_option}
-use Rattle.std.proofs.lemmas.Bool.{cases_Bool}
+use Rattle.std.specs.List.{All, AllPairs, cons_option}
+use Rattle.std.proofs.lemmas.Bool.{cases_Bool, eq-eqb, ne_eqb}
 use Rattle.std.proofs.lemmas.Bool.Decides.{nat_tests}
-use Rattle.std.proofs.lemmas.List.Elements.{All-nil, All-cons, All-head, All-tail, filter_map-append}
+use Rattle.std.proofs.lemmas.List.Elements.{All-nil, All-cons, All-head, All-tail, All-weaker, filter_map-append}
 use Rattle.model.specs.declared.entry.Entry.{Entry}
 use Rattle.model.specs.ElementWise.{of_both}
 use Rattle.model.specs.Entries.{InOrder, Precedes, entry_at, word_at}
+use Rattle.lanes.specs.Lists.{zip_with}
+use Rattle.store.specs.Fibers.{entries_along}
+use Rattle.store.proofs.FlatLaws.{all_cols}
+use Rattle.store.proofs.Positions.{word_at-here, word_at-skip}
+use Rattle.store.proofs.RowWords.{no_column}
 use Rattle.store.proofs.Order.{all_pairs_cons, all_pairs_head, all_pairs_nil, all_pairs_tail}
 use Rattle.algebra.specs.Operators.{eval_of}
 use Rattle.algebra.specs.declared.binary.BinaryOp.{BinaryOp}
@@ -128,3 +133,26 @@ part_met op first past cols a b c d old new h in_a words_a words_b =
       inside = are_in first past cols (met f a b) (met_all f (LiesIn (eqb cols 1) first past cols) a b (lies_in first past cols a in_a));
       words = λ i j low high. met_along f cols a b i j ∙ rw (words_a i j low high, words_b i j low high) refl;
     }
+
+-- ---- fibers with the same inner indices
+
+pub same_met : (f : ℕ → ℕ → ℕ) (outer : ℕ) (cols lefts rights : List ℕ) → length lefts ≡ length cols → length rights ≡ length cols → AllPairs (λ p q. p < q) cols
+    → entries_along outer cols (zip_with f lefts rights) ≡ met f (entries_along outer cols lefts) (entries_along outer cols rights)
+same_met f outer [] [] [] sl sr rises = refl
+same_met f outer [] (l ∷ lefts) rights sl sr rises = absurd (omega arith)
+same_met f outer [] [] (r ∷ rights) sl sr rises = absurd (omega arith)
+same_met f outer (col ∷ cols) [] rights sl sr rises = absurd (omega arith)
+same_met f outer (col ∷ cols) (l ∷ lefts) [] sl sr rises = absurd (omega arith)
+same_met f outer (col ∷ cols) (l ∷ lefts) (r ∷ rights) sl sr rises =
+    let a = entries_along outer cols lefts in
+    let b = entries_along outer cols rights in
+    let e = entry_at outer col l in
+    let x = entry_at outer col r in
+    let here : word_at (x ∷ b) outer col ≡ Some r = word_at-here outer col x b (rw (eq-eqb outer outer refl, eq-eqb col col refl) refl) in
+    let behind : All (λ (e : Entry). word_at (x ∷ b) e.row e.col ≡ word_at b e.row e.col) a =
+    All-weaker (λ (e : Entry). (e.row ≡ outer) × (col < e.col)) (λ (e : Entry). word_at (x ∷ b) e.row e.col ≡ word_at b e.row e.col)
+    (λ e at. let above = at.1 in word_at-skip e.row e.col x b (no_column (eqb e.row outer) (eqb e.col col) (ne_eqb e.col col (λ is. absurd (omega arith))))) a
+    (all_cols (λ c. col < c) outer cols lefts (all_pairs_head (λ p q. p < q) col cols rises)) in
+    let rest = same_met f outer cols lefts rights (omega arith) (omega arith) (all_pairs_tail (λ p q. p < q) col cols rises) in
+    ap (λ es. entry_at outer col (f l r) ∷ es) (rest ∙ sym (met_same f a (x ∷ b) b behind))
+    ∙ sym (met_cons f e a (x ∷ b) ∙ ap (λ o. meets f e o (met f a (x ∷ b))) here)

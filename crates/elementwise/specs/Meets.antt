@@ -11,7 +11,7 @@ use Rattle.model.specs.Entries.{entry_at, word_at}
 use Rattle.model.specs.Object.{Content}
 use Rattle.store.specs.declared.lists.FiberEnd.{FiberEnd}
 use Rattle.store.specs.declared.lists.FiberLists.{FiberLists}
-use Rattle.store.specs.Fibers.{AreApart, AreFlat, Rises, entries_in, last_end, outers, placed}
+use Rattle.store.specs.Fibers.{AreApart, AreFlat, Rises, entries_along, entries_in, last_end, outers, placed}
 
 -- what a function gives for both words at each position of a that b has too
 abbrev pub met : (ℕ → ℕ → ℕ) → List Entry → List Entry → List Entry
@@ -20,6 +20,13 @@ met f a b = filter_map (λ e. option_map (λ word. entry_at e.row e.col (f e.wor
 -- the intersection of two maps
 abbrev pub met_content : BinaryOp → Content → Content → Content
 met_content op left right = λ i j. of_both (eval_of op.kind op.domain) (left i j) (right i j)
+
+-- the first places of the lists are the inner indices that two fibers have both, with the words of each side by side,
+-- whatever their outer index
+abbrev pub AreFiberPairs : List ℕ → List ℕ → List ℕ → List ℕ → ℕ → List ℕ → List ℕ → List ℕ → Type 0
+AreFiberPairs left left_words right right_words count inner lefts rights = (outer : ℕ) (f : ℕ → ℕ → ℕ)
+    → entries_along outer (take count inner) (zip_with f (take count lefts) (take count rights))
+    ≡ met f (entries_along outer left left_words) (entries_along outer right right_words)
 
 -- the first places of the lists are the positions that a and b have both, with the words of each side by side, and
 -- their fibers end there

@@ -19,7 +19,7 @@ use std::ops::Range;
 use store::{FiberLists, Fibers, RowBlock, Store};
 
 // About how many entries of each side are looked at together. What that takes stays in the cache.
-const PART: usize = 2048;
+const PART: usize = 1024;
 
 /// The rows in a range of the intersection of two stores of as many columns (`GrB_eWiseMult`): what the
 /// operator gives at each position that both have. It takes time for the entries of both in these rows, and

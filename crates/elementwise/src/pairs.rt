@@ -4,7 +4,7 @@ ghost use Rattle.std.specs.List.{AllPairs};
 ghost use Rattle.lanes.specs.Lists.{zip_with};
 ghost use Rattle.model.specs.Entries.{InOrder};
 ghost use Rattle.store.specs.Fibers.{entries_along};
-ghost use Rattle.elementwise.specs.Meets.{AreMet, met};
+ghost use Rattle.elementwise.specs.Meets.{AreFiberPairs, AreMet};
 
 use model::NoMemory;
 use std::alloc::Global;
@@ -114,7 +114,6 @@ fn pair_fibers<'a>(
 }
 
 /// Finds the inner indices that two fibers have both, and answers how many there are.
-#[inline(never)]
 fn pair_fiber(
     left: &[u64],
     left_words: &[u64],
@@ -135,9 +134,39 @@ fn pair_fiber(
     ensures inner_length { length inner.new ≡ length inner.old }
     ensures lefts_length { length lefts.new ≡ length inner.old }
     ensures rights_length { length rights.new ≡ length inner.old }
-    ensures met { (outer : ℕ) (f : ℕ → ℕ → ℕ)
-        → entries_along outer (take result inner.new) (zip_with f (take result lefts.new) (take result rights.new))
-        ≡ met f (entries_along outer left.now left_words.now) (entries_along outer right.now right_words.now) }
+    ensures met { AreFiberPairs left.now left_words.now right.now right_words.now result
+        inner.new lefts.new rights.new }
+{
+    if left == right {
+        return pair_same(left, left_words, right_words, inner, lefts, rights);
+    }
+    pair_others(left, left_words, right, right_words, inner, lefts, rights)
+}
+
+/// The same, by steps along both.
+#[inline(never)]
+fn pair_others(
+    left: &[u64],
+    left_words: &[u64],
+    right: &[u64],
+    right_words: &[u64],
+    inner: &mut [u64],
+    lefts: &mut [u64],
+    rights: &mut [u64],
+) -> usize
+    requires left_rises { AllPairs (λ x y. x < y) left.now }
+    requires right_rises { AllPairs (λ x y. x < y) right.now }
+    requires left_words { length left_words.now ≡ length left.now }
+    requires right_words { length right_words.now ≡ length right.now }
+    requires inner_room { length left.now ≤ length inner.old }
+    requires lefts_room { length lefts.old ≡ length inner.old }
+    requires rights_room { length rights.old ≡ length inner.old }
+    ensures bound { result ≤ length left.now }
+    ensures inner_length { length inner.new ≡ length inner.old }
+    ensures lefts_length { length lefts.new ≡ length inner.old }
+    ensures rights_length { length rights.new ≡ length inner.old }
+    ensures met { AreFiberPairs left.now left_words.now right.now right_words.now result
+        inner.new lefts.new rights.new }
 {
     let mut i = 0;
     let mut j = 0;
@@ -153,4 +182,34 @@ fn pair_fiber(
         j += usize::from(q <= p);
     }
     k
+}
+
+/// The same, where both fibers have the same inner indices.
+#[inline(always)]
+fn pair_same(
+    both: &[u64],
+    left_words: &[u64],
+    right_words: &[u64],
+    inner: &mut [u64],
+    lefts: &mut [u64],
+    rights: &mut [u64],
+) -> usize
+    requires rises { AllPairs (λ x y. x < y) both.now }
+    requires left_words { length left_words.now ≡ length both.now }
+    requires right_words { length right_words.now ≡ length both.now }
+    requires inner_room { length both.now ≤ length inner.old }
+    requires lefts_room { length lefts.old ≡ length inner.old }
+    requires rights_room { length rights.old ≡ length inner.old }
+    ensures count { result ≡ length both.now }
+    ensures inner_length { length inner.new ≡ length inner.old }
+    ensures lefts_length { length lefts.new ≡ length inner.old }
+    ensures rights_length { length rights.new ≡ length inner.old }
+    ensures met { AreFiberPairs both.now left_words.now both.now right_words.now result
+        inner.new lefts.new rights.new }
+{
+    let count = both.len();
+    inner[..count].copy_from_slice(both);
+    lefts[..count].copy_from_slice(left_words);
+    rights[..count].copy_from_slice(right_words);
+    count
 }

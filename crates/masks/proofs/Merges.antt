@@ -1,5 +1,5 @@
 -- The merge of two fibers, as a merge of their entries at each outer index.
-use Rattle.std.proofs.Common.{◌≡◌, ◌⊎◌, ℕ, ◌+◌, ◌*◌, ◌<◌, ◌≤◌, Bool, true, false, leb, List, length, get_or, set, take, drop, refl, sym, ◌∙◌, ap, inl, inr, arith, length-drop, length-set}
+use Rattle.std.proofs.Common.{◌≡◌, ◌⊎◌, ℕ, ◌+◌, ◌*◌, ◌<◌, ◌≤◌, Bool, true, false, leb, List, [], ◌∷◌, length, get_or, set, take, drop, refl, sym, ◌∙◌, ap, subst, inl, inr, arith, length-drop, length-set}
 use Rattle.std.specs.Prelude.{replicate}
 use Rattle.std.specs.List.{All, AllPairs}
 use Rattle.std.proofs.lemmas.Bool.{cases_eq, cases_order}
@@ -8,7 +8,8 @@ use Rattle.std.proofs.lemmas.List.{length-replicate, get_or-replicate, set-get_o
 use Rattle.model.specs.Entries.{Precedes, entry_at}
 use Rattle.store.specs.Fibers.{entries_along}
 use Rattle.store.proofs.FlatLaws.{row_in_order}
-use Rattle.masks.specs.Merges.{IsMerge}
+use Rattle.masks.specs.Merges.{IsMerge, Place, position}
+use Rattle.store.proofs.Order.{all_pairs_cons, all_pairs_head, all_pairs_nil, all_pairs_tail, all_from_map}
 use Rattle.masks.proofs.Merging.{IsMerging, merging_none, left_more, right_more, both_more}
 use Rattle.store.proofs.Places.{length_row, row_at}
 
@@ -168,3 +169,30 @@ side_along a aw b bw i j k cols lefts rights sides col one two by_i by_j number 
           let at : col ≡ q = elim chosen [ inl z ↦ absurd (let e = z.0 in omega arith) | inr z ↦ z.1 ] in
           rw (e1, e2, e3, e4, at, i_is) (right_along a aw b bw i j k cols lefts rights sides (get_or aw i 0) here sa sb ra rb space l r s some' (λ left. more))
     ]
+
+-- ---- fibers with the same inner indices
+
+-- at each inner index both are there
+pub same_merge : (outer : ℕ) (cols lefts rights : List ℕ) → length lefts ≡ length cols → length rights ≡ length cols → AllPairs (λ p q. p < q) cols
+    → IsMerge (entries_along outer cols lefts) (entries_along outer cols rights) (replicate (length cols) outer) cols lefts rights (replicate (length cols) 3)
+same_merge outer [] [] [] sl sr rises = record { places = []; rows_are = refl; cols_are = refl; lefts_are = refl; rights_are = refl; sides_are = refl; left = refl; right = refl; order = all_pairs_nil (λ p q. Precedes (position p) (position q)) }
+same_merge outer [] (l ∷ lefts) rights sl sr rises = absurd (omega arith)
+same_merge outer [] [] (r ∷ rights) sl sr rises = absurd (omega arith)
+same_merge outer (col ∷ cols) [] rights sl sr rises = absurd (omega arith)
+same_merge outer (col ∷ cols) (l ∷ lefts) [] sl sr rises = absurd (omega arith)
+same_merge outer (col ∷ cols) (l ∷ lefts) (r ∷ rights) sl sr rises =
+    let rest = same_merge outer cols lefts rights (omega arith) (omega arith) (all_pairs_tail (λ p q. p < q) col cols rises) in
+    let p : Place = record { row = outer; col = col; left = l; right = r; side = 3 } in
+    let above : All (λ (q : Place). col < q.col) rest.places = all_from_map (λ c. col < c) (λ (q : Place). q.col) rest.places (subst (All (λ c. col < c)) rest.cols_are (all_pairs_head (λ p q. p < q) col cols rises)) in
+    let here : All (λ (q : Place). outer ≡ q.row) rest.places = all_from_map (λ row. outer ≡ row) (λ (q : Place). q.row) rest.places (subst (All (λ row. outer ≡ row)) rest.rows_are (λ k d within. sym (get_or-replicate (length cols) k outer d (omega (arith, length-replicate (length cols) outer, within))))) in
+    record {
+      places = p ∷ rest.places;
+      rows_are = ap (λ rows. outer ∷ rows) rest.rows_are;
+      cols_are = ap (λ cols. col ∷ cols) rest.cols_are;
+      lefts_are = ap (λ words. l ∷ words) rest.lefts_are;
+      rights_are = ap (λ words. r ∷ words) rest.rights_are;
+      sides_are = ap (λ sides. 3 ∷ sides) rest.sides_are;
+      left = ap (λ es. entry_at outer col l ∷ es) rest.left;
+      right = ap (λ es. entry_at outer col r ∷ es) rest.right;
+      order = all_pairs_cons (λ p q. Precedes (position p) (position q)) p rest.places (λ k d within. inr (here k d within, above k d within)) rest.order;
+    }

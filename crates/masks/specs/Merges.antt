@@ -1,10 +1,10 @@
 -- Two lists of entries in order, merged by their positions.
-use Rattle.std.specs.Prelude.{ℕ, ◌≡◌, ◌==◌, if◌then◌else◌, List, Option, Some, None, map, take}
+use Rattle.std.specs.Prelude.{ℕ, ◌≡◌, ◌==◌, if◌then◌else◌, List, Option, Some, None, map, replicate, take}
 use Rattle.std.specs.List.{AllPairs, filter_map}
 use Rattle.model.specs.declared.entry.Entry.{Entry}
 use Rattle.model.specs.Entries.{Precedes, entry_at}
 use Rattle.store.specs.declared.lists.FiberEnd.{FiberEnd}
-use Rattle.store.specs.Fibers.{AreApart, Rises, last_end, outers}
+use Rattle.store.specs.Fibers.{AreApart, Rises, entries_along, last_end, outers}
 
 -- a place of a merge: its position, the words of both sides, and which of them are there: 1 for the left
 -- alone, 2 for the right alone, else both
@@ -38,6 +38,12 @@ pub record IsMerge (a b : List Entry) (rows cols lefts rights sides : List ℕ) 
   pub left : filter_map left_entry places ≡ a
   pub right : filter_map right_entry places ≡ b
   pub order : Stand places
+
+-- the first places of the lists are the merge of two fibers, whatever their outer index
+abbrev pub IsFiberMerge : List ℕ → List ℕ → List ℕ → List ℕ → ℕ → List ℕ → List ℕ → List ℕ → List ℕ → Type 0
+IsFiberMerge left left_words right right_words count inner lefts rights sides = (outer : ℕ) → IsMerge
+    (entries_along outer left left_words) (entries_along outer right right_words) (replicate count outer)
+    (take count inner) (take count lefts) (take count rights) (take count sides)
 
 -- the first places of the lists are the merge of a and b, and their fibers end there
 pub record AreMerged (a b : List Entry) (count : ℕ) (ends : List FiberEnd) (inner lefts rights sides : List ℕ)

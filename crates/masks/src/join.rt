@@ -30,7 +30,7 @@ pub enum Joining {
 }
 
 // About how many entries of each side are joined at once. What that takes stays in the cache.
-const PART: usize = 2048;
+const PART: usize = 1024;
 
 /// The rows in a range of the join of two stores of as many columns. It takes time for the entries of both in
 /// these rows, and beside the result memory for a part of some rows, or for the longest row.

@@ -3,7 +3,7 @@
 ghost use Rattle.std.specs.Prelude.{◌≡◌, ℕ, ◌<◌, ◌≤◌, ◌+◌, length, take, replicate, [], IfOk, OnOk};
 ghost use Rattle.std.specs.List.{All, AllPairs};
 ghost use Rattle.store.specs.Fibers.{entries_along};
-ghost use Rattle.masks.specs.Merges.{AreMerged, IsMerge};
+ghost use Rattle.masks.specs.Merges.{AreMerged, IsFiberMerge};
 
 use model::NoMemory;
 use std::alloc::Global;
@@ -74,7 +74,6 @@ impl Places {
 
 /// Merges two fibers, and answers how many places there are. The side of a place is 1 where the left is
 /// there alone, 2 where the right is, and 3 where both are.
-#[inline(never)]
 fn merge_fiber(
     left: &[u64],
     left_words: &[u64],
@@ -98,14 +97,51 @@ fn merge_fiber(
     ensures lefts_length { length lefts.new ≡ length inner.old }
     ensures rights_length { length rights.new ≡ length inner.old }
     ensures sides_length { length sides.new ≡ length inner.old }
-    ensures merged { (outer : ℕ) → IsMerge
-        (entries_along outer left.now left_words.now)
-        (entries_along outer right.now right_words.now)
-        (replicate result outer)
-        (take result inner.new)
-        (take result lefts.new)
-        (take result rights.new)
-        (take result sides.new) }
+    ensures merged { IsFiberMerge left.now left_words.now right.now right_words.now result
+        inner.new lefts.new rights.new sides.new }
+{
+    if left == right {
+        return merge_same(left, left_words, right_words, inner, lefts, rights, sides);
+    }
+    merge_others(
+        left,
+        left_words,
+        right,
+        right_words,
+        inner,
+        lefts,
+        rights,
+        sides,
+    )
+}
+
+/// The same, by steps along both.
+#[inline(never)]
+fn merge_others(
+    left: &[u64],
+    left_words: &[u64],
+    right: &[u64],
+    right_words: &[u64],
+    inner: &mut [u64],
+    lefts: &mut [u64],
+    rights: &mut [u64],
+    sides: &mut [u64],
+) -> usize
+    requires left_rises { AllPairs (λ x y. x < y) left.now }
+    requires right_rises { AllPairs (λ x y. x < y) right.now }
+    requires left_words { length left_words.now ≡ length left.now }
+    requires right_words { length right_words.now ≡ length right.now }
+    requires inner_room { length left.now + length right.now ≤ length inner.old }
+    requires lefts_room { length lefts.old ≡ length inner.old }
+    requires rights_room { length rights.old ≡ length inner.old }
+    requires sides_room { length sides.old ≡ length inner.old }
+    ensures bound { result ≤ length left.now + length right.now }
+    ensures inner_length { length inner.new ≡ length inner.old }
+    ensures lefts_length { length lefts.new ≡ length inner.old }
+    ensures rights_length { length rights.new ≡ length inner.old }
+    ensures sides_length { length sides.new ≡ length inner.old }
+    ensures merged { IsFiberMerge left.now left_words.now right.now right_words.now result
+        inner.new lefts.new rights.new sides.new }
 {
     let mut i = 0;
     let mut j = 0;
@@ -137,6 +173,40 @@ fn merge_fiber(
         k += 1;
     }
     k
+}
+
+/// Merges two fibers that have the same inner indices, and answers how many places there are.
+#[inline(always)]
+fn merge_same(
+    both: &[u64],
+    left_words: &[u64],
+    right_words: &[u64],
+    inner: &mut [u64],
+    lefts: &mut [u64],
+    rights: &mut [u64],
+    sides: &mut [u64],
+) -> usize
+    requires rises { AllPairs (λ x y. x < y) both.now }
+    requires left_words { length left_words.now ≡ length both.now }
+    requires right_words { length right_words.now ≡ length both.now }
+    requires inner_room { length both.now ≤ length inner.old }
+    requires lefts_room { length lefts.old ≡ length inner.old }
+    requires rights_room { length rights.old ≡ length inner.old }
+    requires sides_room { length sides.old ≡ length inner.old }
+    ensures count { result ≡ length both.now }
+    ensures inner_length { length inner.new ≡ length inner.old }
+    ensures lefts_length { length lefts.new ≡ length inner.old }
+    ensures rights_length { length rights.new ≡ length inner.old }
+    ensures sides_length { length sides.new ≡ length inner.old }
+    ensures merged { IsFiberMerge both.now left_words.now both.now right_words.now result
+        inner.new lefts.new rights.new sides.new }
+{
+    let count = both.len();
+    inner[..count].copy_from_slice(both);
+    lefts[..count].copy_from_slice(left_words);
+    rights[..count].copy_from_slice(right_words);
+    sides[..count].fill(3);
+    count
 }
 
 /// Merges fibers, one outer index after another, and answers how many places there are.

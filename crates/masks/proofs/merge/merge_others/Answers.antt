@@ -1,8 +1,8 @@
 use Rattle.std.proofs.Common.{◌≡◌, ◌⊎◌, ◌<◌, ◌≤◌, length, get_or, refl, inl, inr, arith}
 use mir.Val.{bool_byte}
 use Rattle.masks.proofs.Merges.{along_none, left_along, right_along, along_all, side_along}
-use Rattle.masks.proofs.merge.merge_fiber.Goals as goal
-use Rattle.masks.proofs.merge.merge_fiber.Goals.{then-p-q, else-p-q}
+use Rattle.masks.proofs.merge.merge_others.Goals as goal
+use Rattle.masks.proofs.merge.merge_others.Goals.{then-p-q, else-p-q}
 
 pub loop-i-init : goal.loop-i-init
 loop-i-init c = along_none c.args.left.now c.args.left_words.now c.args.right.now c.args.right_words.now c.args.inner.now c.args.lefts.now c.args.rights.now c.args.sides.now

@@ -1,6 +1,6 @@
 use Rattle.std.proofs.Common.{length, ◌-◌, ◌+◌, ◌<◌, ◌≤◌}
 use Rattle.masks.proofs.Merges.{IsAlong}
-use Rattle.masks.proofs.merge.merge_fiber.Given as goal
+use Rattle.masks.proofs.merge.merge_others.Given as goal
 
 abbrev pub invariant-loop-i : goal.invariant-loop-i
 invariant-loop-i l = IsAlong l.left l.left_words l.right l.right_words l.i l.j l.k l.inner l.lefts l.rights l.sides

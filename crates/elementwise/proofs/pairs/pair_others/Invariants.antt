@@ -1,6 +1,6 @@
 use Rattle.std.proofs.Common.{◌≡◌, length, ◌-◌, ◌+◌}
 use Rattle.elementwise.proofs.Pairing.{IsPairing}
-use Rattle.elementwise.proofs.pairs.pair_fiber.Given as goal
+use Rattle.elementwise.proofs.pairs.pair_others.Given as goal
 
 abbrev pub invariant-loop-i : goal.invariant-loop-i
 invariant-loop-i l = record {

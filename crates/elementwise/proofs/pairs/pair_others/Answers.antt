@@ -3,7 +3,7 @@ use Rattle.std.proofs.Common.{refl, arith, get_or}
 use Rattle.std.proofs.lemmas.List.{length-set}
 use mir.Val.{bool_byte}
 use Rattle.elementwise.proofs.Pairing.{pairing_all, pairing_none, pairing_step}
-use Rattle.elementwise.proofs.pairs.pair_fiber.Goals as goal
+use Rattle.elementwise.proofs.pairs.pair_others.Goals as goal
 
 pub loop-i-init : goal.loop-i-init
 loop-i-init c = record {
