@@ -22,6 +22,8 @@ use Rattle.store.specs.Parts.{HasPart}
 use Rattle.store.specs.Stored.{AreIn, along}
 use Rattle.store.proofs.Contents.{as_column, by_rows, word_at-turned}
 use Rattle.store.proofs.PartLaws.{LiesIn, are_in, lies_in}
+use Rattle.masks.specs.Joins.{HaveSamePlaces, beside}
+use Rattle.masks.proofs.SamePlaces.{beside_both}
 use Rattle.elementwise.specs.Meets.{HasMeet, met, met_content}
 
 -- what is made of an entry, by the word of the other side
@@ -119,6 +121,14 @@ met_along f cols a b i j =
     elim (cases_Bool (eqb cols 1)) [
       | inl one ↦ rw (as_column cols (met f a b) one, as_column cols a one, as_column cols b one) (word_at-turned (met f a b) i j ∙ met_words f a b j i ∙ rw (word_at-turned a i j, word_at-turned b i j) refl)
       | inr many ↦ rw (by_rows cols (met f a b) many, by_rows cols a many, by_rows cols b many) (met_words f a b i j)
+    ]
+
+-- the same where both sides have their entries at the same positions
+pub beside_along : (f : ℕ → ℕ → ℕ) (cols : ℕ) (a b : List Entry) (i j : ℕ) → HaveSamePlaces a b → word_at (along cols (beside f a b)) i j ≡ of_both f (word_at (along cols a) i j) (word_at (along cols b) i j)
+beside_along f cols a b i j same =
+    elim (cases_Bool (eqb cols 1)) [
+      | inl one ↦ rw (as_column cols (beside f a b) one, as_column cols a one, as_column cols b one) (word_at-turned (beside f a b) i j ∙ beside_both f a b j i same ∙ rw (word_at-turned a i j, word_at-turned b i j) refl)
+      | inr many ↦ rw (by_rows cols (beside f a b) many, by_rows cols a many, by_rows cols b many) (beside_both f a b i j same)
     ]
 
 -- the intersection of the rows of two sides, from that of their fibers

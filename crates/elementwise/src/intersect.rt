@@ -13,6 +13,7 @@ ghost use Rattle.elementwise.specs.Meets.{HasMeet, met_content};
 use crate::pairs::Pairs;
 use algebra::BinaryOp;
 use lanes::zip_words;
+use masks::{Joining, are_alike, join_alike};
 use model::NoMemory;
 use std::alloc::Global;
 use std::ops::Range;
@@ -43,11 +44,34 @@ pub fn intersect_rows(
     let left_count = a.fibers_in(first..past).len();
     let right_count = b.fibers_in(first..past).len();
     let room = left_count.min(right_count);
-    let lists = intersect_parts(alloc, a, b, op, first..past, room)?;
+    let lists = intersect_lists(alloc, a, b, op, first..past, room)?;
     Ok(RowBlock::of_fibers(first, past, a.cols(), lists))
 }
 
-/// The lists of the intersection of the rows in a range, part by part. There is room for so many entries from
+/// The lists of the intersection of the rows in a range. There is room for so many entries where the sides have
+/// entries at different positions.
+fn intersect_lists(
+    alloc: Global,
+    a: &Store,
+    b: &Store,
+    op: BinaryOp,
+    range: Range<u64>,
+    room: usize,
+) -> Result<FiberLists, NoMemory>
+    requires cols { a.now.cols ≡ b.now.cols }
+    requires range { range.start ≤ range.end }
+    ensures { IfOk result (λ lists. HasRows (met_content op (content_of a.now) (content_of b.now))
+        range.start range.end a.now.cols lists) }
+{
+    let lefts = a.fibers_in(range.start..range.end);
+    let rights = b.fibers_in(range.start..range.end);
+    if are_alike(&lefts, &rights) {
+        return join_alike(alloc, &lefts, &rights, Joining::Accumulate(op));
+    }
+    intersect_parts(alloc, a, b, op, range, room)
+}
+
+/// The same, part by part. There is room for so many entries from
 /// the start, so that none is moved; what isn't used is let go.
 fn intersect_parts(
     alloc: Global,

@@ -1,5 +1,5 @@
 -- The lists of a join are fibers.
-use Rattle.std.proofs.Common.{◌≡◌, ℕ, ◌<◌, ◌≤◌, eqb, List, ◌++◌, length, get_or, take, drop, refl, sym, ◌∙◌, inl, inr, arith, length-take, Result, Ok, Err, OnOk}
+use Rattle.std.proofs.Common.{◌≡◌, ℕ, ◌<◌, ◌≤◌, eqb, List, ◌++◌, length, get_or, take, drop, refl, sym, ◌∙◌, inl, inr, arith, length-take, Result, Ok, Err, IfOk, OnOk}
 use Rattle.std.specs.List.{All}
 use Rattle.std.proofs.Math.Seq.{drop-append_seam, take-append_seam}
 use Rattle.std.proofs.lemmas.Bool.{cases_Bool}
@@ -67,6 +67,10 @@ cut_front from xs ys zs size whole = rw (whole, size) (take-append_seam xs ys)
 
 pub cut_behind : (from : ℕ) (xs ys zs : List ℕ) → from ≡ length xs → zs ≡ xs ++ ys → drop from zs ≡ ys
 cut_behind from xs ys zs size whole = rw (whole, size) (drop-append_seam xs ys)
+
+pub if_ok_both : {T E : Type 0} (r : Result T E) (P Q R : T → Type 0) → ((x : T) → P x → Q x → R x) → IfOk r P → IfOk r Q → IfOk r R
+if_ok_both (Ok x) P Q R f p q = f x p q
+if_ok_both (Err e) P Q R f p q = tt
 
 pub on_ok_both : {T E P Q R : Type 0} (r : Result T E) → (P → Q → R) → OnOk r P → OnOk r Q → OnOk r R
 on_ok_both (Ok x) f p q = f p q

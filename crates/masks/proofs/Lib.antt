@@ -8,4 +8,5 @@ mod KeptFiber
 pub mod MaskLaws
 mod Merges
 mod Merging
+pub mod SamePlaces
 mod WriteLaws

@@ -1,10 +1,11 @@
 -- The join of two maps: where both have a word what is made of both, and where one has, what is made of it alone.
-use Rattle.std.specs.Prelude.{ℕ, ◌≡◌, ◌<◌, ◌==◌, if◌then◌else◌, List, length, slice_index, Option, ◌++◌}
+use Rattle.std.specs.Prelude.{ℕ, ◌≡◌, ◌<◌, ◌==◌, if◌then◌else◌, List, length, map, slice_index, Option, ◌++◌}
+use Rattle.std.specs.List.{zip}
 use Rattle.algebra.specs.Operators.{answer_domain, eval_of}
 use Rattle.algebra.specs.Value.{cast_of}
 use Rattle.model.specs.declared.entry.Entry.{Entry}
 use Rattle.model.specs.ElementWise.{of_either}
-use Rattle.model.specs.Entries.{word_at}
+use Rattle.model.specs.Entries.{entry_at, word_at}
 use Rattle.model.specs.Object.{Content}
 use Rattle.store.specs.declared.lists.FiberLists.{FiberLists}
 use Rattle.store.specs.Fibers.{AreFlat, entries_in}
@@ -51,3 +52,15 @@ pub record HasJoin (by : Joining) (a b : List Entry) (old new : FiberLists) : Ty
   pub words : (i j : ℕ) → word_at part i j ≡ joined by (word_at a) (word_at b) i j
   pub inside : (first past cols : ℕ) → AreIn first past cols (along cols a) → AreIn first past cols (along cols b)
       → AreIn first past cols (along cols part)
+
+-- where an entry stands
+abbrev pub place_of : Entry → Entry
+place_of e = entry_at e.row e.col 0
+
+-- the entries of two sides stand at the same positions, one by one
+abbrev pub HaveSamePlaces : List Entry → List Entry → Type 0
+HaveSamePlaces a b = map place_of a ≡ map place_of b
+
+-- each entry of a with what a function gives for its word and that of the entry of b beside it
+abbrev pub beside : (ℕ → ℕ → ℕ) → List Entry → List Entry → List Entry
+beside f a b = map (λ p. entry_at p.0.row p.0.col (f p.0.word p.1.word)) (zip a b)

@@ -9,6 +9,7 @@ ghost use Rattle.store.specs.Parts.{HasPart, HasRows};
 ghost use Rattle.store.specs.Stored.{AreIn, along, block_content, content_of};
 ghost use Rattle.masks.specs.Joins.{AreJoined, HasJoin, alone_of, both_of, joined};
 
+use crate::alike::{are_alike, join_alike};
 use crate::merge::Places;
 use algebra::BinaryOp;
 use lanes::{unite_words, zip_words};
@@ -58,7 +59,7 @@ pub fn join_rows(
     if left_count == 0 {
         return copy_alone(alloc, right, by, first..past);
     }
-    let lists = join_parts(
+    let lists = join_lists(
         alloc,
         left,
         right,
@@ -89,7 +90,30 @@ fn copy_alone(
     Ok(rows)
 }
 
-/// The lists of the join of the rows in a range, part by part. There is room for so many entries from the
+/// The lists of the join of the rows in a range. There is room for so many entries where the sides have entries at
+/// different positions.
+fn join_lists(
+    alloc: Global,
+    left: &Store,
+    right: &Store,
+    by: Joining,
+    range: Range<u64>,
+    room: usize,
+) -> Result<FiberLists, NoMemory>
+    requires cols { left.now.cols ≡ right.now.cols }
+    requires range { range.start ≤ range.end }
+    ensures { IfOk result (λ lists. HasRows (joined by (content_of left.now) (content_of right.now))
+        range.start range.end left.now.cols lists) }
+{
+    let lefts = left.fibers_in(range.start..range.end);
+    let rights = right.fibers_in(range.start..range.end);
+    if are_alike(&lefts, &rights) {
+        return join_alike(alloc, &lefts, &rights, by);
+    }
+    join_parts(alloc, left, right, by, range, room)
+}
+
+/// The same, part by part. There is room for so many entries from the
 /// start, so that none is moved; what isn't used is let go.
 fn join_parts(
     alloc: Global,

@@ -2,6 +2,7 @@
 //! `GrB_COMP`), and what it leaves there (`GrB_REPLACE`).
 #![tactic(auto)]
 
+mod alike;
 mod blocks;
 mod join;
 mod keep;
@@ -9,6 +10,7 @@ mod merge;
 mod view;
 mod write;
 
+pub use alike::{are_alike, join_alike};
 pub use join::{Joining, join_rows};
 pub use keep::keep_fiber;
 pub use view::MaskView;
