@@ -171,13 +171,13 @@ fn add_rows_by(
         (terms_of_row semiring.multiply (entries_along row.entry.index row.entry.cols.now row.entry.words.now) b.now)
         bits.new sums.new }
 {
-    let mut added = 0usize;
+    let many = sums.len() / COLUMNS_AN_ENTRY;
     let mut full = 0;
     let mut hint = 0;
     for k in from..row.cols.len() {
         let (cols, words, next) = b.row_near(row.cols[k], hint);
         hint = next;
-        if are_most_met(cols.len(), added, sums.len()) {
+        if cols.len() > many {
             add_products(
                 bits,
                 sums,
@@ -191,19 +191,11 @@ fn add_rows_by(
         } else {
             add_products(bits, sums, row.words[k], cols, words, semiring, None);
         }
-        added = added.saturating_add(cols.len());
     }
 }
 
 /// Where a row of B has an entry for each so many columns, most of its columns were met in rows before it.
 const COLUMNS_AN_ENTRY: usize = 8;
-
-/// Whether most columns of a row of B were met before: it has so many entries, or more products were added before
-/// than there are places.
-#[inline(always)]
-fn are_most_met(entries: usize, added: usize, places: usize) -> bool {
-    entries > places / COLUMNS_AN_ENTRY || added > places
-}
 
 /// Puts the words of 64 places that have their bits set behind the inner indices and words, in order.
 #[inline]

@@ -7,13 +7,13 @@ use Rattle.spgemm.specs.Terms.{terms_of_row}
 use Rattle.spgemm.proofs.DenseLaws.{cols_below}
 use Rattle.spgemm.proofs.Terms.{row_more}
 use Rattle.spgemm.proofs.dense.add_rows_by.Goals as goal
-use Rattle.spgemm.proofs.dense.add_rows_by.Goals.{then-are_most_met, else-are_most_met}
+use Rattle.spgemm.proofs.dense.add_rows_by.Goals.{then-cols-many, else-cols-many}
 
 pub add_products-requires-clause-inside : goal.add_products-requires-clause-inside
 add_products-requires-clause-inside c = cols_below c.args.b.now _ c.row_near-next.result.0.now c.row_near-next.result.1.now _ c.row_near-next.ensures.lengths c.row_near-next.ensures.entries (omega (arith, c.requires.inside))
 
-pub add_products-requires-else-are_most_met-clause-inside : goal.add_products-requires-else-are_most_met-clause-inside
-add_products-requires-else-are_most_met-clause-inside c = cols_below c.args.b.now _ c.row_near-next.result.0.now c.row_near-next.result.1.now _ c.row_near-next.ensures.lengths c.row_near-next.ensures.entries (omega (arith, c.requires.inside))
+pub add_products-requires-else-cols-many-clause-inside : goal.add_products-requires-else-cols-many-clause-inside
+add_products-requires-else-cols-many-clause-inside c = cols_below c.args.b.now _ c.row_near-next.result.0.now c.row_near-next.result.1.now _ c.row_near-next.ensures.lengths c.row_near-next.ensures.entries (omega (arith, c.requires.inside))
 
 pub loop-k-preserved : goal.loop-k-preserved
 loop-k-preserved c =
@@ -23,16 +23,16 @@ loop-k-preserved c =
     let row = entries_along c.args.row.index c.args.row.cols.now c.args.row.words.now in
     let more = row_more mul b c.args.row.index c.args.row.cols.now c.args.row.words.now s.k c.row_near-next.result.0.now c.row_near-next.result.1.now c.requires.lengths c.loop-k-test.true c.row_near-next.ensures.entries in
     let terms = terms_of_row mul (take s.k row) b in
-    elim c.if-are_most_met.branch [
-      | then-are_most_met w ↦ rw (w.bits-is, w.sums-is, w.full-is) (record {
+    elim c.if-cols-many.branch [
+      | then-cols-many w ↦ rw (w.bits-is, w.sums-is, w.full-is) (record {
         sums = subst (λ ts. AreColumnSums c.args.semiring.add.op ts w.add_products.new.bits w.add_products.new.sums) (sym more) (w.add_products.ensures.sums terms s.invariant.sums);
         bound = w.full_words-full.ensures.bound;
         full = w.full_words-full.ensures.full;
       })
-      | else-are_most_met w ↦ rw (w.bits-is, w.sums-is, w.full-is) (record {
-        sums = subst (λ ts. AreColumnSums c.args.semiring.add.op ts w.add_products-else-are_most_met.new.bits w.add_products-else-are_most_met.new.sums) (sym more) (w.add_products-else-are_most_met.ensures.sums terms s.invariant.sums);
+      | else-cols-many w ↦ rw (w.bits-is, w.sums-is, w.full-is) (record {
+        sums = subst (λ ts. AreColumnSums c.args.semiring.add.op ts w.add_products-else-cols-many.new.bits w.add_products-else-cols-many.new.sums) (sym more) (w.add_products-else-cols-many.ensures.sums terms s.invariant.sums);
         bound = omega (arith, s.invariant.bound);
-        full = λ at less. w.add_products-else-are_most_met.ensures.stay at (s.invariant.full at less);
+        full = λ at less. w.add_products-else-cols-many.ensures.stay at (s.invariant.full at less);
       })
     ]
 
