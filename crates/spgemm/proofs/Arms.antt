@@ -1,11 +1,11 @@
 -- Arms by literal kinds: where two semirings have the same kinds and domains, what one gives the other gives.
-use Rattle.std.proofs.Common.{Err, Ok, IfOk, OnOk, Option, Result, ◌≡◌, ℕ, List, refl, ◌∙◌}
+use Rattle.std.proofs.Common.{Bool, Err, Ok, IfOk, OnOk, Option, Result, ◌≡◌, ℕ, List, refl, ◌∙◌}
 use Rattle.algebra.specs.declared.semiring.Semiring.{Semiring}
 use Rattle.model.specs.declared.entry.Entry.{Entry}
 use Rattle.model.specs.declared.memory.NoMemory.{NoMemory}
 use Rattle.store.specs.declared.lists.FiberLists.{FiberLists}
 use Rattle.store.specs.Stored.{Stored}
-use Rattle.spgemm.specs.Dense.{AreColumnSums}
+use Rattle.spgemm.specs.Dense.{AreColumnSums, AreMarkedSums}
 use Rattle.spgemm.specs.Slots.{AreSlotSums}
 use Rattle.spgemm.specs.Products.{HasSums}
 use Rattle.spgemm.specs.declared.term.Term.{Term}
@@ -49,3 +49,13 @@ pub same_slot_sums : (own semiring : Semiring) (slots : List ℕ) (row : List En
 same_slot_sums own semiring slots row b sums here kind domain multiply_kind multiply_domain =
     let terms : terms_of_row own.multiply row b ≡ terms_of_row semiring.multiply row b = rw (multiply_kind, multiply_domain) refl in
     record { lengths = here.lengths; sums_are = λ at within. here.sums_are at within ∙ rw (kind, domain, terms) refl }
+
+pub same_marked_sums : (own semiring : Semiring) (row : List Entry) (b : Stored) (marks : List Bool) (words : List ℕ) → AreMarkedSums own.add (terms_of_row own.multiply row b) marks words
+    → own.add.kind ≡ semiring.add.kind → own.add.op.kind ≡ semiring.add.op.kind → own.add.op.domain ≡ semiring.add.op.domain → own.multiply.kind ≡ semiring.multiply.kind → own.multiply.domain ≡ semiring.multiply.domain
+    → AreMarkedSums semiring.add (terms_of_row semiring.multiply row b) marks words
+same_marked_sums own semiring row b marks words here name kind domain multiply_kind multiply_domain =
+    let terms : terms_of_row own.multiply row b ≡ terms_of_row semiring.multiply row b = rw (multiply_kind, multiply_domain) refl in
+    record {
+      sums_are = λ col within. here.sums_are col within ∙ rw (kind, domain, terms) refl;
+      others_are = λ col within none. here.others_are col within none ∙ rw (name, domain) refl;
+    }

@@ -1,6 +1,8 @@
 -- Bits of places in lists of words.
-use Rattle.std.proofs.Common.{◌≡◌, ◌≢◌, ℕ, ◌*◌, ◌/◌, ◌%◌, ◌^◌, ◌<◌, ◌≤◌, ◌||◌, eqb, List, length, get_or, set, bit_and, bit_or, w64, refl, ◌∙◌, ap, inl, inr, arith}
+use mir.Val.{bool_byte}
+use Rattle.std.proofs.Common.{◌≡◌, ◌≢◌, ℕ, ◌*◌, ◌/◌, ◌%◌, ◌^◌, ◌<◌, ◌≤◌, ◌||◌, Bool, true, false, eqb, List, length, get_or, set, bit_and, bit_or, w64, refl, ◌∙◌, ap, inl, inr, arith}
 use Rattle.std.specs.Int.{bit_at, bit_not, trailing_zeros}
+use Rattle.std.specs.Int.Bits.{or_zero_r}
 use Rattle.std.proofs.lemmas.Bool.{cases_eq, eq-eqb, ne_eqb}
 use Rattle.std.proofs.lemmas.List.{get_or-set_other, get_or-set_same}
 use Rattle.std.proofs.lemmas.Nat.{and_le_l}
@@ -34,6 +36,16 @@ bit_set xs at k within =
           let is : k ≢ at = λ e. away (ap (λ n. n / 64) e) in
           rw (get_or-set_other xs (at / 64) (k / 64) new 0 away, ne_eqb k at is) refl
     ]
+
+-- ---- a bit that is a mark
+
+pub mark_here : (word k : ℕ) (mark : Bool) → k < 64 → bit_at word k ≡ 0 → eqb (bit_at (bit_or word (bool_byte mark * 2 ^ k % 18446744073709551616)) k) 1 ≡ mark
+mark_here word k true small none = rw (bit_at_set_same w64 word k small) refl
+mark_here word k false small none = let nothing : 0 * 2 ^ k % 18446744073709551616 ≡ 0 = omega arith in rw (nothing, or_zero_r word, none) refl
+
+pub mark_away : (word k at : ℕ) (mark : Bool) → k < 64 → at ≢ k → bit_at (bit_or word (bool_byte mark * 2 ^ k % 18446744073709551616)) at ≡ bit_at word at
+mark_away word k at true small other = bit_at_set_other w64 word k small at other
+mark_away word k at false small other = let nothing : 0 * 2 ^ k % 18446744073709551616 ≡ 0 = omega arith in rw (nothing, or_zero_r word) refl
 
 -- ---- the lowest bit taken away
 

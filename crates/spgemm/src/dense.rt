@@ -236,7 +236,7 @@ fn gather_word(
 /// Puts the words at all places that have their bits set behind the inner indices and words, in order, and
 /// clears the bits. Outside a span no word of bits has one.
 #[inline(never)]
-fn gather(
+pub(crate) fn gather(
     lists: &mut FiberLists,
     bits: &mut [u64],
     words: &[u64],

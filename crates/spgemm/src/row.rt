@@ -7,6 +7,7 @@ ghost use Rattle.spgemm.specs.Terms.{terms_of_row};
 
 use crate::dense::{MOST_PLACES, fit, sum_densely, sum_in_span};
 use crate::expand::expand;
+use crate::many::{exceeds_columns, sum_many};
 use crate::span::{most_collected, pays, span_of};
 use crate::sums::sum_runs;
 use crate::term::Term;
@@ -15,13 +16,14 @@ use model::NoMemory;
 use std::alloc::Global;
 use store::{FiberLists, Row, Store};
 
-/// Memory that serves one row after another: terms, and sums with a place for each column, each with a bit that
-/// says whether there is one. Between rows no bit is set.
+/// Memory that serves one row after another: terms, and sums with a place for each column, each with a bit, and
+/// where there are many products with a mark, that says whether there is one. Between rows no bit is set.
 #[derive(Drop)]
 pub(crate) struct Scratch {
     pub(crate) terms: Vec<Term>,
     pub(crate) bits: Vec<u64>,
     pub(crate) sums: Vec<u64>,
+    pub(crate) marks: Vec<bool>,
 }
 
 impl Scratch {
@@ -34,6 +36,7 @@ impl Scratch {
             terms: Vec::new(alloc),
             bits: Vec::new(alloc),
             sums: Vec::new(alloc),
+            marks: Vec::new(alloc),
         }
     }
 
@@ -91,10 +94,18 @@ pub(crate) fn sum_row(
     ensures room { OnOk result (HaveRoom scratch.new.bits.items scratch.new.sums.items) }
     ensures none { OnOk result (AreClear scratch.new.bits.items) }
 {
-    let Scratch { terms, bits, sums } = scratch;
+    let Scratch {
+        terms,
+        bits,
+        sums,
+        marks,
+    } = scratch;
     let done = expand(terms, row, b, semiring, most_collected(b.cols()))?;
     if done < row.cols.len() {
         fit(bits, sums, b.cols())?;
+        if exceeds_columns(row.cols.len(), b) {
+            return sum_many(lists, bits, sums, marks, row, b, semiring);
+        }
         return sum_densely(lists, bits, sums, terms, row, done, b, semiring);
     }
     let span = span_of(terms);

@@ -1,0 +1,120 @@
+//! The sums of a row of a product that has more products than there are columns.
+ghost use Rattle.std.specs.Prelude.{◌≡◌, ℕ, ◌<◌, ◌≤◌, ◌*◌, ◌++◌, [], List, false, length, slice_index_or, OnOk};
+ghost use Rattle.std.specs.List.{All};
+ghost use Rattle.store.specs.Fibers.{entries_along};
+ghost use Rattle.spgemm.specs.Dense.{AreClear, AreMarkedSums, HaveRoom, has_bit};
+ghost use Rattle.spgemm.specs.Products.{HasOpenRow};
+ghost use Rattle.spgemm.specs.Terms.{terms_of_row, times_row};
+ghost use Rattle.spgemm.specs.declared.term.Term.{Term};
+
+use crate::bits::packed;
+use crate::dense::gather;
+use algebra::{Semiring, with_semiring};
+use model::NoMemory;
+use store::{FiberLists, Row, Store};
+
+/// Whether so many entries of a row of A have more products with B than there are columns, if the rows of B that
+/// they meet are as long as its rows are on average.
+pub(crate) fn exceeds_columns(entries: usize, b: &Store) -> bool {
+    let average = b.nvals() / b.rows().max(1);
+    average.saturating_mul(entries as u64) > b.cols()
+}
+
+/// Adds a word times each entry of a row to the sum at its column, and marks the column.
+#[inline(always)]
+fn add_products(
+    marks: &mut [bool],
+    sums: &mut [u64],
+    word: u64,
+    cols: &[u64],
+    words: &[u64],
+    semiring: Semiring,
+)
+    requires marks { length marks.old ≡ length sums.old }
+    requires lengths { length words.now ≡ length cols.now }
+    requires inside { All (λ col. col < length sums.old) cols.now }
+    ensures { (terms : List Term) → AreMarkedSums semiring.add terms marks.old sums.old
+        → AreMarkedSums semiring.add
+        (terms ++ times_row semiring.multiply word (entries_along 0 cols.now words.now)) marks.new sums.new }
+{
+    for k in 0..cols.len() {
+        let col = cols[k] as usize;
+        let product = semiring.multiply.eval(word, words[k]);
+        sums[col] = semiring.add.op.eval(sums[col], product);
+        marks[col] = true;
+    }
+}
+
+/// Adds the products of a row of A with B, each entry times the row of B that its column names, where no column
+/// is marked yet.
+#[tactic(auto, using(crate::proofs::Arms::same_marked_sums))]
+fn add_rows(marks: &mut [bool], sums: &mut [u64], row: Row<'_>, b: &Store, semiring: Semiring)
+    requires marks { length marks.old ≡ length sums.old }
+    requires lengths { length row.words.now ≡ length row.cols.now }
+    requires inside { b.now.cols ≤ length sums.old }
+    requires before { AreMarkedSums semiring.add [] marks.old sums.old }
+    ensures { AreMarkedSums semiring.add
+        (terms_of_row semiring.multiply (entries_along row.entry.index row.entry.cols.now row.entry.words.now) b.now)
+        marks.new sums.new }
+{
+    // All that runs below the arms is inlined, so that its loops are compiled for each.
+    with_semiring!(semiring, |own| add_rows_by(marks, sums, row, b, own))
+}
+
+/// What `add_rows` does, by one semiring of its arms.
+#[inline(always)]
+fn add_rows_by(marks: &mut [bool], sums: &mut [u64], row: Row<'_>, b: &Store, semiring: Semiring)
+    requires marks { length marks.old ≡ length sums.old }
+    requires lengths { length row.words.now ≡ length row.cols.now }
+    requires inside { b.now.cols ≤ length sums.old }
+    requires before { AreMarkedSums semiring.add [] marks.old sums.old }
+    ensures { AreMarkedSums semiring.add
+        (terms_of_row semiring.multiply (entries_along row.entry.index row.entry.cols.now row.entry.words.now) b.now)
+        marks.new sums.new }
+{
+    let mut hint = 0;
+    for k in 0..row.cols.len() {
+        let (cols, words, next) = b.row_near(row.cols[k], hint);
+        hint = next;
+        add_products(marks, sums, row.words[k], cols, words, semiring);
+    }
+}
+
+/// Puts the sums of the row of the product with B that a row of A gives behind the inner indices and words. The
+/// sums begin at the monoid's identity, so that none is asked whether it is the first at its column. It leaves
+/// all bits clear.
+pub(crate) fn sum_many(
+    lists: &mut FiberLists,
+    bits: &mut [u64],
+    sums: &mut [u64],
+    marks: &mut Vec<bool>,
+    row: Row<'_>,
+    b: &Store,
+    semiring: Semiring,
+) -> Result<(), NoMemory>
+    requires room { HaveRoom bits.old sums.old }
+    requires lengths { length row.words.now ≡ length row.cols.now }
+    requires inside { b.now.cols ≤ length sums.old }
+    ensures row { OnOk result (HasOpenRow semiring.add.op row.entry.index
+        (terms_of_row semiring.multiply (entries_along row.entry.index row.entry.cols.now row.entry.words.now) b.now)
+        lists.old lists.new) }
+    ensures clear { OnOk result (AreClear bits.new) }
+{
+    marks.clear();
+    marks.resize(sums.len(), false)?;
+    sums.fill(semiring.add.identity());
+    add_rows(marks, sums, row, b, semiring);
+    set_marked(bits, marks);
+    gather(lists, bits, sums, 0..bits.len())
+}
+
+/// Sets the bits of the places that are marked, and no others.
+fn set_marked(bits: &mut [u64], marks: &[bool])
+    requires { length marks.now ≡ 64 * length bits.old }
+    ensures length { length bits.new ≡ length bits.old }
+    ensures bits { (at : ℕ) → at < length marks.now → has_bit bits.new at ≡ slice_index_or marks.now at false }
+{
+    for at in 0..bits.len() {
+        bits[at] = packed(&marks[64 * at..64 * at + 64]);
+    }
+}
