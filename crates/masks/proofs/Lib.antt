@@ -8,5 +8,6 @@ mod KeptFiber
 pub mod MaskLaws
 mod Merges
 mod Merging
+pub mod SameEnds
 pub mod SamePlaces
 mod WriteLaws

@@ -1,16 +1,64 @@
-use Rattle.std.proofs.Common.{◌≡◌, ◌∷◌, ◌∙◌, ap, length, rules, sym}
-use Rattle.store.specs.Fibers.{outers}
-use Rattle.masks.proofs.SamePlaces.{same_places}
+use Rattle.std.proofs.Common.{◌≡◌, ◌<◌, ◌∷◌, arith, length, refl, rules}
+use Rattle.std.proofs.lemmas.Bool.Decides.{nat_tests}
+use Rattle.store.proofs.CopyLaws.{ends_behind}
+use Rattle.masks.proofs.SameEnds.{counts_told, ends_told, same_counts, none_told, places_told}
 use Rattle.masks.proofs.alike.are_alike.Goals as goal
 
-pub returns-then-are_same : goal.returns-then-are_same
-returns-then-are_same c = λ yes.
+pub returns-then-a-b : goal.returns-then-a-b
+returns-then-a-b c =
+    let a = c.flat-a.result in
+    let b = c.flat-b.result in (
+      λ no. absurd cc,
+      λ same. absurd (
+          let count = counts_told a.from a.head a.others.now a.inner.now a.words.now c.args.left.now.entries c.flat-a.ensures.left c.flat-a.ensures.entries in
+          let count' = counts_told b.from b.head b.others.now b.inner.now b.words.now c.args.right.now.entries c.flat-b.ensures.left c.flat-b.ensures.entries in
+          let all = same_counts c.args.left.now.entries c.args.right.now.entries same in
+          c.if-a-b.true (omega arith)
+          ),
+    )
+
+pub returns-then-is_empty : goal.returns-then-is_empty
+returns-then-is_empty c =
     let a = c.flat-a.result in
     let b = c.flat-b.result in
-    let from : a.from ≡ b.from = c.if-a-b.false in
-    let head = c.is_same.ensures c.if-not-is_same.false in
-    let others = c.are_same.ensures c.if-are_same.true in
-    let inner : a.inner.now ≡ b.inner.now = search rules in
-    let long : length a.words.now ≡ length b.words.now = c.flat-a.ensures.left.same_length ∙ ap length inner ∙ sym c.flat-b.ensures.left.same_length in
-    rw (c.flat-a.ensures.entries, c.flat-b.ensures.entries, from, head, others, inner)
-    (same_places (outers b.from (b.head ∷ b.others.now)) b.inner.now a.words.now b.words.now long)
+    let none : length a.inner.now ≡ 0 = grind (arith, nat_tests) in
+    (λ yes. none_told a.from a.head a.others.now a.inner.now a.words.now b.from b.head b.others.now b.inner.now b.words.now c.args.left.now.entries c.args.right.now.entries c.flat-a.ensures.entries c.flat-b.ensures.entries none (omega (arith, c.if-a-b.false)), λ same. refl)
+
+pub have_same_ends-requires-clause-a : goal.have_same_ends-requires-clause-a
+have_same_ends-requires-clause-a c =
+    let a = c.flat-a.result in
+    let some : 0 < length a.inner.now = grind (arith, nat_tests) in
+    ends_behind a.from (a.head ∷ a.others.now) a.from (omega arith) (c.flat-a.ensures.left.rises some)
+
+pub have_same_ends-requires-clause-b : goal.have_same_ends-requires-clause-b
+have_same_ends-requires-clause-b c =
+    let a = c.flat-a.result in
+    let b = c.flat-b.result in
+    let some : 0 < length a.inner.now = grind (arith, nat_tests) in
+    ends_behind b.from (b.head ∷ b.others.now) b.from (omega arith) (c.flat-b.ensures.left.rises (omega (arith, c.if-a-b.false)))
+
+pub returns-then-have_same_ends : goal.returns-then-have_same_ends
+returns-then-have_same_ends c =
+    let a = c.flat-a.result in
+    let b = c.flat-b.result in
+    let some : 0 < length a.inner.now = grind (arith, nat_tests) in
+    let ends = c.have_same_ends.ensures.0 c.if-have_same_ends.true in (
+      λ yes. places_told a.from a.head a.others.now a.inner.now a.words.now b.from b.head b.others.now b.inner.now b.words.now c.args.left.now.entries c.args.right.now.entries
+          c.flat-a.ensures.left c.flat-b.ensures.left c.flat-a.ensures.entries c.flat-b.ensures.entries some ends (search rules),
+      λ same.
+          let told = ends_told a.from a.head a.others.now a.inner.now a.words.now b.from b.head b.others.now b.inner.now b.words.now c.args.left.now.entries c.args.right.now.entries
+          c.flat-a.ensures.left c.flat-b.ensures.left c.flat-a.ensures.entries c.flat-b.ensures.entries some (omega (arith, c.if-a-b.false)) same in
+          search rules,
+    )
+
+pub returns-else-have_same_ends : goal.returns-else-have_same_ends
+returns-else-have_same_ends c =
+    let a = c.flat-a.result in
+    let b = c.flat-b.result in
+    let some : 0 < length a.inner.now = grind (arith, nat_tests) in (
+      λ yes. absurd (cc),
+      λ same.
+          let told = ends_told a.from a.head a.others.now a.inner.now a.words.now b.from b.head b.others.now b.inner.now b.words.now c.args.left.now.entries c.args.right.now.entries
+          c.flat-a.ensures.left c.flat-b.ensures.left c.flat-a.ensures.entries c.flat-b.ensures.entries some (omega (arith, c.if-a-b.false)) same in
+          c.have_same_ends.ensures.1 told.0,
+    )

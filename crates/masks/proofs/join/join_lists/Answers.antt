@@ -18,7 +18,7 @@ returns-then-are_alike c =
     let cols = c.args.left.now.cols in
     let a = c.fibers_in-lefts.result.entries in
     let b = c.fibers_in-rights.result.entries in
-    let same = c.are_alike.ensures c.if-are_alike.true in
+    let same = c.are_alike.ensures.0 c.if-are_alike.true in
     let in_a : AreIn first past cols (along cols a) = rw c.fibers_in-lefts.ensures.entries (entries_between-inside first past cols (content_of c.args.left.now)) in
     let words_b : (i j : ℕ) → first ≤ i → i < past → word_at (along cols b) i j ≡ content_of c.args.right.now i j = rw c.requires.cols c.fibers_in-rights.ensures.words in
     if_ok_both c.join_alike.result (λ (lists : FiberLists). AreFlat lists.ends.items lists.inner.items lists.words.items) (λ (lists : FiberLists). entries_in lists ≡ beside (both_of by) a b)
