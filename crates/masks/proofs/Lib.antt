@@ -1,5 +1,6 @@
 pub mod BlockLaws
 pub mod FiberMerges
+pub mod FewLaws
 mod JoinedWords
 pub mod Joins
 mod Keeping

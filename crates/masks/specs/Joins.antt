@@ -1,14 +1,15 @@
 -- The join of two maps: where both have a word what is made of both, and where one has, what is made of it alone.
-use Rattle.std.specs.Prelude.{ℕ, ◌≡◌, ◌<◌, ◌==◌, if◌then◌else◌, List, length, map, slice_index, Option, ◌++◌}
-use Rattle.std.specs.List.{zip}
+use Rattle.std.specs.Prelude.{ℕ, ◌≡◌, ◌<◌, ◌≤◌, ◌==◌, if◌then◌else◌, List, drop, length, map, slice_index, take}
+use Rattle.std.specs.Prelude.{Option, ◌++◌}
+use Rattle.std.specs.List.{All, zip}
 use Rattle.algebra.specs.Operators.{answer_domain, eval_of}
 use Rattle.algebra.specs.Value.{cast_of}
 use Rattle.model.specs.declared.entry.Entry.{Entry}
 use Rattle.model.specs.ElementWise.{of_either}
-use Rattle.model.specs.Entries.{entry_at, word_at}
+use Rattle.model.specs.Entries.{InOrder, entry_at, word_at}
 use Rattle.model.specs.Object.{Content}
 use Rattle.store.specs.declared.lists.FiberLists.{FiberLists}
-use Rattle.store.specs.Fibers.{AreFlat, entries_in}
+use Rattle.store.specs.Fibers.{AreFlat, entries_along, entries_in}
 use Rattle.store.specs.Stored.{AreIn, along}
 use Rattle.masks.specs.declared.join.Joining.{Joining}
 use Rattle.masks.specs.declared.join.Joining.TheVariants.{Accumulate, Right, Unite}
@@ -64,3 +65,24 @@ HaveSamePlaces a b = map place_of a ≡ map place_of b
 -- each entry of a with what a function gives for its word and that of the entry of b beside it
 abbrev pub beside : (ℕ → ℕ → ℕ) → List Entry → List Entry → List Entry
 beside f a b = map (λ p. entry_at p.0.row p.0.col (f p.0.word p.1.word)) (zip a b)
+
+-- entries are the join of those of two sides
+pub record IsJoin (by : Joining) (a b part : List Entry) : Type 0 where
+  pub order : InOrder part
+  pub words : (i j : ℕ) → word_at part i j ≡ joined by (word_at a) (word_at b) i j
+
+-- each number of a list is less than each of another
+abbrev pub AreBelow : List ℕ → List ℕ → Type 0
+AreBelow xs ys = All (λ x. All (λ y. x < y) ys) xs
+
+-- columns and words are the join of the first so many entries of two fibers, and the others stand behind all these
+pub record IsJoinSoFar (by : Joining) (left left_words right right_words : List ℕ) (i k : ℕ) (cols words : List ℕ)
+    : Type 0 where
+  pub lengths : length words ≡ length cols
+  pub high : i ≤ length left
+  pub joined_are : (outer : ℕ) → IsJoin by (entries_along outer (take i left) (take i left_words))
+      (entries_along outer (take k right) (take k right_words)) (entries_along outer cols words)
+  pub left_right : AreBelow (take i left) (drop k right)
+  pub right_left : AreBelow (take k right) (drop i left)
+  pub part_left : AreBelow cols (drop i left)
+  pub part_right : AreBelow cols (drop k right)

@@ -10,6 +10,7 @@ ghost use Rattle.store.specs.Stored.{AreIn, along, block_content, content_of};
 ghost use Rattle.masks.specs.Joins.{AreJoined, HasJoin, alone_of, both_of, joined};
 
 use crate::alike::{are_alike, join_alike};
+use crate::few::{few_beside, join_few, keeps_alone};
 use crate::merge::Places;
 use algebra::BinaryOp;
 use lanes::{unite_words, zip_words};
@@ -109,6 +110,11 @@ fn join_lists(
     let rights = right.fibers_in(range.start..range.end);
     if are_alike(&lefts, &rights) {
         return join_alike(alloc, &lefts, &rights, by);
+    }
+    if keeps_alone(by)
+        && let Some(pair) = few_beside(lefts, rights)
+    {
+        return join_few(alloc, pair, by);
     }
     join_parts(alloc, left, right, by, range, room)
 }

@@ -154,8 +154,20 @@ fn pass_over(stored: &[u64], next: usize, inner: &[u64], at: usize, looks_up: bo
     if !looks_up || at >= inner.len() {
         return next;
     }
-    let index = inner[at];
-    next + stored[next..].partition_point(|x| *x < index)
+    place_from(stored, next, inner[at])
+}
+
+/// The first place from another on at which an inner index isn't below a given one; by a binary search.
+#[inline(always)]
+pub(crate) fn place_from(inner: &[u64], from: usize, index: u64) -> usize
+    requires rising { AllPairs (λ a b. a < b) inner.now }
+    requires bound { from ≤ length inner.now }
+    ensures bound { result ≤ length inner.now }
+    ensures behind { from ≤ result }
+    ensures passed { All (λ y. y < index) (take from inner.now) → All (λ y. y < index) (take result inner.now) }
+    ensures left { All (λ y. index ≤ y) (drop result inner.now) }
+{
+    from + inner[from..].partition_point(|x| *x < index)
 }
 
 /// Whether the mask keeps an index, where `other` is the first in a fiber of its store that isn't below it,

@@ -4,6 +4,7 @@
 
 mod alike;
 mod blocks;
+mod few;
 mod join;
 mod keep;
 mod merge;
