@@ -10,6 +10,7 @@ ghost use Rattle.spgemm.specs.Terms.{AreFirstTerms, term_at, terms_of_row, times
 ghost use Rattle.spgemm.specs.declared.term.Term.{Term};
 
 use crate::bits::{full_words, has_bit, set_bit};
+use crate::hints::RowHints;
 use crate::sums::push_sum;
 use crate::term::Term;
 use algebra::{BinaryOp, Semiring, with_semiring};
@@ -135,6 +136,7 @@ fn add_rows(
     row: Row<'_>,
     from: usize,
     b: &Store,
+    hints: &RowHints,
     semiring: Semiring,
 )
     requires room { HaveRoom bits.old sums.old }
@@ -148,7 +150,10 @@ fn add_rows(
         bits.new sums.new }
 {
     // All that runs below the arms is inlined, so that its loops are compiled for each.
-    with_semiring!(semiring, |own| add_rows_by(bits, sums, row, from, b, own))
+    with_semiring!(
+        semiring,
+        |own| add_rows_by(bits, sums, row, from, b, hints, own)
+    )
 }
 
 /// What `add_rows` does, by one semiring of its arms.
@@ -159,6 +164,7 @@ fn add_rows_by(
     row: Row<'_>,
     from: usize,
     b: &Store,
+    hints: &RowHints,
     semiring: Semiring,
 )
     requires room { HaveRoom bits.old sums.old }
@@ -173,10 +179,10 @@ fn add_rows_by(
 {
     let many = sums.len() / COLUMNS_AN_ENTRY;
     let mut full = 0;
-    let mut hint = 0;
+    let mut last = 0;
     for k in from..row.cols.len() {
-        let (cols, words, next) = b.row_near(row.cols[k], hint);
-        hint = next;
+        let (cols, words, next) = b.row_near(row.cols[k], hints.of(row.cols[k], last));
+        last = next;
         if cols.len() > many {
             add_products(
                 bits,
@@ -274,6 +280,7 @@ pub(crate) fn sum_densely(
     row: Row<'_>,
     done: usize,
     b: &Store,
+    hints: &RowHints,
     semiring: Semiring,
 ) -> Result<(), NoMemory>
     requires room { HaveRoom bits.old sums.old }
@@ -289,7 +296,7 @@ pub(crate) fn sum_densely(
     ensures clear { OnOk result (AreClear bits.new) }
 {
     add_terms(bits, sums, terms, semiring);
-    add_rows(bits, sums, row, done, b, semiring);
+    add_rows(bits, sums, row, done, b, hints, semiring);
     gather(lists, bits, sums, 0..bits.len())
 }
 

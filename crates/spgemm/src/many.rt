@@ -9,6 +9,7 @@ ghost use Rattle.spgemm.specs.declared.term.Term.{Term};
 
 use crate::bits::packed;
 use crate::dense::gather;
+use crate::hints::RowHints;
 use algebra::{Semiring, with_semiring};
 use model::NoMemory;
 use store::{FiberLists, Row, Store};
@@ -48,7 +49,14 @@ fn add_products(
 /// Adds the products of a row of A with B, each entry times the row of B that its column names, where no column
 /// is marked yet.
 #[tactic(auto, using(crate::proofs::Arms::same_marked_sums))]
-fn add_rows(marks: &mut [bool], sums: &mut [u64], row: Row<'_>, b: &Store, semiring: Semiring)
+fn add_rows(
+    marks: &mut [bool],
+    sums: &mut [u64],
+    row: Row<'_>,
+    b: &Store,
+    hints: &RowHints,
+    semiring: Semiring,
+)
     requires marks { length marks.old ≡ length sums.old }
     requires lengths { length row.words.now ≡ length row.cols.now }
     requires inside { b.now.cols ≤ length sums.old }
@@ -58,12 +66,19 @@ fn add_rows(marks: &mut [bool], sums: &mut [u64], row: Row<'_>, b: &Store, semir
         marks.new sums.new }
 {
     // All that runs below the arms is inlined, so that its loops are compiled for each.
-    with_semiring!(semiring, |own| add_rows_by(marks, sums, row, b, own))
+    with_semiring!(semiring, |own| add_rows_by(marks, sums, row, b, hints, own))
 }
 
 /// What `add_rows` does, by one semiring of its arms.
 #[inline(always)]
-fn add_rows_by(marks: &mut [bool], sums: &mut [u64], row: Row<'_>, b: &Store, semiring: Semiring)
+fn add_rows_by(
+    marks: &mut [bool],
+    sums: &mut [u64],
+    row: Row<'_>,
+    b: &Store,
+    hints: &RowHints,
+    semiring: Semiring,
+)
     requires marks { length marks.old ≡ length sums.old }
     requires lengths { length row.words.now ≡ length row.cols.now }
     requires inside { b.now.cols ≤ length sums.old }
@@ -72,10 +87,10 @@ fn add_rows_by(marks: &mut [bool], sums: &mut [u64], row: Row<'_>, b: &Store, se
         (terms_of_row semiring.multiply (entries_along row.entry.index row.entry.cols.now row.entry.words.now) b.now)
         marks.new sums.new }
 {
-    let mut hint = 0;
+    let mut last = 0;
     for k in 0..row.cols.len() {
-        let (cols, words, next) = b.row_near(row.cols[k], hint);
-        hint = next;
+        let (cols, words, next) = b.row_near(row.cols[k], hints.of(row.cols[k], last));
+        last = next;
         add_products(marks, sums, row.words[k], cols, words, semiring);
     }
 }
@@ -90,6 +105,7 @@ pub(crate) fn sum_many(
     marks: &mut Vec<bool>,
     row: Row<'_>,
     b: &Store,
+    hints: &RowHints,
     semiring: Semiring,
 ) -> Result<(), NoMemory>
     requires room { HaveRoom bits.old sums.old }
@@ -103,7 +119,7 @@ pub(crate) fn sum_many(
     marks.clear();
     marks.resize(sums.len(), false)?;
     sums.fill(semiring.add.identity());
-    add_rows(marks, sums, row, b, semiring);
+    add_rows(marks, sums, row, b, hints, semiring);
     set_marked(bits, marks);
     gather(lists, bits, sums, 0..bits.len())
 }

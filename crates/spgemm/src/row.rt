@@ -7,6 +7,7 @@ ghost use Rattle.spgemm.specs.Terms.{terms_of_row};
 
 use crate::dense::{MOST_PLACES, fit, sum_densely, sum_in_span};
 use crate::expand::expand;
+use crate::hints::RowHints;
 use crate::many::{exceeds_columns, sum_many};
 use crate::span::{most_collected, pays, span_of};
 use crate::sums::sum_runs;
@@ -17,18 +18,19 @@ use std::alloc::Global;
 use store::{FiberLists, Row, Store};
 
 /// Memory that serves one row after another: terms, and sums with a place for each column, each with a bit, and
-/// where there are many products with a mark, that says whether there is one. Between rows no bit is set.
+/// where there are many products with a mark, that says whether there is one; and hints where the rows of B lie. Between rows no bit is set.
 #[derive(Drop)]
 pub(crate) struct Scratch {
     pub(crate) terms: Vec<Term>,
     pub(crate) bits: Vec<u64>,
     pub(crate) sums: Vec<u64>,
     pub(crate) marks: Vec<bool>,
+    pub(crate) hints: RowHints,
 }
 
 impl Scratch {
-    /// No memory yet.
-    pub(crate) fn new(alloc: Global) -> Scratch
+    /// No memory yet but the hints.
+    pub(crate) fn new(alloc: Global, hints: RowHints) -> Scratch
         ensures room { HaveRoom result.bits.items result.sums.items }
         ensures none { AreClear result.bits.items }
     {
@@ -37,16 +39,18 @@ impl Scratch {
             bits: Vec::new(alloc),
             sums: Vec::new(alloc),
             marks: Vec::new(alloc),
+            hints,
         }
     }
 
-    /// Memory for rows of so many columns. The sums have their places at once where these are few beside the
-    /// entries that a product goes along anyhow.
-    pub(crate) fn for_rows(alloc: Global, cols: u64, entries: usize) -> Result<Scratch, NoMemory>
+    /// Memory for rows of products of so many entries with B. The sums have their places at once where these are
+    /// few beside the entries, along which the product goes anyhow.
+    pub(crate) fn for_rows(alloc: Global, b: &Store, entries: usize) -> Result<Scratch, NoMemory>
         ensures room { IfOk result (λ scratch. HaveRoom scratch.bits.items scratch.sums.items) }
         ensures none { IfOk result (λ scratch. AreClear scratch.bits.items) }
     {
-        let mut scratch = Scratch::new(alloc);
+        let mut scratch = Scratch::new(alloc, RowHints::for_lookups(alloc, b, entries)?);
+        let cols = b.cols();
         if cols <= MOST_PLACES && cols as usize / 8 <= entries {
             fit(&mut scratch.bits, &mut scratch.sums, cols)?;
         }
@@ -99,14 +103,16 @@ pub(crate) fn sum_row(
         bits,
         sums,
         marks,
+        hints,
     } = scratch;
-    let done = expand(terms, row, b, semiring, most_collected(b.cols()))?;
+    let most = most_collected(b.cols(), sums.len());
+    let done = expand(terms, row, b, hints, semiring, most)?;
     if done < row.cols.len() {
         fit(bits, sums, b.cols())?;
         if exceeds_columns(row.cols.len(), b) {
-            return sum_many(lists, bits, sums, marks, row, b, semiring);
+            return sum_many(lists, bits, sums, marks, row, b, hints, semiring);
         }
-        return sum_densely(lists, bits, sums, terms, row, done, b, semiring);
+        return sum_densely(lists, bits, sums, terms, row, done, b, hints, semiring);
     }
     let span = span_of(terms);
     if pays(&span, terms.len(), b.cols(), sums.len()) {

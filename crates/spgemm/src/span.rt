@@ -10,15 +10,23 @@ use std::ops::Range;
 /// products.
 const WORDS_A_PRODUCT: usize = 4;
 
-/// How many products of a row are collected at most, where there are so many columns: where there are more, a
-/// place for each column pays.
-pub(crate) fn most_collected(cols: u64) -> usize
+/// How many columns there are at most for each product, where to make places for them is faster than to sort the
+/// products.
+const COLUMNS_A_PRODUCT: usize = 64;
+
+/// How many products of a row are collected at most, where there are so many columns, and as many places already:
+/// where there are more, a place for each column pays.
+pub(crate) fn most_collected(cols: u64, places: usize) -> usize
     ensures { result + 1 < 2 ^ 64 → cols ≤ 2 ^ 24 }
 {
     if cols > MOST_PLACES {
         return usize::MAX;
     }
-    cols as usize / 64 / WORDS_A_PRODUCT
+    if cols < places as u64 {
+        cols as usize / 64 / WORDS_A_PRODUCT
+    } else {
+        cols as usize / COLUMNS_A_PRODUCT
+    }
 }
 
 /// Whether it pays to sum so many products in the places of a span, where there are `places` already and so many

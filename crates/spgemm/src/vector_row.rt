@@ -95,5 +95,13 @@ pub(crate) fn multiply_part_under(
         );
     }
     room.slots.hold(rows, words, mask)?;
-    multiply_row_within(lists, &room.slots, &mut room.sums, row, a, semiring)
+    multiply_row_within(
+        lists,
+        &room.slots,
+        &mut room.sums,
+        row,
+        a,
+        &room.scratch.hints,
+        semiring,
+    )
 }
