@@ -1,7 +1,7 @@
 //! Hints where the rows of a store lie.
 use model::NoMemory;
 use std::alloc::Global;
-use store::Store;
+use store::{Fibers, Store};
 
 /// For each row how many rows before it have entries, as hints for `Store::row_near`; or nothing.
 #[derive(Drop)]
@@ -10,20 +10,18 @@ pub(crate) struct RowHints {
 }
 
 impl RowHints {
-    /// Hints for so many lookups in a store, where they pay. Their time and memory follow its rows.
+    /// Hints for so many lookups in a store, on so many walks along its rows, where they pay. Their time and memory
+    /// follow the rows.
     pub(crate) fn for_lookups(
         alloc: Global,
         store: &Store,
         lookups: usize,
+        walks: u64,
     ) -> Result<RowHints, NoMemory> {
         let mut before = Vec::new(alloc);
-        if pays(store, lookups) {
-            let fibers = store.fibers_in(0..store.rows()).flat();
-            before.reserve(store.rows() as usize)?;
-            cover(&mut before, fibers.head.outer, 0)?;
-            for k in 0..fibers.others.len() {
-                cover(&mut before, fibers.others[k].outer, k + 1)?;
-            }
+        let fibers = store.fibers_in(0..store.rows());
+        if pays(store, &fibers, lookups as u64, walks) {
+            count_before(&mut before, &fibers, store.rows())?;
         }
         Ok(RowHints { before })
     }
@@ -39,23 +37,31 @@ impl RowHints {
     }
 }
 
-/// Hints pay where there are at most so many rows for each lookup.
-const ROWS_A_LOOKUP: u64 = 4;
+/// Making hints costs as much as a search for each so many rows.
+const ROWS_A_SEARCH: u64 = 16;
 
-/// Whether hints pay: a matrix has few rows beside the lookups, and not all have entries. Where all have, a lookup
-/// is fast without hints.
-fn pays(store: &Store, lookups: usize) -> bool {
+/// Whether hints pay: the rows are few beside the lookups, a walk passes rows over, so that what the row before
+/// gave is no hint, and there are so many rows without entries that a search is long.
+fn pays(store: &Store, fibers: &Fibers<'_>, lookups: u64, walks: u64) -> bool {
+    let rows = store.rows();
+    let filled = fibers.flat().others.len() as u64 + 1;
     store.cols() > 1
-        && store.nvals() > 0
-        && store.rows() / ROWS_A_LOOKUP <= lookups as u64
-        && store.fibers_in(0..store.rows()).flat().others.len() as u64 + 1 < store.rows()
+        && fibers.len() > 0
+        && rows / ROWS_A_SEARCH <= lookups
+        && lookups / walks.max(1) <= rows / 2
+        && filled.saturating_add(rows / ROWS_A_SEARCH) < rows
 }
 
-/// Makes the hint for the rows up to one that has entries, where there is none yet, so many.
-fn cover(before: &mut Vec<u32>, row: u64, count: usize) -> Result<(), NoMemory> {
-    before.resize(
-        (row as usize).saturating_add(1),
-        u32::try_from(count).unwrap_or(0),
-    )?;
+/// Makes for each of so many rows the number of rows before it that have entries.
+fn count_before(before: &mut Vec<u32>, fibers: &Fibers<'_>, rows: u64) -> Result<(), NoMemory> {
+    let flat = fibers.flat();
+    before.reserve(rows as usize)?;
+    let mut count = 0;
+    for row in 0..rows {
+        before.push(u32::try_from(count).unwrap_or(0))?;
+        if count <= flat.others.len() && flat.fiber(count).outer == row {
+            count += 1;
+        }
+    }
     Ok(())
 }

@@ -18,7 +18,8 @@ use std::alloc::Global;
 use store::{FiberLists, Row, Store};
 
 /// Memory that serves one row after another: terms, and sums with a place for each column, each with a bit, and
-/// where there are many products with a mark, that says whether there is one; and hints where the rows of B lie. Between rows no bit is set.
+/// where there are many products with a mark, that says whether there is one; and hints where the rows of B lie.
+/// Between rows no bit is set.
 #[derive(Drop)]
 pub(crate) struct Scratch {
     pub(crate) terms: Vec<Term>,
@@ -43,13 +44,18 @@ impl Scratch {
         }
     }
 
-    /// Memory for rows of products of so many entries with B. The sums have their places at once where these are
-    /// few beside the entries, along which the product goes anyhow.
-    pub(crate) fn for_rows(alloc: Global, b: &Store, entries: usize) -> Result<Scratch, NoMemory>
+    /// Memory for so many rows of a product of so many entries with B. The sums have their places at once where
+    /// these are few beside the entries, along which the product goes anyhow.
+    pub(crate) fn for_rows(
+        alloc: Global,
+        b: &Store,
+        entries: usize,
+        rows: u64,
+    ) -> Result<Scratch, NoMemory>
         ensures room { IfOk result (λ scratch. HaveRoom scratch.bits.items scratch.sums.items) }
         ensures none { IfOk result (λ scratch. AreClear scratch.bits.items) }
     {
-        let mut scratch = Scratch::new(alloc, RowHints::for_lookups(alloc, b, entries)?);
+        let mut scratch = Scratch::new(alloc, RowHints::for_lookups(alloc, b, entries, rows)?);
         let cols = b.cols();
         if cols <= MOST_PLACES && cols as usize / 8 <= entries {
             fit(&mut scratch.bits, &mut scratch.sums, cols)?;
