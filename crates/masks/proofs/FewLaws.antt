@@ -28,11 +28,11 @@ use Rattle.masks.proofs.Keeps.{along_append}
 
 -- ---- words of entries one behind the other
 
-abbrev either_word : Option ℕ → Option ℕ → Option ℕ
+abbrev pub either_word : Option ℕ → Option ℕ → Option ℕ
 either_word None o = o
 either_word (Some w) o = Some w
 
-word_at_both : (xs ys : List Entry) (i j : ℕ) → word_at (xs ++ ys) i j ≡ either_word (word_at xs i j) (word_at ys i j)
+pub word_at_both : (xs ys : List Entry) (i j : ℕ) → word_at (xs ++ ys) i j ≡ either_word (word_at xs i j) (word_at ys i j)
 unfolding word_at
 word_at_both [] ys i j = refl
 word_at_both (x ∷ xs) ys i j =
@@ -45,7 +45,7 @@ not_there : (e f : Entry) (i j : ℕ) → Precedes e f → (eqb i e.row && eqb j
 not_there e f i j before at = grind (arith, nat_tests)
 
 -- where entries have a word, those behind all of them have none
-none_behind : (xs ys : List Entry) (i j w : ℕ) → All (λ e. All (Precedes e) ys) xs → word_at xs i j ≡ Some w → word_at ys i j ≡ None
+pub none_behind : (xs ys : List Entry) (i j w : ℕ) → All (λ e. All (Precedes e) ys) xs → word_at xs i j ≡ Some w → word_at ys i j ≡ None
 unfolding word_at
 none_behind [] ys i j w before is = cc
 none_behind (x ∷ xs) ys i j w before is =
@@ -127,7 +127,7 @@ one_along o x v (y ∷ ys) (w ∷ ws) long below =
     All-cons (Precedes (entry_at o x v)) (entry_at o y w) (entries_along o ys ws) (inr (refl, All-head (λ y. x < y) y ys below))
     (one_along o x v ys ws (omega arith) (All-tail (λ y. x < y) y ys below))
 
-below_along : (o : ℕ) (xs vs ys ws : List ℕ) → length vs ≡ length xs → length ws ≡ length ys → AreBelow xs ys → All (λ e. All (Precedes e) (entries_along o ys ws)) (entries_along o xs vs)
+pub below_along : (o : ℕ) (xs vs ys ws : List ℕ) → length vs ≡ length xs → length ws ≡ length ys → AreBelow xs ys → All (λ e. All (Precedes e) (entries_along o ys ws)) (entries_along o xs vs)
 below_along o [] vs ys ws long long' below = All-nil (λ e. All (Precedes e) (entries_along o ys ws))
 below_along o (x ∷ xs) [] ys ws long long' below = absurd (omega arith)
 below_along o (x ∷ xs) (v ∷ vs) ys ws long long' below =
@@ -135,7 +135,7 @@ below_along o (x ∷ xs) (v ∷ vs) ys ws long long' below =
     (one_along o x v ys ws long' (All-head (λ x. All (λ y. x < y) ys) x xs below))
     (below_along o xs vs ys ws (omega arith) long' (All-tail (λ x. All (λ y. x < y) ys) x xs below))
 
-fiber_order : (o : ℕ) (xs vs : List ℕ) → length vs ≡ length xs → AllPairs (λ x y. x < y) xs → InOrder (entries_along o xs vs)
+pub fiber_order : (o : ℕ) (xs vs : List ℕ) → length vs ≡ length xs → AllPairs (λ x y. x < y) xs → InOrder (entries_along o xs vs)
 fiber_order o [] vs long rises = all_pairs_nil Precedes
 fiber_order o (x ∷ xs) [] long rises = absurd (omega arith)
 fiber_order o (x ∷ xs) (v ∷ vs) long rises =
@@ -164,7 +164,7 @@ below_back xs ys zs below = All-weaker (λ x. All (λ y. x < y) (ys ++ zs)) (λ 
 below_both : (xs ys zs : List ℕ) → AreBelow xs zs → AreBelow ys zs → AreBelow (xs ++ ys) zs
 below_both xs ys zs p q = All-append (λ x. All (λ y. x < y) zs) xs ys p q
 
-below_first : (xs ys : List ℕ) (k : ℕ) → k < length ys → AreBelow xs (drop k ys) → AreBelow xs (get_or ys k 0 ∷ [])
+pub below_first : (xs ys : List ℕ) (k : ℕ) → k < length ys → AreBelow xs (drop k ys) → AreBelow xs (get_or ys k 0 ∷ [])
 below_first xs ys k within below = below_front xs (get_or ys k 0 ∷ []) (drop (k + 1) ys) (subst (AreBelow xs) (drop_more ys k 0 within) below)
 
 below_rest : (xs ys : List ℕ) (k : ℕ) → k < length ys → AreBelow xs (drop k ys) → AreBelow xs (drop (k + 1) ys)
@@ -177,7 +177,7 @@ below_part : (xs ys : List ℕ) (i n : ℕ) → i ≤ n → AreBelow xs (drop i 
 below_part xs ys i n low below = below_front xs (slice_range ys i n) (drop n ys) (subst (AreBelow xs) (drop_split ys i n low) below)
 
 -- numbers that rise: those before a place are below those from there on
-rising_split : (xs : List ℕ) (i : ℕ) → AllPairs (λ x y. x < y) xs → AreBelow (take i xs) (drop i xs)
+pub rising_split : (xs : List ℕ) (i : ℕ) → AllPairs (λ x y. x < y) xs → AreBelow (take i xs) (drop i xs)
 rising_split xs i rises = all_pairs_across (λ x y. x < y) (take i xs) (drop i xs) (subst (AllPairs (λ x y. x < y)) (sym (take-append-drop i xs)) rises)
 
 rising_here : (xs : List ℕ) (i : ℕ) → i < length xs → AllPairs (λ x y. x < y) xs → AreBelow (get_or xs i 0 ∷ []) (drop (i + 1) xs)

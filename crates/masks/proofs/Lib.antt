@@ -1,6 +1,7 @@
 pub mod BlockLaws
 pub mod FiberMerges
 pub mod FewLaws
+pub mod FullLaws
 mod JoinedWords
 pub mod Joins
 mod Keeping

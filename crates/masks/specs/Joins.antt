@@ -1,5 +1,5 @@
 -- The join of two maps: where both have a word what is made of both, and where one has, what is made of it alone.
-use Rattle.std.specs.Prelude.{ℕ, ◌≡◌, ◌<◌, ◌≤◌, ◌==◌, if◌then◌else◌, List, drop, length, map, slice_index, take}
+use Rattle.std.specs.Prelude.{ℕ, ◌≡◌, ◌<◌, ◌≤◌, ◌+◌, ◌==◌, if◌then◌else◌, List, drop, length, map, slice_index, take}
 use Rattle.std.specs.Prelude.{Option, ◌++◌}
 use Rattle.std.specs.List.{All, zip}
 use Rattle.algebra.specs.Operators.{answer_domain, eval_of}
@@ -11,6 +11,8 @@ use Rattle.model.specs.Object.{Content}
 use Rattle.store.specs.declared.lists.FiberLists.{FiberLists}
 use Rattle.store.specs.Fibers.{AreFlat, entries_along, entries_in}
 use Rattle.store.specs.Stored.{AreIn, along}
+use Rattle.masks.specs.declared.full.Side.{Side}
+use Rattle.masks.specs.declared.full.Side.TheVariants as sides
 use Rattle.masks.specs.declared.join.Joining.{Joining}
 use Rattle.masks.specs.declared.join.Joining.TheVariants.{Accumulate, Right, Unite}
 
@@ -86,3 +88,18 @@ pub record IsJoinSoFar (by : Joining) (left left_words right right_words : List 
   pub right_left : AreBelow (take k right) (drop i left)
   pub part_left : AreBelow cols (drop i left)
   pub part_right : AreBelow cols (drop k right)
+
+-- the indices of a fiber have no gaps, and those of another lie between its ends
+pub record IsAround (full other : List ℕ) : Type 0 where
+  pub steps : (k : ℕ) → k < length full → slice_index full k ≡ slice_index full 0 + k
+  pub inside : All (λ x. (slice_index full 0 ≤ x) × (x < slice_index full 0 + length full)) other
+
+-- what is made of the words of both, of which that of the fiber without gaps is on one side
+abbrev pub both_beside : Side → Joining → ℕ → ℕ → ℕ
+both_beside sides.Left by full other = both_of by full other
+both_beside sides.Right by full other = both_of by other full
+
+-- entries are those of a and b, with what a function makes of the words of both where both are
+pub record IsJoinBy (f : ℕ → ℕ → ℕ) (a b part : List Entry) : Type 0 where
+  pub order : InOrder part
+  pub words : (i j : ℕ) → word_at part i j ≡ of_either (λ w. w) (λ w. w) f (word_at a i j) (word_at b i j)

@@ -85,7 +85,7 @@ pub fn join_alike(
 }
 
 /// Makes each word what is made of two words side by side.
-fn join_both(by: Joining, lefts: &[u64], rights: &[u64], words: &mut [u64])
+pub(crate) fn join_both(by: Joining, lefts: &[u64], rights: &[u64], words: &mut [u64])
     requires lefts { length lefts.now ≡ length words.old }
     requires rights { length rights.now ≡ length words.old }
     ensures length { length words.new ≡ length words.old }

@@ -1,5 +1,6 @@
 //! Joins of stores: where both have a word what is made of both, and where one has, its word.
-ghost use Rattle.std.specs.Prelude.{◌≡◌, ℕ, ◌<◌, ◌≤◌, ◌==◌, ◌++◌, if◌then◌else◌, length, slice_index, take, IfOk, OnOk};
+ghost use Rattle.std.specs.Prelude.{◌≡◌, ℕ, ◌<◌, ◌≤◌, ◌==◌, ◌++◌, if◌then◌else◌, length, slice_index, take, true};
+ghost use Rattle.std.specs.Prelude.{IfOk, OnOk};
 ghost use Rattle.std.specs.List.{All};
 ghost use Rattle.std.specs.Option.{option_map};
 ghost use Rattle.model.specs.ElementWise.{of_either};
@@ -10,8 +11,10 @@ ghost use Rattle.store.specs.Stored.{AreIn, along, block_content, content_of};
 ghost use Rattle.masks.specs.Joins.{AreJoined, HasJoin, alone_of, both_of, joined};
 
 use crate::alike::{are_alike, join_alike};
-use crate::few::{few_beside, join_few, keeps_alone};
+use crate::few::{has_few, join_few};
+use crate::full::{full_side, join_full};
 use crate::merge::Places;
+use crate::pair::pair_of;
 use algebra::BinaryOp;
 use lanes::{unite_words, zip_words};
 use model::NoMemory;
@@ -112,11 +115,26 @@ fn join_lists(
         return join_alike(alloc, &lefts, &rights, by);
     }
     if keeps_alone(by)
-        && let Some(pair) = few_beside(lefts, rights)
+        && let Some(pair) = pair_of(lefts, rights)
     {
-        return join_few(alloc, pair, by);
+        if let Some(side) = full_side(pair) {
+            return join_full(alloc, pair, side, by);
+        }
+        if has_few(pair) {
+            return join_few(alloc, pair, by);
+        }
     }
     join_parts(alloc, left, right, by, range, room)
+}
+
+/// Whether the word of an entry that one side has alone stays as it is.
+fn keeps_alone(by: Joining) -> bool
+    ensures { result ≡ true → (word : ℕ) → alone_of by word ≡ word }
+{
+    match by {
+        Joining::Right | Joining::Accumulate(_) => true,
+        Joining::Unite(_) => false,
+    }
 }
 
 /// The same, part by part. There is room for so many entries from the

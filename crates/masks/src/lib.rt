@@ -5,9 +5,11 @@
 mod alike;
 mod blocks;
 mod few;
+mod full;
 mod join;
 mod keep;
 mod merge;
+mod pair;
 mod view;
 mod write;
 

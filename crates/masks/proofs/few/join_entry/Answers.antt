@@ -21,7 +21,7 @@ run c =
 pub returns-then-left-at-clause-joined : goal.returns-then-left-at-clause-joined
 returns-then-left-at-clause-joined c =
     let here = run (search rules) in
-    rw (c.in_ok-push.ensures.items, c.in_ok-push-2.ensures.items, c.join_words.ensures)
+    rw (c.in_ok-push.ensures.items, c.in_ok-push-2.ensures.items, c.word_of_both.ensures)
     (both_more c.args.by c.args.left.inner.now c.args.left.words.now c.args.right.inner.now c.args.right.words.now c.place_from-at.result c.args.k c.append_run.new.lists.inner.items c.append_run.new.lists.words.items
     c.requires.left_words c.requires.right_words c.requires.left_rises c.requires.right_rises c.if-at-left.true c.requires.inside c.if-left-at.true here)
 
