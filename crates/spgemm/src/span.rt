@@ -14,7 +14,7 @@ const WORDS_A_PRODUCT: usize = 4;
 /// products.
 const COLUMNS_A_PRODUCT: usize = 64;
 
-/// How many products of a row are collected at most, where there are so many columns, and as many places already:
+/// How many products of a row are collected at most, where there are so many columns, and so many places already:
 /// where there are more, a place for each column pays.
 pub(crate) fn most_collected(cols: u64, places: usize) -> usize
     ensures { result + 1 < 2 ^ 64 → cols ≤ 2 ^ 24 }
