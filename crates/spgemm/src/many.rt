@@ -1,12 +1,13 @@
 //! The sums of a row of a product that has more products than there are columns.
 ghost use Rattle.std.specs.Prelude.{◌≡◌, ℕ, ◌<◌, ◌≤◌, ◌*◌, ◌++◌, [], List, false, length, slice_index_or, OnOk};
-ghost use Rattle.std.specs.List.{All};
+ghost use Rattle.std.specs.List.{All, AllPairs};
 ghost use Rattle.store.specs.Fibers.{entries_along};
 ghost use Rattle.spgemm.specs.Dense.{AreClear, AreMarkedSums, HaveRoom, has_bit};
 ghost use Rattle.spgemm.specs.Products.{HasOpenRow};
 ghost use Rattle.spgemm.specs.Terms.{terms_of_row, times_row};
 ghost use Rattle.spgemm.specs.declared.term.Term.{Term};
 
+use crate::along::{add_along, are_consecutive};
 use crate::bits::packed;
 use crate::dense::gather;
 use crate::hints::RowHints;
@@ -23,7 +24,7 @@ pub(crate) fn exceeds_columns(entries: usize, b: &Store) -> bool {
 
 /// Adds a word times each entry of a row to the sum at its column, and marks the column.
 #[inline(always)]
-fn add_products(
+pub(crate) fn add_products(
     marks: &mut [bool],
     sums: &mut [u64],
     word: u64,
@@ -95,6 +96,32 @@ fn add_rows_by(
     }
 }
 
+/// Adds the products of a row of A with B, where no column is marked yet: where the row has no gaps, on a walk
+/// along B.
+fn add_row(
+    marks: &mut [bool],
+    sums: &mut [u64],
+    row: Row<'_>,
+    b: &Store,
+    hints: &RowHints,
+    semiring: Semiring,
+)
+    requires marks { length marks.old ≡ length sums.old }
+    requires lengths { length row.words.now ≡ length row.cols.now }
+    requires rising { AllPairs (λ p q. p < q) row.cols.now }
+    requires inside { b.now.cols ≤ length sums.old }
+    requires before { AreMarkedSums semiring.add [] marks.old sums.old }
+    ensures { AreMarkedSums semiring.add
+        (terms_of_row semiring.multiply (entries_along row.entry.index row.entry.cols.now row.entry.words.now) b.now)
+        marks.new sums.new }
+{
+    if are_consecutive(row.cols) {
+        add_along(marks, sums, row, b, semiring);
+    } else {
+        add_rows(marks, sums, row, b, hints, semiring);
+    }
+}
+
 /// Puts the sums of the row of the product with B that a row of A gives behind the inner indices and words. The
 /// sums begin at the monoid's identity, so that none is asked whether it is the first at its column. It leaves
 /// all bits clear.
@@ -110,6 +137,7 @@ pub(crate) fn sum_many(
 ) -> Result<(), NoMemory>
     requires room { HaveRoom bits.old sums.old }
     requires lengths { length row.words.now ≡ length row.cols.now }
+    requires rising { AllPairs (λ p q. p < q) row.cols.now }
     requires inside { b.now.cols ≤ length sums.old }
     ensures row { OnOk result (HasOpenRow semiring.add.op row.entry.index
         (terms_of_row semiring.multiply (entries_along row.entry.index row.entry.cols.now row.entry.words.now) b.now)
@@ -119,7 +147,7 @@ pub(crate) fn sum_many(
     marks.clear();
     marks.resize(sums.len(), false)?;
     sums.fill(semiring.add.identity());
-    add_rows(marks, sums, row, b, hints, semiring);
+    add_row(marks, sums, row, b, hints, semiring);
     set_marked(bits, marks);
     gather(lists, bits, sums, 0..bits.len())
 }

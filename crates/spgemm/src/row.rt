@@ -1,5 +1,6 @@
 //! One row of a product.
-ghost use Rattle.std.specs.Prelude.{◌≡◌, ℕ, length, IfOk, OnOk};
+ghost use Rattle.std.specs.Prelude.{◌≡◌, ◌<◌, ℕ, length, IfOk, OnOk};
+ghost use Rattle.std.specs.List.{AllPairs};
 ghost use Rattle.store.specs.Fibers.{entries_along};
 ghost use Rattle.spgemm.specs.Dense.{AreClear, HaveRoom};
 ghost use Rattle.spgemm.specs.Products.{HasOpenRow, HasRow};
@@ -73,6 +74,7 @@ pub(crate) fn multiply_row(
     semiring: Semiring,
 ) -> Result<(), NoMemory>
     requires lengths { length row.words.now ≡ length row.cols.now }
+    requires rising { AllPairs (λ p q. p < q) row.cols.now }
     requires room { HaveRoom scratch.old.bits.items scratch.old.sums.items }
     requires none { AreClear scratch.old.bits.items }
     ensures row { OnOk result (HasRow semiring.add.op row.entry.index
@@ -96,6 +98,7 @@ pub(crate) fn sum_row(
     semiring: Semiring,
 ) -> Result<(), NoMemory>
     requires lengths { length row.words.now ≡ length row.cols.now }
+    requires rising { AllPairs (λ p q. p < q) row.cols.now }
     requires room { HaveRoom scratch.old.bits.items scratch.old.sums.items }
     requires none { AreClear scratch.old.bits.items }
     ensures row { OnOk result (HasOpenRow semiring.add.op row.entry.index

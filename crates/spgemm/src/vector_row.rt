@@ -39,6 +39,7 @@ pub(crate) fn multiply_part(
 ) -> Result<(), NoMemory>
     requires lists { length lists.old.words.items ≡ length lists.old.inner.items }
     requires lengths { length row.words.now ≡ length row.cols.now }
+    requires rising { AllPairs (λ p q. p < q) row.cols.now }
     requires range { range.now.start ≤ range.now.end }
     requires room { HaveRoom scratch.old.bits.items scratch.old.sums.items }
     requires none { AreClear scratch.old.bits.items }
@@ -69,6 +70,7 @@ pub(crate) fn multiply_part_under(
     requires lists { length lists.old.words.items ≡ length lists.old.inner.items }
     requires index { row.index ≡ 0 }
     requires lengths { length row.words.now ≡ length row.cols.now }
+    requires rising { AllPairs (λ p q. p < q) row.cols.now }
     requires store { store.now.cols ≡ 1 }
     requires range { range.now.start ≤ range.now.end }
     requires marks { AreMarks [] room.old.slots.marks.items }
