@@ -6,7 +6,7 @@ ghost use Rattle.algebra.specs.declared.binary.BinaryOp.{BinaryOp};
 ghost use Rattle.store.specs.Fibers.{entries_along};
 ghost use Rattle.spgemm.specs.Dense.{AreClear, AreColumnSums, HaveRoom, found, has_bit, word_by, word_in};
 ghost use Rattle.spgemm.specs.Products.{HasOpenRow};
-ghost use Rattle.spgemm.specs.Terms.{AreFirstTerms, term_at, terms_of_row, times_row};
+ghost use Rattle.spgemm.specs.Terms.{AllMet, AreFirstTerms, term_at, terms_of_row, times_row};
 ghost use Rattle.spgemm.specs.declared.term.Term.{Term};
 
 use crate::bits::{full_words, has_bit, set_bit};
@@ -86,6 +86,8 @@ fn add_products(
     ensures sums { (terms : List Term) → AreColumnSums semiring.add.op terms bits.old sums.old
         → AreColumnSums semiring.add.op
         (terms ++ times_row semiring.multiply word (entries_along 0 cols.now words.now)) bits.new sums.new }
+    ensures others { (at : ℕ) → All (λ col. col / 64 ≢ at) cols.now
+        → slice_index bits.new at ≡ slice_index bits.old at }
     ensures stay { (at : ℕ) → has_bit bits.old at ≡ true → has_bit bits.new at ≡ true }
 {
     for k in 0..cols.len() {
@@ -145,9 +147,12 @@ fn add_rows(
     requires from { from ≤ length row.cols.now }
     requires before { AreColumnSums semiring.add.op (terms_of_row semiring.multiply
         (take from (entries_along row.index row.cols.now row.words.now)) b.now) bits.old sums.old }
-    ensures { AreColumnSums semiring.add.op
+    ensures sums { AreColumnSums semiring.add.op
         (terms_of_row semiring.multiply (entries_along row.entry.index row.entry.cols.now row.entry.words.now) b.now)
         bits.new sums.new }
+    ensures others { (at : ℕ) → AllMet (λ col. col / 64 ≢ at)
+        (entries_along row.entry.index row.entry.cols.now row.entry.words.now) b.now
+        → slice_index bits.new at ≡ slice_index bits.old at }
 {
     // All that runs below the arms is inlined, so that its loops are compiled for each.
     with_semiring!(
@@ -173,9 +178,12 @@ fn add_rows_by(
     requires from { from ≤ length row.cols.now }
     requires before { AreColumnSums semiring.add.op (terms_of_row semiring.multiply
         (take from (entries_along row.index row.cols.now row.words.now)) b.now) bits.old sums.old }
-    ensures { AreColumnSums semiring.add.op
+    ensures sums { AreColumnSums semiring.add.op
         (terms_of_row semiring.multiply (entries_along row.entry.index row.entry.cols.now row.entry.words.now) b.now)
         bits.new sums.new }
+    ensures others { (at : ℕ) → AllMet (λ col. col / 64 ≢ at)
+        (entries_along row.entry.index row.entry.cols.now row.entry.words.now) b.now
+        → slice_index bits.new at ≡ slice_index bits.old at }
 {
     let many = sums.len() / COLUMNS_AN_ENTRY;
     let mut full = 0;
@@ -320,6 +328,35 @@ pub(crate) fn sum_in_span(
     ensures clear { OnOk result (AreClear bits.new) }
 {
     add_terms(bits, sums, terms, semiring);
+    gather(lists, bits, sums, span)
+}
+
+/// Puts the sums of the row of the product with B that a row of A gives behind the inner indices and words, where
+/// the bits of its columns lie in a span. It sums in a place for each column, and leaves all bits clear.
+pub(crate) fn sum_row_in_span(
+    lists: &mut FiberLists,
+    bits: &mut [u64],
+    sums: &mut [u64],
+    row: Row<'_>,
+    b: &Store,
+    hints: &RowHints,
+    span: Range<usize>,
+    semiring: Semiring,
+) -> Result<(), NoMemory>
+    requires room { HaveRoom bits.old sums.old }
+    requires lengths { length row.words.now ≡ length row.cols.now }
+    requires inside { b.now.cols ≤ length sums.old }
+    requires none { AreClear bits.old }
+    requires order { span.start ≤ span.end }
+    requires end { span.end ≤ length bits.old }
+    requires span { AllMet (λ col. (span.start ≤ col / 64) × (col / 64 < span.end))
+        (entries_along row.index row.cols.now row.words.now) b.now }
+    ensures row { OnOk result (HasOpenRow semiring.add.op row.entry.index
+        (terms_of_row semiring.multiply (entries_along row.entry.index row.entry.cols.now row.entry.words.now) b.now)
+        lists.old lists.new) }
+    ensures clear { OnOk result (AreClear bits.new) }
+{
+    add_rows(bits, sums, row, 0, b, hints, semiring);
     gather(lists, bits, sums, span)
 }
 

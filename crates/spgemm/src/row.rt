@@ -6,11 +6,11 @@ ghost use Rattle.spgemm.specs.Dense.{AreClear, HaveRoom};
 ghost use Rattle.spgemm.specs.Products.{HasOpenRow, HasRow};
 ghost use Rattle.spgemm.specs.Terms.{terms_of_row};
 
-use crate::dense::{MOST_PLACES, fit, sum_densely, sum_in_span};
+use crate::dense::{MOST_PLACES, fit, sum_densely, sum_in_span, sum_row_in_span};
 use crate::expand::expand;
 use crate::hints::RowHints;
 use crate::many::{exceeds_columns, sum_many};
-use crate::span::{most_collected, pays, span_of};
+use crate::span::{most_collected, pays, reach_of, span_of};
 use crate::sums::sum_runs;
 use crate::term::Term;
 use algebra::Semiring;
@@ -19,8 +19,8 @@ use std::alloc::Global;
 use store::{FiberLists, Row, Store};
 
 /// Memory that serves one row after another: terms, and sums with a place for each column, each with a bit, and
-/// where there are many products with a mark, that says whether there is one; and hints where the rows of B lie.
-/// Between rows no bit is set.
+/// where there are many products with a mark, that says whether there is one; hints where the rows of B lie; and
+/// whether the products of the row before spanned few columns. Between rows no bit is set.
 #[derive(Drop)]
 pub(crate) struct Scratch {
     pub(crate) terms: Vec<Term>,
@@ -28,6 +28,7 @@ pub(crate) struct Scratch {
     pub(crate) sums: Vec<u64>,
     pub(crate) marks: Vec<bool>,
     pub(crate) hints: RowHints,
+    pub(crate) spans: bool,
 }
 
 impl Scratch {
@@ -42,6 +43,7 @@ impl Scratch {
             sums: Vec::new(alloc),
             marks: Vec::new(alloc),
             hints,
+            spans: false,
         }
     }
 
@@ -87,10 +89,43 @@ pub(crate) fn multiply_row(
     lists.close(row.index)
 }
 
-/// Puts the sums of the row of the product with B that a row of A gives behind the inner indices and words.
-/// Where there are many products beside the columns, or beside those that they span, it sums in a place for each
-/// column, else it sorts them.
+/// Puts the sums of the row of the product with B that a row of A gives behind the inner indices and words. A row
+/// behind one whose products spanned few columns is added at once where its products do so too.
 pub(crate) fn sum_row(
+    lists: &mut FiberLists,
+    scratch: &mut Scratch,
+    row: Row<'_>,
+    b: &Store,
+    semiring: Semiring,
+) -> Result<(), NoMemory>
+    requires lengths { length row.words.now ≡ length row.cols.now }
+    requires rising { AllPairs (λ p q. p < q) row.cols.now }
+    requires room { HaveRoom scratch.old.bits.items scratch.old.sums.items }
+    requires none { AreClear scratch.old.bits.items }
+    ensures row { OnOk result (HasOpenRow semiring.add.op row.entry.index
+        (terms_of_row semiring.multiply (entries_along row.entry.index row.entry.cols.now row.entry.words.now) b.now)
+        lists.old lists.new) }
+    ensures room { OnOk result (HaveRoom scratch.new.bits.items scratch.new.sums.items) }
+    ensures none { OnOk result (AreClear scratch.new.bits.items) }
+{
+    if scratch.spans {
+        let reach = reach_of(row, b, &scratch.hints);
+        if reach.pays(b.cols(), scratch.sums.len()) {
+            let Scratch {
+                bits,
+                sums,
+                hints,
+                ..
+            } = scratch;
+            return sum_row_in_span(lists, bits, sums, row, b, hints, reach.span, semiring);
+        }
+    }
+    sum_collected(lists, scratch, row, b, semiring)
+}
+
+/// What `sum_row` does, by a list of products. Where there are many beside the columns, or beside those that they
+/// span, it sums in a place for each column, else it sorts them.
+fn sum_collected(
     lists: &mut FiberLists,
     scratch: &mut Scratch,
     row: Row<'_>,
@@ -113,6 +148,7 @@ pub(crate) fn sum_row(
         sums,
         marks,
         hints,
+        spans,
     } = scratch;
     let most = most_collected(b.cols(), sums.len());
     let done = expand(terms, row, b, hints, semiring, most)?;
@@ -124,7 +160,8 @@ pub(crate) fn sum_row(
         return sum_densely(lists, bits, sums, terms, row, done, b, hints, semiring);
     }
     let span = span_of(terms);
-    if pays(&span, terms.len(), b.cols(), sums.len()) {
+    *spans = pays(&span, terms.len(), b.cols(), sums.len());
+    if *spans {
         return sum_in_span(lists, bits, sums, terms, span, semiring);
     }
     sum_sorted(lists, terms, semiring)

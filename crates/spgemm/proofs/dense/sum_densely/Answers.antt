@@ -14,4 +14,4 @@ returns-clause-row c =
     let terms = terms_of_row c.args.semiring.multiply row b in
     let put = c.gather.ensures in
     dense_open_ok c.gather.result c.args.semiring.add.op c.args.row.index terms c.add_rows.new.bits c.add_rows.new.sums c.args.lists.now c.gather.new.lists
-    (below_width c.args.semiring.multiply row b (length c.add_rows.new.sums) (omega (arith, c.requires.inside))) c.add_rows.ensures put.ends put.inner put.words
+    (below_width c.args.semiring.multiply row b (length c.add_rows.new.sums) (omega (arith, c.requires.inside))) c.add_rows.ensures.sums put.ends put.inner put.words

@@ -31,6 +31,8 @@ loop-term-preserved c =
 pub returns-clause-within : goal.returns-clause-within
 returns-clause-within c =
     let s = c.loop-term in
-    let first = c.min-first.ensures in
-    All-weaker (λ t. (s.ends.0 ≤ t.col) × (t.col ≤ s.ends.1)) (λ t. (c.min-first.result ≤ t.col / 64) × (t.col / 64 < s.ends.1 / 64 + 1)) (λ t at. let low = at.0 in let high = at.1 in (omega arith, omega arith)) c.args.terms.now
+    let span = c.words_between.result in
+    let first = c.words_between.ensures.low in
+    let past = c.words_between.ensures.high in
+    All-weaker (λ t. (s.ends.0 ≤ t.col) × (t.col ≤ s.ends.1)) (λ t. (span.start ≤ t.col / 64) × (t.col / 64 < span.end)) (λ t at. let low = at.0 in let high = at.1 in (omega arith, omega arith)) c.args.terms.now
     (subst (All (λ t. (s.ends.0 ≤ t.col) × (t.col ≤ s.ends.1))) (take_all s.term-index c.args.terms.now (omega (arith, c.loop-term-test.false))) s.invariant.within)
