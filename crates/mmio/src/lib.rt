@@ -2,11 +2,11 @@
 #![tactic(auto)]
 
 mod banner;
+mod collects;
 mod digits;
 mod entry;
 mod fronts;
 mod head;
-mod listed;
 mod listing;
 mod reading;
 mod texts;

@@ -1,29 +1,34 @@
 //! The entries that the lines behind the head of a file list.
-ghost use Rattle.std.specs.Prelude.{◌≡◌, ◌∷◌, ◌++◌, ◌⊎◌, IfErr, IfOk, OnOk, Err, Ok, map};
+ghost use Rattle.std.specs.Prelude.{◌≡◌, ◌∷◌, ◌++◌, ◌⊎◌, IfErr, IfOk, OnOk, Err, Ok};
 ghost use Rattle.std.specs.Option.{option_to_list};
 ghost use Rattle.model.specs.declared.market.MmFault.TheVariants.{NoMemory};
 ghost use Rattle.model.specs.MatrixMarket.{with_mirror};
 ghost use Rattle.mmio.specs.Listing.{entries_listed};
 
+use crate::collects::Collects;
 use crate::entry::entry;
-use crate::listed::Listed;
 use crate::told::first_told;
 use algebra::Domain;
 use model::{Entry, Heading, MmFault, Symmetry};
 use std::alloc::Global;
 
+/// Room is made at first for an entry in so many bytes of a file: few have shorter lines, lists that grow are moved,
+/// and the number of entries that is announced need not be that of the lines.
+const USUAL_LINE: usize = 8;
+
 /// The entries that a text lists under a heading, in order, with those that it leaves out; or the first
 /// thing that is wrong.
-pub fn listed_entries<T: Listed>(
+pub fn listed_entries<C: Collects>(
     alloc: Global,
     domain: Domain,
     heading: Heading,
     text: &[u8],
-) -> Result<Vec<T>, MmFault>
-    ensures ok { IfOk result (λ listed. entries_listed domain heading text.now ≡ Ok (map T.entry_of listed.items)) }
+) -> Result<C, MmFault>
+    ensures ok { IfOk result (λ listed. entries_listed domain heading text.now ≡ Ok (C.entries_of listed)) }
     ensures err { IfErr result (λ fault. (fault ≡ NoMemory) ⊎ (entries_listed domain heading text.now ≡ Err fault)) }
 {
-    let mut listed = Vec::new(alloc);
+    let room = text.len() / USUAL_LINE;
+    let mut listed = C::with_capacity(alloc, room).map_err(|_| MmFault::NoMemory)?;
     let mut left = heading.entries;
     let mut rest = text;
     while let Some((line, behind)) = first_told(rest) {
@@ -44,14 +49,13 @@ pub fn listed_entries<T: Listed>(
 
 /// Adds an entry, and behind it the one that the file leaves out.
 #[inline(always)]
-fn push<T: Listed>(listed: &mut Vec<T>, symmetry: Symmetry, entry: Entry) -> Result<(), MmFault>
-    ensures ok { OnOk result (map T.entry_of listed.new.items
-        ≡ map T.entry_of listed.old.items ++ with_mirror symmetry entry) }
+fn push<C: Collects>(listed: &mut C, symmetry: Symmetry, entry: Entry) -> Result<(), MmFault>
+    ensures ok { OnOk result (C.entries_of listed.new ≡ C.entries_of listed.old ++ with_mirror symmetry entry) }
     ensures err { IfErr result (λ fault. fault ≡ NoMemory) }
 {
-    listed.push(T::listed(entry))?;
+    listed.put(entry).map_err(|_| MmFault::NoMemory)?;
     if let Some(mirror) = mirror(symmetry, entry) {
-        listed.push(T::listed(mirror))?;
+        listed.put(mirror).map_err(|_| MmFault::NoMemory)?;
     }
     Ok(())
 }

@@ -11,7 +11,7 @@ use Rattle.std.proofs.lemmas.List.Sorted.{ranks_by, sorted_far}
 use Rattle.algebra.specs.declared.operator_names.OpName.{OpName}
 use Rattle.model.specs.Builds.{gathered, joined, joined_all, words_at}
 use Rattle.model.specs.declared.entry.Entry.{Entry}
-use Rattle.model.specs.Entries.{entry_at, word_at}
+use Rattle.model.specs.Entries.{InOrder, Precedes, entry_at, word_at}
 use Rattle.store.specs.Stored.{AreIn, along, turned}
 use Rattle.store.proofs.Contents.{turned_twice, word_at-turned}
 use Rattle.store.proofs.Order.{all_from_map, all_pairs_cons, all_pairs_head, all_pairs_nil, all_pairs_tail}
@@ -76,6 +76,31 @@ runs_of-words : (joins : Option OpName) (es : List Entry) (i j : ℕ) → AllPai
 unfolding word_at
 runs_of-words joins [] i j order = refl
 runs_of-words joins (e ∷ es) i j order = runs_from-words joins e es i j order
+
+-- entries that stand one behind the other are joined with none
+not_behind : (e f : Entry) → Precedes e f → IsNotBehind e f
+not_behind e f (inl before) = inl before
+not_behind e f (inr before) = inr (before.0, (let less = before.1 in omega arith))
+
+in_order : (es : List Entry) → InOrder es → AllPairs IsNotBehind es
+in_order [] h = all_pairs_nil IsNotBehind
+in_order (e ∷ es) h = all_pairs_cons IsNotBehind e es (All-weaker (Precedes e) (IsNotBehind e) (not_behind e) es (all_pairs_head Precedes e es h)) (in_order es (all_pairs_tail Precedes e es h))
+
+apart : (e f : Entry) → Precedes e f → (eqb e.row f.row && eqb e.col f.col) ≡ false
+apart e f before = grind (arith, nat_tests)
+
+runs_from-apart : (joins : Option OpName) (e : Entry) (fs : List Entry) → InOrder (e ∷ fs) → runs_from joins e fs ≡ e ∷ fs
+unfolding runs_from
+runs_from-apart joins e [] h = refl
+runs_from-apart joins e (f ∷ fs) h =
+    let before = All-head (Precedes e) f fs (all_pairs_head Precedes e (f ∷ fs) h) in
+    rw (apart e f before) (ap (λ es. e ∷ es) (runs_from-apart joins f fs (all_pairs_tail Precedes e (f ∷ fs) h)))
+
+-- so they make what they are
+pub words_in_order : (joins : Option OpName) (es : List Entry) → InOrder es → (i j : ℕ) → word_at es i j ≡ gathered joins es i j
+unfolding word_at
+words_in_order joins [] h i j = refl
+words_in_order joins (e ∷ es) h i j = ap (λ fs. word_at fs i j) (sym (runs_from-apart joins e es h)) ∙ runs_from-words joins e es i j (in_order (e ∷ es) h)
 
 -- they stand where the entries do
 runs_from-all : (P : ℕ → ℕ → Type 0) (joins : Option OpName) (e : Entry) (fs : List Entry) → All (λ e. P e.row e.col) (e ∷ fs) → All (λ e. P e.row e.col) (runs_from joins e fs)

@@ -12,8 +12,9 @@ use crate::sources::Sources;
 use algebra::Domain;
 use lines::Load;
 use mmio::{MmFault, read_entries};
-use model::{Entry, Status};
+use model::Status;
 use std::alloc::Global;
+use store::Tuples;
 
 impl Names {
     ghost use Rattle.script.specs.Named.{environment_in};
@@ -45,9 +46,9 @@ impl Names {
 }
 
 /// The dimensions and the entries of the matrix that bytes stand for.
-fn matrix_of(alloc: Global, bytes: &[u8], domain: Domain) -> Result<(u64, u64, Vec<Entry>), Status>
+fn matrix_of(alloc: Global, bytes: &[u8], domain: Domain) -> Result<(u64, u64, Tuples), Status>
     ensures ok { IfOk result (λ m. matrix_in domain bytes.now
-        ≡ Ok (record { rows = m.0; cols = m.1; entries = m.2.items })) }
+        ≡ Ok (record { rows = m.0; cols = m.1; entries = m.2 })) }
     ensures err { IfErr result (λ status. (status ≡ Status.OutOfMemory)
         ⊎ ((status ≡ Status.BadFile) × (is_err (matrix_in domain bytes.now) ≡ true))) }
 {

@@ -21,11 +21,11 @@ use calls::{
     check_dup, check_place, check_reduce, check_resize, check_set, check_there,
 };
 use elementwise::reduce_all;
-use model::{Entry, MOST_OBJECTS, NoMemory, Status};
+use model::{MOST_OBJECTS, NoMemory, Status};
 use patch::{build, sum_entries};
 use shapes::resize;
 use std::alloc::Global;
-use store::Store;
+use store::{Store, Tuples};
 
 /// Objects by number, and all calls on them. A call that answers an error changes nothing.
 #[derive(Drop)]
@@ -113,15 +113,15 @@ impl Session {
         domain: Domain,
         rows: u64,
         cols: u64,
-        entries: Vec<Entry>,
+        entries: Tuples,
     ) -> Result<Obj, Status>
         requires built_in { is_built_in domain ≡ true }
-        requires inside { IsInside rows cols entries.items }
-        requires words { All (λ e. IsWordOf domain e.word) entries.items }
+        requires inside { IsInside rows cols entries }
+        requires words { All (λ e. IsWordOf domain e.word) entries }
         ensures status { Ends (fault_in self.old
             (Call.Create (next_object self.old) domain (Shape.Two rows cols))) result }
         ensures put { OnOk result (environment_of self.new ≡ with_object same_object (environment_of self.old)
-            (next_object self.old) (object_read domain (record { rows = rows; cols = cols; entries = entries.items }))
+            (next_object self.old) (object_read domain (record { rows = rows; cols = cols; entries = entries }))
             ((environment_of self.old).count + 1)) }
         ensures kept { OnErr result (environment_of self.new ≡ environment_of self.old) }
         ensures object { IfOk result (λ object. object ≡ next_object self.old) }

@@ -1,10 +1,10 @@
 -- What is listed and what is left make up the whole; what is left gets shorter.
-use Rattle.std.proofs.Common.{◌≡◌, length, map}
+use Rattle.std.proofs.Common.{◌≡◌, length}
 use Rattle.mmio.specs.Listing.{entries_listed, listed_from, told_in}
 use Rattle.mmio.proofs.listing.listed_entries.Given as goal
 
 abbrev pub invariant-loop-line : goal.invariant-loop-line
-invariant-loop-line g l = entries_listed l.domain l.heading l.text ≡ listed_from l.domain l.heading l.left (map g.T.Listed.entry_of l.listed.items) (told_in l.rest)
+invariant-loop-line g l = entries_listed l.domain l.heading l.text ≡ listed_from l.domain l.heading l.left (g.C.Collects.entries_of l.listed) (told_in l.rest)
 
 abbrev pub decreases-loop-line : goal.decreases-loop-line
 decreases-loop-line g l = length l.rest

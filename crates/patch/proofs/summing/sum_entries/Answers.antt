@@ -1,25 +1,43 @@
-use Rattle.std.proofs.Common.{◌∙◌, ◌<◌, ◌≤◌, Some, ap, rules}
-use Rattle.std.proofs.lemmas.Fn.{always_returns_same}
+-- Entries in order are what they make; others are summed in any order.
+use Rattle.std.proofs.Common.{◌∙◌, ◌<◌, ◌≤◌, List, Some, ap}
+use Rattle.std.specs.List.Sorted.{IsPermutation}
 use Rattle.std.proofs.lemmas.List.Sorted.{All-permutation}
-use Rattle.algebra.specs.declared.operator_names.OpName.{OpName}
+use Rattle.algebra.specs.Value.{IsWordOf}
 use Rattle.model.specs.Builds.{gathered}
 use Rattle.model.specs.declared.entry.Entry.{Entry}
-use Rattle.patch.proofs.GatherLaws.{order_from_sorted, position_of}
+use Rattle.model.specs.MatrixMarket.{sum_in_file}
+use Rattle.store.specs.Fibers.{entries_in}
+use Rattle.store.specs.Stored.{Block, block_content}
+use Rattle.patch.proofs.GatherLaws.{words_in_order}
 use Rattle.patch.proofs.SumLaws.{gathered-permuted}
 use Rattle.patch.proofs.summing.sum_entries.Goals as goal
+use Rattle.patch.proofs.summing.sum_entries.Goals.{in-Ok, in-Err+in_ok-into_list-in-Err+in_ok-block-in-Err}
 
-pub block_of_sorted-requires-clause-order : goal.block_of_sorted-requires-clause-order
-block_of_sorted-requires-clause-order c =
-    order_from_sorted c.sort_unstable_by_key.new.self.items (c.sort_unstable_by_key.ensures.sorted position_of (always_returns_same _ _ _ (λ a r f' k. search rules)))
+pub sum_list-requires-clause-inside : goal.sum_list-requires-clause-inside
+sum_list-requires-clause-inside c =
+    let permutes = rw c.in-Err.ensures.others at c.in_ok-into_list-in-Err.ensures in
+    All-permutation (λ (e : Entry). ((0 ≤ e.row) × (e.row < c.args.rows)) × (e.col < c.args.cols)) c.args.entries c.in_ok-into_list-in-Err.field-0.items permutes c.requires.inside
 
-pub block_of_sorted-requires-clause-inside : goal.block_of_sorted-requires-clause-inside
-block_of_sorted-requires-clause-inside c =
-    All-permutation (λ (e : Entry). ((0 ≤ e.row) × (e.row < c.args.rows)) × (e.col < c.args.cols)) c.args.entries.items c.sort_unstable_by_key.new.self.items c.sort_unstable_by_key.ensures.permutation c.requires.inside
+pub sum_list-requires-clause-words : goal.sum_list-requires-clause-words
+sum_list-requires-clause-words c =
+    let permutes = rw c.in-Err.ensures.others at c.in_ok-into_list-in-Err.ensures in
+    All-permutation (λ (e : Entry). IsWordOf c.args.domain e.word) c.args.entries c.in_ok-into_list-in-Err.field-0.items permutes c.requires.words
 
 pub returns-clause-content : goal.returns-clause-content
 returns-clause-content c i j =
-    let sorted = c.sort_unstable_by_key.new.self.items in
-    c.from_block.ensures.content i j
-    ∙ c.in_ok-block.ensures.words i j
-    ∙ ap (λ (op : OpName). gathered (Some op) sorted i j) c.sum_in_file.ensures
-    ∙ gathered-permuted c.args.domain c.args.entries.items sorted c.requires.built_in c.sort_unstable_by_key.ensures.permutation c.requires.words i j
+    let joins = Some (sum_in_file c.args.domain) in
+    elim c.match-into_rows.branch [
+      | in-Ok w ↦
+          c.from_block.ensures.content i j
+          ∙ ap (λ (block : Block). block_content block i j) w.block-is
+          ∙ w.block_of_rows-block.ensures.words i j
+          ∙ words_in_order joins (entries_in w.in-Ok.lists) w.in-Ok.ensures.flat.order i j
+          ∙ ap (λ (es : List Entry). gathered joins es i j) w.in-Ok.ensures.rows
+      | in-Err+in_ok-into_list-in-Err+in_ok-block-in-Err w ↦
+          let list = w.in_ok-into_list-in-Err.field-0.items in
+          let permutes : IsPermutation c.args.entries list = rw w.in-Err.ensures.others at w.in_ok-into_list-in-Err.ensures in
+          c.from_block.ensures.content i j
+          ∙ ap (λ (block : Block). block_content block i j) w.block-is
+          ∙ w.in_ok-block-in-Err.ensures.words i j
+          ∙ gathered-permuted c.args.domain c.args.entries list c.requires.built_in permutes c.requires.words i j
+    ]

@@ -41,12 +41,12 @@ returns-in_err-rows-clause-status g c =
 
 pub load-requires-clause-inside : goal.load-requires-clause-inside
 load-requires-clause-inside g c =
-    let m : Matrix = record { rows = c.in_ok-rows.rows; cols = c.in_ok-rows.cols; entries = c.in_ok-rows.entries.items } in
+    let m : Matrix = record { rows = c.in_ok-rows.rows; cols = c.in_ok-rows.cols; entries = c.in_ok-rows.entries } in
     matrix_in-inside c.args.load.domain c.in-Some.bytes.now m c.in_ok-rows.ensures.ok
 
 pub load-requires-clause-words : goal.load-requires-clause-words
 load-requires-clause-words g c =
-    let m : Matrix = record { rows = c.in_ok-rows.rows; cols = c.in_ok-rows.cols; entries = c.in_ok-rows.entries.items } in
+    let m : Matrix = record { rows = c.in_ok-rows.rows; cols = c.in_ok-rows.cols; entries = c.in_ok-rows.entries } in
     matrix_in-words c.args.load.domain c.in-Some.bytes.now m c.in_ok-rows.ensures.ok
 
 pub invariant_of-self : goal.invariant_of-self
@@ -60,7 +60,7 @@ invariant_of-self g c =
 pub returns-in_err-object-clause-status : goal.returns-in_err-object-clause-status
 returns-in_err-object-clause-status g c =
     let names = c.args.self.now in
-    let m : Matrix = record { rows = c.in_ok-rows.rows; cols = c.in_ok-rows.cols; entries = c.in_ok-rows.entries.items } in
+    let m : Matrix = record { rows = c.in_ok-rows.rows; cols = c.in_ok-rows.cols; entries = c.in_ok-rows.entries } in
     let free : is_some (number_in names c.args.load.name.now) ≡ false = search rules in
     let held : g.S.Sources.held c.args.sources.now c.args.load.file.now ≡ Some c.in-Some.bytes.now = search rules in
     let same = load-read (number_in names) names.session c.args.load.name.now c.args.load.domain _ c.in-Some.bytes.now m c.requires.made free held c.in_ok-rows.ensures.ok in
@@ -72,7 +72,7 @@ returns-in_err-object-clause-status g c =
 pub returns-clause-status : goal.returns-clause-status
 returns-clause-status g c =
     let names = c.args.self.now in
-    let m : Matrix = record { rows = c.in_ok-rows.rows; cols = c.in_ok-rows.cols; entries = c.in_ok-rows.entries.items } in
+    let m : Matrix = record { rows = c.in_ok-rows.rows; cols = c.in_ok-rows.cols; entries = c.in_ok-rows.entries } in
     let free : is_some (number_in names c.args.load.name.now) ≡ false = search rules in
     let held : g.S.Sources.held c.args.sources.now c.args.load.file.now ≡ Some c.in-Some.bytes.now = search rules in
     load-read (number_in names) names.session c.args.load.name.now c.args.load.domain _ c.in-Some.bytes.now m c.requires.made free held c.in_ok-rows.ensures.ok ∙ c.in_ok-object.ensures.status
@@ -80,7 +80,7 @@ returns-clause-status g c =
 pub returns-clause-effect : goal.returns-clause-effect
 returns-clause-effect g c =
     let names = c.args.self.now in
-    let m : Matrix = record { rows = c.in_ok-rows.rows; cols = c.in_ok-rows.cols; entries = c.in_ok-rows.entries.items } in
+    let m : Matrix = record { rows = c.in_ok-rows.rows; cols = c.in_ok-rows.cols; entries = c.in_ok-rows.entries } in
     let senv = environment_of names.session in
     let next = next_object names.session in
     let named : string_bytes c.in_ok-name.name ≡ c.args.load.name.now = search rules in
@@ -93,13 +93,13 @@ returns-clause-effect g c =
 
 pub put-requires : goal.put-requires
 put-requires g c =
-    let m : Matrix = record { rows = c.in_ok-rows.rows; cols = c.in_ok-rows.cols; entries = c.in_ok-rows.entries.items } in
+    let m : Matrix = record { rows = c.in_ok-rows.rows; cols = c.in_ok-rows.cols; entries = c.in_ok-rows.entries } in
     rw c.in_ok-object.ensures.object (new_there (environment_of c.args.self.now.session) (environment_of c.load.new.self) (next_object c.args.self.now.session) (object_read c.args.load.domain m) c.in_ok-object.ensures.put)
 
 pub invariant_of-self-2 : goal.invariant_of-self-2
 invariant_of-self-2 g c =
     let names = c.args.self.now in
-    let m : Matrix = record { rows = c.in_ok-rows.rows; cols = c.in_ok-rows.cols; entries = c.in_ok-rows.entries.items } in
+    let m : Matrix = record { rows = c.in_ok-rows.rows; cols = c.in_ok-rows.cols; entries = c.in_ok-rows.entries } in
     let after = names_after c.put.result (number_in names) (λ name. get_by_text c.put.new.numbers name) (environment_of names.session) c.load.new.self c.put.new.session (string_bytes c.in_ok-name.name) (next_object names.session) (object_read c.args.load.domain m)
     c.in_ok-object.ensures.put c.in_ok-object.ensures.unused names.distinct names.there (rw c.in_ok-object.ensures.object at c.put.ensures.named) c.put.ensures.made c.put.ensures.kept (rw c.in_ok-object.ensures.object at c.put.ensures.gone) in
     record { distinct = after.0; there = after.1 }
@@ -107,7 +107,7 @@ invariant_of-self-2 g c =
 pub returns-in_err-put-clause-kept : goal.returns-in_err-put-clause-kept
 returns-in_err-put-clause-kept g c =
     let names = c.args.self.now in
-    let m : Matrix = record { rows = c.in_ok-rows.rows; cols = c.in_ok-rows.cols; entries = c.in_ok-rows.entries.items } in
+    let m : Matrix = record { rows = c.in_ok-rows.rows; cols = c.in_ok-rows.cols; entries = c.in_ok-rows.entries } in
     let freed : environment_of c.put.new.session ≡ environment_of names.session =
     gone_again (environment_of names.session) (environment_of c.load.new.self) (environment_of c.put.new.session) (next_object names.session) (object_read c.args.load.domain m)
     c.in_ok-object.ensures.unused c.in_ok-object.ensures.put (rw c.in_ok-object.ensures.object at c.in_err-put.ensures.gone) in

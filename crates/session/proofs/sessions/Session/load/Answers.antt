@@ -21,7 +21,7 @@ read_object domain m content is = objects_equal _ (object_read domain m) refl re
 
 pub new-held-requires-clause-is_object : goal.new-held-requires-clause-is_object
 new-held-requires-clause-is_object c =
-    let m : Matrix = record { rows = c.args.rows; cols = c.args.cols; entries = c.args.entries.items } in
+    let m : Matrix = record { rows = c.args.rows; cols = c.args.cols; entries = c.args.entries } in
     subst IsObject (sym (read_object c.args.domain m (content_of c.in_ok-store.store) c.in_ok-store.ensures.content))
     (object_read-is_object c.args.domain m c.requires.built_in c.requires.inside c.requires.words)
 
@@ -41,7 +41,7 @@ returns-in_err-object-clause-unused c = not_there (environment_of c.args.self.no
 pub returns-clause-put : goal.returns-clause-put
 returns-clause-put c =
     let session = c.args.self.now in
-    let m : Matrix = record { rows = c.args.rows; cols = c.args.cols; entries = c.args.entries.items } in
+    let m : Matrix = record { rows = c.args.rows; cols = c.args.cols; entries = c.args.entries } in
     let same = c.new-held.ensures.object ∙ read_object c.args.domain m (content_of c.in_ok-store.store) c.in_ok-store.ensures.content in
     c.in_ok-object.ensures.put ∙ ap (λ (o : Object). with_object same_object (environment_of session) (next_object session) o ((environment_of session).count + 1)) same
 

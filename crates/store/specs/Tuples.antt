@@ -1,0 +1,22 @@
+-- Entries that came row by row, and those behind them.
+use Rattle.std.specs.Prelude.{ℕ, ◌≡◌, ◌<◌, ◌≤◌, ◌⊎◌, ◌++◌, List, length}
+use Rattle.std.specs.List.{All}
+use Rattle.model.specs.declared.entry.Entry.{Entry}
+use Rattle.model.specs.Entries.{InOrder, Precedes, entry_at}
+use Rattle.store.specs.declared.lists.FiberLists.{FiberLists}
+use Rattle.store.specs.Fibers.{AreFlat, entries_in}
+
+-- an entry stands at a row and a column, or before
+abbrev pub IsUpTo : ℕ → ℕ → Entry → Type 0
+IsUpTo row col e = (e.row < row) ⊎ ((e.row ≡ row) × (e.col ≤ col))
+
+-- the lists are fibers, of which the last entry stands at a row and a column
+pub record AreRows (rows : FiberLists) (row col : ℕ) : Type 0 where
+  pub flat : AreFlat rows.ends.items rows.inner.items rows.words.items
+  pub up_to : All (IsUpTo row col) (entries_in rows)
+  pub last : 0 < length rows.ends.items → All (λ e. Precedes e (entry_at row col 0)) (entries_in rows) → ⊥
+
+-- entries are listed behind the rows where they don't go on from there in order
+pub record AreTuples (rows : FiberLists) (row col : ℕ) (list : List Entry) : Type 0 where
+  pub are_rows : AreRows rows row col
+  pub listed : 0 < length list → InOrder (entries_in rows ++ list) → ⊥

@@ -1,0 +1,161 @@
+//! Entries in the order in which they come.
+ghost use Rattle.std.specs.Prelude.{◌≡◌, ◌<◌, ◌++◌, ◌∷◌, [], false, true, length, IfErr, IfOk, OnErr, OnOk};
+ghost use Rattle.std.specs.List.{All};
+ghost use Rattle.std.specs.List.Sorted.{IsPermutation};
+ghost use Rattle.model.specs.Entries.{InOrder, Precedes};
+ghost use Rattle.store.specs.Fibers.{AreFlat, entries_along, entries_in};
+ghost use Rattle.store.specs.Tuples.{AreRows};
+
+use crate::edits::make_room;
+use crate::lists::count_others;
+use crate::{FiberEnd, FiberLists, Fibers};
+use model::{Entry, NoMemory};
+use std::alloc::Global;
+use std::marker::Model;
+
+/// Entries in the order in which they come, as those of a file (the tuples of `GrB_Matrix_build`). As long as they
+/// come row by row, each behind the one before, they lie as rows, which a store takes over; from the first on that
+/// doesn't, they are a list.
+#[derive(Drop)]
+pub struct Tuples {
+    rows: FiberLists,
+    // Where the last entry of the rows stands.
+    row: u64,
+    col: u64,
+    list: Vec<Entry>,
+}
+
+impl Model for Tuples {
+    ghost use Rattle.std.specs.Prelude.{List, ◌++◌};
+    ghost use Rattle.model.specs.declared.entry.Entry.{Entry};
+    ghost use Rattle.store.specs.Fibers.{entries_in};
+    ghost use Rattle.store.specs.Tuples.{AreTuples};
+
+    ghost Value = { List Entry };
+
+    ghost view = { λ t. entries_in t.rows ++ t.list.items };
+
+    ghost invariant = { λ t. AreTuples t.rows t.row t.col t.list.items };
+}
+
+impl Tuples {
+    /// No entries, with room for so many that come row by row.
+    pub fn with_capacity(alloc: Global, entries: usize) -> Result<Tuples, NoMemory>
+        ensures { IfOk result (λ tuples. tuples ≡ []) }
+    {
+        Ok(Tuples {
+            rows: FiberLists::with_capacity(alloc, entries)?,
+            row: 0,
+            col: 0,
+            list: Vec::new(alloc),
+        })
+    }
+
+    /// Puts an entry behind the others. Without memory they stay as they are.
+    #[inline(always)]
+    pub fn push(&mut self, entry: Entry) -> Result<(), NoMemory>
+        ensures ok { OnOk result (self.new ≡ self.old ++ entry ∷ []) }
+        ensures err { OnErr result (self.new ≡ self.old) }
+    {
+        if self.list.is_empty() && goes_on(&self.rows, self.row, self.col, &entry) {
+            push_last(&mut self.rows, entry)?;
+            self.row = entry.row;
+            self.col = entry.col;
+        } else {
+            self.list.push(entry)?;
+        }
+        Ok(())
+    }
+
+    /// The rows as which all entries lie; or the entries, where they didn't come row by row.
+    pub fn into_rows(self) -> Result<FiberLists, Tuples>
+        ensures flat { IfOk result (λ rows. AreFlat rows.ends.items rows.inner.items rows.words.items) }
+        ensures rows { IfOk result (λ rows. entries_in rows ≡ self) }
+        ensures order { IfErr result (λ tuples. InOrder tuples → ⊥) }
+        ensures others { IfErr result (λ tuples. tuples ≡ self) }
+    {
+        if self.list.is_empty() {
+            Ok(self.rows)
+        } else {
+            Err(self)
+        }
+    }
+
+    /// The entries as a list, those that came row by row behind the others.
+    pub fn into_list(self) -> Result<Vec<Entry>, NoMemory>
+        ensures { IfOk result (λ list. IsPermutation self list.items) }
+    {
+        let Tuples { rows, mut list, .. } = self;
+        let FiberLists { ends, inner, words } = rows;
+        list_fibers(&mut list, Fibers::of_lists(&ends, &inner, &words))?;
+        Ok(list)
+    }
+}
+
+/// Whether an entry stands behind all rows that there are, of which the last entry stands at a row and a column.
+#[inline(always)]
+fn goes_on(rows: &FiberLists, row: u64, col: u64, entry: &Entry) -> bool
+    requires { AreRows rows.now row col }
+    ensures yes { result ≡ true → All (λ e. Precedes e entry.now) (entries_in rows.now) }
+    ensures no { result ≡ false → All (λ e. Precedes e entry.now) (entries_in rows.now) → ⊥ }
+{
+    if rows.ends.is_empty() {
+        return true;
+    }
+    if row == entry.row {
+        col < entry.col
+    } else {
+        row < entry.row
+    }
+}
+
+/// Puts an entry behind all others: into the last row, or into one of its own. Without memory all stays.
+#[inline(always)]
+fn push_last(rows: &mut FiberLists, entry: Entry) -> Result<(), NoMemory>
+    requires flat { AreFlat rows.old.ends.items rows.old.inner.items rows.old.words.items }
+    requires order { All (λ e. Precedes e entry) (entries_in rows.old) }
+    ensures flat { AreFlat rows.new.ends.items rows.new.inner.items rows.new.words.items }
+    ensures ok { OnOk result (entries_in rows.new ≡ entries_in rows.old ++ entry ∷ []) }
+    ensures err { OnErr result (entries_in rows.new ≡ entries_in rows.old) }
+    ensures ends { OnErr result (rows.new.ends.items ≡ rows.old.ends.items) }
+{
+    make_room(rows)?;
+    let end = rows.inner.len() + 1;
+    let outer = entry.row;
+    let count = count_others(&rows.ends, &[FiberEnd { outer, end: 1 }]);
+    rows.ends.truncate(count);
+    rows.ends.push_reserved(FiberEnd { outer, end });
+    rows.inner.push_reserved(entry.col);
+    rows.words.push_reserved(entry.word);
+    Ok(())
+}
+
+/// Puts the entries of fibers behind others.
+fn list_fibers(list: &mut Vec<Entry>, fibers: Fibers<'_>) -> Result<(), NoMemory>
+    ensures { OnOk result (list.new.items ≡ list.old.items ++ fibers.entry.entries) }
+{
+    list.reserve(fibers.len())?;
+    let mut rest = fibers;
+    while rest.len() > 0 {
+        let outer = rest.outer();
+        let (inner, words, others) = rest.split(outer);
+        list_fiber(list, outer, inner, words)?;
+        rest = others;
+    }
+    Ok(())
+}
+
+/// Puts the entries of a fiber behind others.
+fn list_fiber(list: &mut Vec<Entry>, row: u64, cols: &[u64], words: &[u64]) -> Result<(), NoMemory>
+    requires { length words.now ≡ length cols.now }
+    ensures { OnOk result (list.new.items ≡ list.old.items ++ entries_along row cols.now words.now) }
+{
+    for k in 0..cols.len() {
+        list.push(Entry {
+            row,
+            col: cols[k],
+            word: words[k],
+        })?;
+    }
+    Ok(())
+}
