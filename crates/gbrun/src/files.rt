@@ -2,8 +2,10 @@
 ghost use Rattle.std.specs.Prelude.{◌≡◌, ℕ, List, None, IfOk, IfSome};
 ghost use Rattle.std.specs.declared.option.Option.{Option};
 
+use std::fs::{File, OpenFile};
+use std::io;
+use std::io::Read;
 use std::rt::Files;
-use std::{fs, io};
 
 /// A source of files.
 pub trait FileSource {
@@ -29,6 +31,13 @@ impl<'a, R> Disk<'a, R> {
 
 impl<R: Files + AllocGlobal> FileSource for Disk<'_, R> {
     fn read(&self, name: &str) -> io::Result<Vec<u8>> {
-        fs::read(self.0, name)
+        let mut file = File::open(self.0, name)?;
+        let mut bytes = Vec::new(self.0.alloc());
+        if let Ok(metadata) = file.metadata() {
+            // What a file says of its length may be wrong, so it needn't fit.
+            let _ = bytes.reserve_exact((metadata.len() as usize).saturating_add(1));
+        }
+        file.read_to_end(&mut bytes)?;
+        Ok(bytes)
     }
 }
