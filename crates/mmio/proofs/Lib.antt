@@ -3,5 +3,6 @@ mod FrontLaws
 mod HeadLaws
 mod ListingLaws
 mod SaidLaws
+mod UsualLaws
 mod ValueLaws
 pub mod WriteLaws

@@ -56,7 +56,7 @@ by_sign false true rest word = by_digits (are_digits rest) (digits_value rest)
 by_sign false false rest word = by_digits (are_digits word) (digits_value word)
 
 -- a word says what the digits behind its sign do
-residue_said-is : (word : List ℕ) → residue_said word ≡ cond (are_digits (unsigned word)) (signed_word (is_negative word) (in_64_bits (digits_value (unsigned word)))) None
+pub residue_said-is : (word : List ℕ) → residue_said word ≡ cond (are_digits (unsigned word)) (signed_word (is_negative word) (in_64_bits (digits_value (unsigned word)))) None
 residue_said-is word = by_sign (slice_index word 0 == 45) (slice_index word 0 == 43) (drop 1 word) word
 
 -- a value in a domain, by its word modulo 2 ^ 64

@@ -5,6 +5,7 @@ ghost use Rattle.std.specs.List.{list_all};
 ghost use Rattle.model.specs.Grammar.{digits_value, is_blank, is_digit, nth_word, words_of};
 ghost use Rattle.model.specs.MatrixMarket.{are_digits};
 ghost use Rattle.mmio.specs.Fronts.{LeadsWithNumber, behind_front, front_of, in_64_bits};
+ghost use Rattle.mmio.specs.Usual.{IsNumberBefore};
 
 use crate::fronts::{is_apart, without_blanks};
 
@@ -50,6 +51,17 @@ fn leading_digits(text: &[u8]) -> (usize, u64)
     ensures ends { result.0 < length text.now → is_digit (slice_index text.now result.0) ≡ false }
     ensures value { result.1 ≡ digits_value (take result.0 text.now) % 2 ^ 64 }
 {
+    digits_in_front(text)
+}
+
+/// What `leading_digits` finds, within its caller.
+#[inline(always)]
+fn digits_in_front(text: &[u8]) -> (usize, u64)
+    ensures within { result.0 ≤ length text.now }
+    ensures digits { list_all is_digit (take result.0 text.now) ≡ true }
+    ensures ends { result.0 < length text.now → is_digit (slice_index text.now result.0) ≡ false }
+    ensures value { result.1 ≡ digits_value (take result.0 text.now) % 2 ^ 64 }
+{
     let mut count = 0;
     let mut value: u64 = 0;
     while count < text.len() && text[count].is_ascii_digit() {
@@ -59,6 +71,20 @@ fn leading_digits(text: &[u8]) -> (usize, u64)
         count += 1;
     }
     (count, value)
+}
+
+/// The number of at most 19 digits at the front of a text, and what follows the one byte behind them, where that
+/// is `end`.
+#[inline(always)]
+pub fn number_before(text: &[u8], end: u8) -> Option<(u64, &[u8])>
+    ensures number { IfSome result (λ found. IsNumberBefore text.now end found.0 found.1.now) }
+    ensures shorter { IfSome result (λ found. length found.1.now < length text.now) }
+{
+    let (count, value) = digits_in_front(text);
+    if count == 0 || count > MOST_SHORT || count == text.len() || text[count] != end {
+        return None;
+    }
+    Some((value, &text[count + 1..]))
 }
 
 /// What any number of digits write, if it is below 2^64.

@@ -48,7 +48,7 @@ fn position_in(heading: Heading, row: Option<u64>, col: Option<u64>) -> Option<(
 
 /// Whether an entry may stand in a row and a column, which are counted from 1.
 #[inline(always)]
-fn is_position(heading: Heading, row: u64, col: u64) -> bool
+pub fn is_position(heading: Heading, row: u64, col: u64) -> bool
     ensures { result ≡ is_position heading row col }
 {
     let is_inside = 1 <= row && row <= heading.rows && 1 <= col && col <= heading.cols;

@@ -11,6 +11,7 @@ mod listing;
 mod reading;
 mod texts;
 mod told;
+mod usual;
 mod values;
 mod writing;
 

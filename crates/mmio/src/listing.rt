@@ -1,13 +1,16 @@
 //! The entries that the lines behind the head of a file list.
-ghost use Rattle.std.specs.Prelude.{◌≡◌, ◌∷◌, ◌++◌, ◌⊎◌, IfErr, IfOk, OnOk, Err, Ok};
+ghost use Rattle.std.specs.Prelude.{◌≡◌, ◌∷◌, ◌++◌, ◌⊎◌, ◌<◌, [], length};
+ghost use Rattle.std.specs.Prelude.{IfErr, IfOk, IfSome, MatchOption, OnOk, Err, Ok};
 ghost use Rattle.std.specs.Option.{option_to_list};
 ghost use Rattle.model.specs.declared.market.MmFault.TheVariants.{NoMemory};
 ghost use Rattle.model.specs.MatrixMarket.{with_mirror};
-ghost use Rattle.mmio.specs.Listing.{entries_listed};
+ghost use Rattle.mmio.specs.Listing.{entries_listed, told_in};
+ghost use Rattle.mmio.specs.Usual.{SaysFirst};
 
 use crate::collects::Collects;
 use crate::entry::entry;
 use crate::told::first_told;
+use crate::usual::usual_entry;
 use algebra::Domain;
 use model::{Entry, Heading, MmFault, Symmetry};
 use std::alloc::Global;
@@ -31,12 +34,11 @@ pub fn listed_entries<C: Collects>(
     let mut listed = C::with_capacity(alloc, room).map_err(|_| MmFault::NoMemory)?;
     let mut left = heading.entries;
     let mut rest = text;
-    while let Some((line, behind)) = first_told(rest) {
+    while let Some((said, behind)) = first_said(domain, heading, rest) {
         if left == 0 {
             return Err(MmFault::TooMany);
         }
-        let entry = entry(domain, heading, line)?;
-        push(&mut listed, heading.symmetry, entry)?;
+        push(&mut listed, heading.symmetry, said?)?;
         left -= 1;
         rest = behind;
     }
@@ -45,6 +47,25 @@ pub fn listed_entries<C: Collects>(
     } else {
         Err(MmFault::TooFew)
     }
+}
+
+/// What the first line of a text that says something says, and what follows it.
+#[inline(always)]
+fn first_said(
+    domain: Domain,
+    heading: Heading,
+    text: &[u8],
+) -> Option<(Result<Entry, MmFault>, &[u8])>
+    ensures lines { MatchOption result
+        (told_in text.now ≡ [])
+        (λ found. SaysFirst domain heading text.now found.0 found.1.now) }
+    ensures shorter { IfSome result (λ found. length found.1.now < length text.now) }
+{
+    if let Some((entry, behind)) = usual_entry(domain, heading, text) {
+        return Some((Ok(entry), behind));
+    }
+    let (line, behind) = first_told(text)?;
+    Some((entry(domain, heading, line), behind))
 }
 
 /// Adds an entry, and behind it the one that the file leaves out.

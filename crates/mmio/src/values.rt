@@ -43,7 +43,7 @@ fn only_residue(line: &[u8]) -> Option<Option<u64>>
 
 /// Whether a text begins with a `-`, and what follows that, or a `+`.
 #[inline(always)]
-fn without_sign(text: &[u8]) -> (bool, &[u8])
+pub fn without_sign(text: &[u8]) -> (bool, &[u8])
     ensures sign { result.0 ≡ is_negative text.now }
     ensures rest { result.1.now ≡ unsigned text.now }
 {
@@ -56,7 +56,7 @@ fn without_sign(text: &[u8]) -> (bool, &[u8])
 
 /// A value of a sign and a magnitude modulo 2^64, if it is from -2^63 to 2^64 - 1.
 #[inline(always)]
-fn signed_word(is_negative: bool, magnitude: Option<u64>) -> Option<u64>
+pub fn signed_word(is_negative: bool, magnitude: Option<u64>) -> Option<u64>
     ensures { result ≡ signed_word is_negative magnitude }
 {
     match magnitude {
@@ -68,7 +68,7 @@ fn signed_word(is_negative: bool, magnitude: Option<u64>) -> Option<u64>
 
 /// A value modulo 2^64 in a domain: in BOOL whether it isn't 0.
 #[inline(always)]
-fn in_domain(domain: Domain, residue: u64) -> u64
+pub fn in_domain(domain: Domain, residue: u64) -> u64
     ensures { result ≡ in_domain domain residue }
 {
     match domain {

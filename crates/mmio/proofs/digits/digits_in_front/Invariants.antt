@@ -2,7 +2,7 @@
 use Rattle.std.proofs.Common.{length, ◌-◌, ◌≡◌, ◌%◌, ◌≤◌, ◌^◌, take, true}
 use Rattle.std.specs.List.{list_all}
 use Rattle.model.specs.Grammar.{digits_value, is_digit}
-use Rattle.mmio.proofs.digits.leading_digits.Given as goal
+use Rattle.mmio.proofs.digits.digits_in_front.Given as goal
 
 abbrev pub invariant-loop-count : goal.invariant-loop-count
 invariant-loop-count l = record {
