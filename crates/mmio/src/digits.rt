@@ -73,6 +73,26 @@ fn digits_in_front(text: &[u8]) -> (usize, u64)
     (count, value)
 }
 
+/// Most numbers have fewer digits than this.
+const FEW: usize = 8;
+
+/// What `leading_digits` finds, within its caller. Fewer than `FEW` digits are read without a look at where the text
+/// ends, and so without a loop.
+#[inline(always)]
+fn few_digits(text: &[u8]) -> (usize, u64)
+    ensures within { result.0 ≤ length text.now }
+    ensures digits { list_all is_digit (take result.0 text.now) ≡ true }
+    ensures value { result.1 ≡ digits_value (take result.0 text.now) % 2 ^ 64 }
+{
+    if text.len() >= FEW {
+        let (count, value) = digits_in_front(&text[..FEW]);
+        if count < FEW {
+            return (count, value);
+        }
+    }
+    leading_digits(text)
+}
+
 /// The number of at most 19 digits at the front of a text, and what follows the one byte behind them, where that
 /// is `end`.
 #[inline(always)]
@@ -80,7 +100,7 @@ pub fn number_before(text: &[u8], end: u8) -> Option<(u64, &[u8])>
     ensures number { IfSome result (λ found. IsNumberBefore text.now end found.0 found.1.now) }
     ensures shorter { IfSome result (λ found. length found.1.now < length text.now) }
 {
-    let (count, value) = digits_in_front(text);
+    let (count, value) = few_digits(text);
     if count == 0 || count > MOST_SHORT || count == text.len() || text[count] != end {
         return None;
     }

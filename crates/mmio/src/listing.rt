@@ -21,6 +21,7 @@ const USUAL_LINE: usize = 8;
 
 /// The entries that a text lists under a heading, in order, with those that it leaves out; or the first
 /// thing that is wrong.
+#[inline(never)]
 pub fn listed_entries<C: Collects>(
     alloc: Global,
     domain: Domain,
@@ -64,6 +65,22 @@ fn first_said(
     if let Some((entry, behind)) = usual_entry(domain, heading, text) {
         return Some((Ok(entry), behind));
     }
+    first_of_any_form(domain, heading, text)
+}
+
+/// The same for a line of any form. It stays a function of its own, so that what the lines of the usual form are
+/// read into stays in registers.
+#[inline(never)]
+fn first_of_any_form(
+    domain: Domain,
+    heading: Heading,
+    text: &[u8],
+) -> Option<(Result<Entry, MmFault>, &[u8])>
+    ensures lines { MatchOption result
+        (told_in text.now ≡ [])
+        (λ found. SaysFirst domain heading text.now found.0 found.1.now) }
+    ensures shorter { IfSome result (λ found. length found.1.now < length text.now) }
+{
     let (line, behind) = first_told(text)?;
     Some((entry(domain, heading, line), behind))
 }

@@ -10,7 +10,7 @@ use model::{Entry, Field, Heading};
 
 /// The entry that the first line of a text says, and what follows the line, where it is written as most programs do
 /// and nothing is wrong with it. Such a line is read in one walk, and its end needn't be looked for.
-#[inline(never)]
+#[inline(always)]
 pub fn usual_entry(domain: Domain, heading: Heading, text: &[u8]) -> Option<(Entry, &[u8])>
     ensures entry { IfSome result (λ found. SaysFirst domain heading text.now (Ok found.0) found.1.now) }
     ensures shorter { IfSome result (λ found. length found.1.now < length text.now) }

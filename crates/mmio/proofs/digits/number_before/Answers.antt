@@ -7,6 +7,6 @@ use Rattle.mmio.proofs.digits.number_before.Goals as goal
 
 pub returns-clause-number : goal.returns-clause-number
 returns-clause-number c =
-    let found = c.digits_in_front-count.ensures in
-    rw take_rest (number_before_at c.args.text.now c.digits_in_front-count.result.0 c.args.end c.digits_in_front-count.result.1
+    let found = c.few_digits-count.ensures in
+    rw take_rest (number_before_at c.args.text.now c.few_digits-count.result.0 c.args.end c.few_digits-count.result.1
     (grind (arith, nat_tests)) (grind (arith, nat_tests)) (grind (arith, nat_tests)) found.digits (grind (arith, nat_tests)) found.value)
