@@ -18,6 +18,11 @@ def ratio(pair):
     return pair.ours.seconds / pair.theirs.seconds
 
 
+def best(pairs):
+    """The best run of each side."""
+    return Pair(pairs[0].threads, min(pair.ours for pair in pairs), min(pair.theirs for pair in pairs))
+
+
 class Sides:
     def __init__(self, room):
         self.room = room
@@ -30,21 +35,21 @@ class Sides:
         self.measure = room.built("measure", ["comparison/measure.c"])
         self.suitesparse = room.built("suitesparse", SOURCES, ["-lgraphblas"])
 
-    def compare(self, problem, script, threads, rounds):
-        return [self.compare_at(problem, script, count, rounds) for count in threads]
+    def compare(self, problem, script, threads):
+        """A run of each side at each number of threads."""
+        return [self.compare_at(problem, script, count) for count in threads]
 
-    def compare_at(self, problem, script, threads, rounds):
-        """The best run of each; each run of SuiteSparse has to print what gbrun printed before."""
+    def compare_at(self, problem, script, threads):
+        """A run of each side; SuiteSparse has to print what gbrun printed before."""
         workers = "0" if threads == 1 else str(threads)
         policies = [{}] if threads == 1 else [{}, {"OMP_WAIT_POLICY": "passive"}]
-        ours, theirs = [], []
-        for _ in range(rounds):
-            ours.append(self.run(problem, "ours", [self.gbrun, "--workers", workers, script], {}))
-            for policy in policies:
-                settings = {"OMP_NUM_THREADS": str(threads), **policy}
-                theirs.append(self.run(problem, "theirs", [self.suitesparse, script], settings))
-                self.need_same_answers(problem, script)
-        return Pair(threads, min(ours), min(theirs))
+        ours = self.run(problem, "ours", [self.gbrun, "--workers", workers, script], {})
+        theirs = []
+        for policy in policies:
+            settings = {"OMP_NUM_THREADS": str(threads), **policy}
+            theirs.append(self.run(problem, "theirs", [self.suitesparse, script], settings))
+            self.need_same_answers(problem, script)
+        return Pair(threads, ours, min(theirs))
 
     def need_same_answers(self, problem, script):
         paths = [self.answers("ours"), self.answers("theirs")]
