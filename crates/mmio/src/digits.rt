@@ -82,6 +82,7 @@ const FEW: usize = 8;
 fn few_digits(text: &[u8]) -> (usize, u64)
     ensures within { result.0 ≤ length text.now }
     ensures digits { list_all is_digit (take result.0 text.now) ≡ true }
+    ensures ends { result.0 < length text.now → is_digit (slice_index text.now result.0) ≡ false }
     ensures value { result.1 ≡ digits_value (take result.0 text.now) % 2 ^ 64 }
 {
     if text.len() >= FEW {

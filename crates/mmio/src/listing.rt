@@ -20,7 +20,7 @@ use std::alloc::Global;
 const USUAL_LINE: usize = 8;
 
 /// The entries that a text lists under a heading, in order, with those that it leaves out; or the first
-/// thing that is wrong.
+/// thing that is wrong. It stays a function of its own, so that its loop shares the registers with no other.
 #[inline(never)]
 pub fn listed_entries<C: Collects>(
     alloc: Global,
@@ -68,8 +68,7 @@ fn first_said(
     first_of_any_form(domain, heading, text)
 }
 
-/// The same for a line of any form. It stays a function of its own, so that what the lines of the usual form are
-/// read into stays in registers.
+/// The same for a line of any form. It stays out of the loop of the lines of the usual form for the same reason.
 #[inline(never)]
 fn first_of_any_form(
     domain: Domain,
