@@ -1,16 +1,18 @@
 //! The sums of a row of a product in a list with a place for each column.
-ghost use Rattle.std.specs.Prelude.{◌≡◌, ◌≢◌, ◌<◌, ◌≤◌, ◌+◌, ◌*◌, ◌/◌, ◌^◌, if◌then◌else◌, ℕ, true, IfSome, OnOk};
+ghost use Rattle.std.specs.Prelude.{◌≡◌, ◌≢◌, ◌<◌, ◌≤◌, ◌+◌, ◌*◌, ◌/◌, ◌^◌, ◌⊎◌, if◌then◌else◌, ℕ, true};
+ghost use Rattle.std.specs.Prelude.{IfOk, IfSome, OnOk};
 ghost use Rattle.std.specs.Prelude.{◌++◌, ◌∷◌, [], List, length, map, slice_index, take};
 ghost use Rattle.std.specs.List.{All};
 ghost use Rattle.algebra.specs.declared.binary.BinaryOp.{BinaryOp};
 ghost use Rattle.store.specs.Fibers.{entries_along};
 ghost use Rattle.spgemm.specs.Dense.{AreClear, AreColumnSums, HaveRoom, found, has_bit, word_by, word_in};
 ghost use Rattle.spgemm.specs.Products.{HasOpenRow};
-ghost use Rattle.spgemm.specs.Terms.{AllMet, AreFirstTerms, term_at, terms_of_row, times_row};
+ghost use Rattle.spgemm.specs.Terms.{AreFirstTerms, term_at, terms_of_row, times_row};
 ghost use Rattle.spgemm.specs.declared.term.Term.{Term};
 
 use crate::bits::{full_words, has_bit, set_bit};
 use crate::hints::RowHints;
+use crate::span::{Reach, widened_by_row, words_between};
 use crate::sums::push_sum;
 use crate::term::Term;
 use algebra::{BinaryOp, Semiring, with_semiring};
@@ -130,7 +132,7 @@ fn add_terms_by(bits: &mut [u64], sums: &mut [u64], terms: &[Term], semiring: Se
 }
 
 /// Adds the products of a row of A with B, from an entry of that row on, each entry times the row of B that its
-/// column names. The sums are those of the entries before.
+/// column names, and answers how far they reach. The sums are those of the entries before.
 #[tactic(auto, using(crate::proofs::Arms::same_sums))]
 fn add_rows(
     bits: &mut [u64],
@@ -140,7 +142,7 @@ fn add_rows(
     b: &Store,
     hints: &RowHints,
     semiring: Semiring,
-)
+) -> Reach
     requires room { HaveRoom bits.old sums.old }
     requires lengths { length row.words.now ≡ length row.cols.now }
     requires inside { b.now.cols ≤ length sums.old }
@@ -150,9 +152,10 @@ fn add_rows(
     ensures sums { AreColumnSums semiring.add.op
         (terms_of_row semiring.multiply (entries_along row.entry.index row.entry.cols.now row.entry.words.now) b.now)
         bits.new sums.new }
-    ensures others { (at : ℕ) → AllMet (λ col. col / 64 ≢ at)
-        (entries_along row.entry.index row.entry.cols.now row.entry.words.now) b.now
+    ensures others { (at : ℕ) → (at < result.span.start) ⊎ (result.span.end ≤ at)
         → slice_index bits.new at ≡ slice_index bits.old at }
+    ensures order { result.span.start ≤ result.span.end }
+    ensures bound { 0 < length bits.old → result.span.end ≤ length bits.old }
 {
     // All that runs below the arms is inlined, so that its loops are compiled for each.
     with_semiring!(
@@ -171,7 +174,7 @@ fn add_rows_by(
     b: &Store,
     hints: &RowHints,
     semiring: Semiring,
-)
+) -> Reach
     requires room { HaveRoom bits.old sums.old }
     requires lengths { length row.words.now ≡ length row.cols.now }
     requires inside { b.now.cols ≤ length sums.old }
@@ -181,16 +184,21 @@ fn add_rows_by(
     ensures sums { AreColumnSums semiring.add.op
         (terms_of_row semiring.multiply (entries_along row.entry.index row.entry.cols.now row.entry.words.now) b.now)
         bits.new sums.new }
-    ensures others { (at : ℕ) → AllMet (λ col. col / 64 ≢ at)
-        (entries_along row.entry.index row.entry.cols.now row.entry.words.now) b.now
+    ensures others { (at : ℕ) → (at < result.span.start) ⊎ (result.span.end ≤ at)
         → slice_index bits.new at ≡ slice_index bits.old at }
+    ensures order { result.span.start ≤ result.span.end }
+    ensures bound { 0 < length bits.old → result.span.end ≤ length bits.old }
 {
     let many = sums.len() / COLUMNS_AN_ENTRY;
     let mut full = 0;
     let mut last = 0;
+    let mut ends = (u64::MAX, 0);
+    let mut count: usize = 0;
     for k in from..row.cols.len() {
         let (cols, words, next) = b.row_near(row.cols[k], hints.of(row.cols[k], last));
         last = next;
+        ends = widened_by_row(ends, cols);
+        count = count.saturating_add(cols.len());
         if cols.len() > many {
             add_products(
                 bits,
@@ -205,6 +213,10 @@ fn add_rows_by(
         } else {
             add_products(bits, sums, row.words[k], cols, words, semiring, None);
         }
+    }
+    Reach {
+        count,
+        span: words_between(ends),
     }
 }
 
@@ -226,9 +238,6 @@ fn gather_word(
     ensures words { OnOk result (lists.new.words.items
         ≡ lists.old.words.items ++ map (λ s. s.word) (found (word_by bits base words.now) base 64)) }
 {
-    if bits == 0 {
-        return Ok(());
-    }
     lists.inner.reserve(64)?;
     lists.words.reserve(64)?;
     let mut left = bits;
@@ -254,13 +263,13 @@ pub(crate) fn gather(
     lists: &mut FiberLists,
     bits: &mut [u64],
     words: &[u64],
-    span: Range<usize>,
+    span: &Range<usize>,
 ) -> Result<(), NoMemory>
     requires room { HaveRoom bits.old words.now }
-    requires order { span.start ≤ span.end }
-    requires end { span.end ≤ length bits.old }
-    requires before { (at : ℕ) → at < span.start → slice_index bits.old at ≡ 0 }
-    requires behind { (at : ℕ) → span.end ≤ at → slice_index bits.old at ≡ 0 }
+    requires order { span.now.start ≤ span.now.end }
+    requires end { span.now.end ≤ length bits.old }
+    requires before { (at : ℕ) → at < span.now.start → slice_index bits.old at ≡ 0 }
+    requires behind { (at : ℕ) → span.now.end ≤ at → slice_index bits.old at ≡ 0 }
     ensures ends { OnOk result (lists.new.ends ≡ lists.old.ends) }
     ensures inner { OnOk result (lists.new.inner.items
         ≡ lists.old.inner.items ++ map (λ s. s.col) (found (word_in bits.old words.now) 0 (length words.now))) }
@@ -268,11 +277,12 @@ pub(crate) fn gather(
         ≡ lists.old.words.items ++ map (λ s. s.word) (found (word_in bits.old words.now) 0 (length words.now))) }
     ensures clear { OnOk result (AreClear bits.new) }
 {
-    let Range { start, end } = span;
-    for at in start..end {
+    for at in span.start..span.end {
         let here = bits[at];
-        bits[at] = 0;
-        gather_word(lists, here, 64 * at, words)?;
+        if here != 0 {
+            bits[at] = 0;
+            gather_word(lists, here, 64 * at, words)?;
+        }
     }
     Ok(())
 }
@@ -305,7 +315,7 @@ pub(crate) fn sum_densely(
 {
     add_terms(bits, sums, terms, semiring);
     add_rows(bits, sums, row, done, b, hints, semiring);
-    gather(lists, bits, sums, 0..bits.len())
+    gather(lists, bits, sums, &(0..bits.len()))
 }
 
 /// Puts the sums of terms behind the inner indices and words, where the bits of their columns lie in a span. It
@@ -315,15 +325,15 @@ pub(crate) fn sum_in_span(
     bits: &mut [u64],
     sums: &mut [u64],
     terms: &[Term],
-    span: Range<usize>,
+    span: &Range<usize>,
     semiring: Semiring,
 ) -> Result<(), NoMemory>
     requires room { HaveRoom bits.old sums.old }
     requires inside { All (λ t. t.col < length sums.old) terms.now }
     requires none { AreClear bits.old }
-    requires order { span.start ≤ span.end }
-    requires end { span.end ≤ length bits.old }
-    requires span { All (λ t. (span.start ≤ t.col / 64) × (t.col / 64 < span.end)) terms.now }
+    requires order { span.now.start ≤ span.now.end }
+    requires end { span.now.end ≤ length bits.old }
+    requires span { All (λ t. (span.now.start ≤ t.col / 64) × (t.col / 64 < span.now.end)) terms.now }
     ensures row { OnOk result ((index : ℕ) → HasOpenRow semiring.add.op index terms.now lists.old lists.new) }
     ensures clear { OnOk result (AreClear bits.new) }
 {
@@ -331,33 +341,30 @@ pub(crate) fn sum_in_span(
     gather(lists, bits, sums, span)
 }
 
-/// Puts the sums of the row of the product with B that a row of A gives behind the inner indices and words, where
-/// the bits of its columns lie in a span. It sums in a place for each column, and leaves all bits clear.
-pub(crate) fn sum_row_in_span(
+/// Puts the sums of the row of the product with B that a row of A gives behind the inner indices and words, and
+/// answers how far its products reach. It sums in a place for each column, and leaves all bits clear.
+pub(crate) fn sum_at_once(
     lists: &mut FiberLists,
     bits: &mut [u64],
     sums: &mut [u64],
     row: Row<'_>,
     b: &Store,
     hints: &RowHints,
-    span: Range<usize>,
     semiring: Semiring,
-) -> Result<(), NoMemory>
+) -> Result<Reach, NoMemory>
     requires room { HaveRoom bits.old sums.old }
     requires lengths { length row.words.now ≡ length row.cols.now }
-    requires inside { b.now.cols ≤ length sums.old }
+    requires inside { b.now.cols < length sums.old }
     requires none { AreClear bits.old }
-    requires order { span.start ≤ span.end }
-    requires end { span.end ≤ length bits.old }
-    requires span { AllMet (λ col. (span.start ≤ col / 64) × (col / 64 < span.end))
-        (entries_along row.index row.cols.now row.words.now) b.now }
     ensures row { OnOk result (HasOpenRow semiring.add.op row.entry.index
         (terms_of_row semiring.multiply (entries_along row.entry.index row.entry.cols.now row.entry.words.now) b.now)
         lists.old lists.new) }
     ensures clear { OnOk result (AreClear bits.new) }
+    ensures order { IfOk result (λ reach. reach.span.start ≤ reach.span.end) }
 {
-    add_rows(bits, sums, row, 0, b, hints, semiring);
-    gather(lists, bits, sums, span)
+    let reach = add_rows(bits, sums, row, 0, b, hints, semiring);
+    gather(lists, bits, sums, &reach.span)?;
+    Ok(reach)
 }
 
 /// The greatest number of columns for which sums have places of their own.

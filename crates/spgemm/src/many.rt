@@ -149,7 +149,7 @@ pub(crate) fn sum_many(
     sums.fill(semiring.add.identity());
     add_row(marks, sums, row, b, hints, semiring);
     set_marked(bits, marks);
-    gather(lists, bits, sums, 0..bits.len())
+    gather(lists, bits, sums, &(0..bits.len()))
 }
 
 /// Sets the bits of the places that are marked, and no others.

@@ -1,16 +1,16 @@
 //! One row of a product.
-ghost use Rattle.std.specs.Prelude.{◌≡◌, ◌<◌, ℕ, length, IfOk, OnOk};
+ghost use Rattle.std.specs.Prelude.{◌≡◌, ◌<◌, ℕ, length, true, IfOk, OnOk};
 ghost use Rattle.std.specs.List.{AllPairs};
 ghost use Rattle.store.specs.Fibers.{entries_along};
 ghost use Rattle.spgemm.specs.Dense.{AreClear, HaveRoom};
 ghost use Rattle.spgemm.specs.Products.{HasOpenRow, HasRow};
 ghost use Rattle.spgemm.specs.Terms.{terms_of_row};
 
-use crate::dense::{MOST_PLACES, fit, sum_densely, sum_in_span, sum_row_in_span};
+use crate::dense::{MOST_PLACES, fit, sum_at_once, sum_densely, sum_in_span};
 use crate::expand::expand;
 use crate::hints::RowHints;
 use crate::many::{exceeds_columns, sum_many};
-use crate::span::{most_collected, pays, reach_of, span_of};
+use crate::span::{most_collected, pays, span_of};
 use crate::sums::sum_runs;
 use crate::term::Term;
 use algebra::Semiring;
@@ -19,8 +19,8 @@ use std::alloc::Global;
 use store::{FiberLists, Row, Store};
 
 /// Memory that serves one row after another: terms, and sums with a place for each column, each with a bit, and
-/// where there are many products with a mark, that says whether there is one; hints where the rows of B lie; and
-/// whether the products of the row before spanned few columns. Between rows no bit is set.
+/// where there are many products with a mark, that says whether there is one; hints where the rows of B lie; and how
+/// many products the rows had since one whose products span many columns. Between rows no bit is set.
 #[derive(Drop)]
 pub(crate) struct Scratch {
     pub(crate) terms: Vec<Term>,
@@ -28,7 +28,7 @@ pub(crate) struct Scratch {
     pub(crate) sums: Vec<u64>,
     pub(crate) marks: Vec<bool>,
     pub(crate) hints: RowHints,
-    pub(crate) spans: bool,
+    pub(crate) compact: usize,
 }
 
 impl Scratch {
@@ -43,7 +43,7 @@ impl Scratch {
             sums: Vec::new(alloc),
             marks: Vec::new(alloc),
             hints,
-            spans: false,
+            compact: 0,
         }
     }
 
@@ -64,6 +64,14 @@ impl Scratch {
             fit(&mut scratch.bits, &mut scratch.sums, cols)?;
         }
         Ok(scratch)
+    }
+
+    /// Whether the products of the next row are expected to span few columns of so many: those of the rows before it
+    /// did. There were so many that to look through the places of all columns is no more work, if this one differs.
+    fn expects_compact(&self, cols: u64) -> bool
+        ensures { result ≡ true → cols < length self.now.sums.items }
+    {
+        cols < self.sums.len() as u64 && self.bits.len() <= self.compact
     }
 }
 
@@ -90,7 +98,7 @@ pub(crate) fn multiply_row(
 }
 
 /// Puts the sums of the row of the product with B that a row of A gives behind the inner indices and words. A row
-/// behind one whose products spanned few columns is added at once where its products do so too.
+/// whose products are expected to span few columns is added at once.
 pub(crate) fn sum_row(
     lists: &mut FiberLists,
     scratch: &mut Scratch,
@@ -108,19 +116,23 @@ pub(crate) fn sum_row(
     ensures room { OnOk result (HaveRoom scratch.new.bits.items scratch.new.sums.items) }
     ensures none { OnOk result (AreClear scratch.new.bits.items) }
 {
-    if scratch.spans {
-        let reach = reach_of(row, b, &scratch.hints);
-        if reach.pays(b.cols(), scratch.sums.len()) {
-            let Scratch {
-                bits,
-                sums,
-                hints,
-                ..
-            } = scratch;
-            return sum_row_in_span(lists, bits, sums, row, b, hints, reach.span, semiring);
-        }
+    if !scratch.expects_compact(b.cols()) {
+        return sum_collected(lists, scratch, row, b, semiring);
     }
-    sum_collected(lists, scratch, row, b, semiring)
+    let Scratch {
+        bits,
+        sums,
+        hints,
+        compact,
+        ..
+    } = scratch;
+    let reach = sum_at_once(lists, bits, sums, row, b, hints, semiring)?;
+    *compact = if reach.pays(b.cols(), sums.len()) {
+        compact.saturating_add(reach.count)
+    } else {
+        0
+    };
+    Ok(())
 }
 
 /// What `sum_row` does, by a list of products. Where there are many beside the columns, or beside those that they
@@ -148,7 +160,7 @@ fn sum_collected(
         sums,
         marks,
         hints,
-        spans,
+        compact,
     } = scratch;
     let most = most_collected(b.cols(), sums.len());
     let done = expand(terms, row, b, hints, semiring, most)?;
@@ -160,10 +172,11 @@ fn sum_collected(
         return sum_densely(lists, bits, sums, terms, row, done, b, hints, semiring);
     }
     let span = span_of(terms);
-    *spans = pays(&span, terms.len(), b.cols(), sums.len());
-    if *spans {
-        return sum_in_span(lists, bits, sums, terms, span, semiring);
+    if pays(&span, terms.len(), b.cols(), sums.len()) {
+        *compact = compact.saturating_add(terms.len());
+        return sum_in_span(lists, bits, sums, terms, &span, semiring);
     }
+    *compact = 0;
     sum_sorted(lists, terms, semiring)
 }
 

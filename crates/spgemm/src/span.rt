@@ -1,14 +1,10 @@
 //! Which rows of products are summed in a place for each column, and which of the places are looked through.
 ghost use Rattle.std.specs.Prelude.{◌≡◌, ◌<◌, ◌≤◌, ◌+◌, ◌*◌, ◌/◌, ◌^◌, ◌⊎◌, ℕ, length, true};
 ghost use Rattle.std.specs.List.{All, AllPairs};
-ghost use Rattle.store.specs.Fibers.{entries_along};
-ghost use Rattle.spgemm.specs.Terms.{AllMet};
 
 use crate::dense::MOST_PLACES;
-use crate::hints::RowHints;
 use crate::term::Term;
 use std::ops::Range;
-use store::{Row, Store};
 
 /// How many words of bits are looked through at most for each product, where that is faster than to sort the
 /// products.
@@ -39,7 +35,7 @@ pub(crate) fn pays(span: &Range<usize>, count: usize, cols: u64, places: usize) 
     requires { span.now.start ≤ span.now.end }
     ensures { result ≡ true → cols < places }
 {
-    cols < places as u64 && (span.end - span.start) / WORDS_A_PRODUCT < count
+    cols < places as u64 && (span.end - span.start) / WORDS_A_PRODUCT <= count
 }
 
 /// How many products a row has, and the words of bits that their columns span; of none it is the first.
@@ -50,42 +46,18 @@ pub(crate) struct Reach {
 }
 
 impl Reach {
-    /// Whether it pays to add the products at once in the places of the span, where there are `places` already and
+    /// Whether it paid to add the products at once in the places of the span, where there are `places` already and
     /// so many columns: there are no more of them than would be listed.
     pub(crate) fn pays(&self, cols: u64, places: usize) -> bool
         requires { self.now.span.start ≤ self.now.span.end }
-        ensures { result ≡ true → cols < places }
     {
         self.count <= most_collected(cols, places) && pays(&self.span, self.count, cols, places)
     }
 }
 
-/// How many products a row of A has with B, and which words of bits they span, by the ends of the rows of B alone.
-pub(crate) fn reach_of(row: Row<'_>, b: &Store, hints: &RowHints) -> Reach
-    requires { length row.words.now ≡ length row.cols.now }
-    ensures order { result.span.start ≤ result.span.end }
-    ensures within { AllMet (λ col. (result.span.start ≤ col / 64) × (col / 64 < result.span.end))
-        (entries_along row.entry.index row.entry.cols.now row.entry.words.now) b.now }
-    ensures bound { (words : ℕ) → 0 < words → b.now.cols ≤ 64 * words → result.span.end ≤ words }
-{
-    let mut ends = (u64::MAX, 0);
-    let mut count: usize = 0;
-    let mut last = 0;
-    for k in 0..row.cols.len() {
-        let (cols, _, next) = b.row_near(row.cols[k], hints.of(row.cols[k], last));
-        ends = widened_by_row(ends, cols);
-        count = count.saturating_add(cols.len());
-        last = next;
-    }
-    Reach {
-        count,
-        span: words_between(ends),
-    }
-}
-
 /// The least and the greatest of two numbers and of some that rise.
 #[inline(always)]
-fn widened_by_row(ends: (u64, u64), cols: &[u64]) -> (u64, u64)
+pub(crate) fn widened_by_row(ends: (u64, u64), cols: &[u64]) -> (u64, u64)
     requires rising { AllPairs (λ p q. p < q) cols.now }
     ensures least { result.0 ≤ ends.0 }
     ensures greatest { ends.1 ≤ result.1 }
@@ -100,7 +72,7 @@ fn widened_by_row(ends: (u64, u64), cols: &[u64]) -> (u64, u64)
 
 /// The words of bits from that of one column to that of another; where the first one is above, that of the other.
 #[inline(always)]
-fn words_between(ends: (u64, u64)) -> Range<usize>
+pub(crate) fn words_between(ends: (u64, u64)) -> Range<usize>
     ensures order { result.start ≤ result.end }
     ensures low { result.start ≤ ends.0 / 64 }
     ensures high { result.end ≡ ends.1 / 64 + 1 }

@@ -5,7 +5,7 @@ use Rattle.spgemm.specs.Dense.{found, word_by}
 use Rattle.spgemm.specs.Terms.{term_at}
 use Rattle.spgemm.specs.declared.term.Term.{Term}
 use Rattle.spgemm.proofs.BitLaws.{cleared_less}
-use Rattle.spgemm.proofs.DenseLaws.{AreLeft, all_found, all_left, found_zero, next_word, no_bits}
+use Rattle.spgemm.proofs.DenseLaws.{AreLeft, all_found, all_left, found_zero, next_word}
 use Rattle.spgemm.proofs.dense.gather_word.Goals as goal
 
 pub loop-left-init : goal.loop-left-init
@@ -70,9 +70,3 @@ returns-clause-words c =
     let none : s.left ≡ 0 = c.loop-left-test.false in
     let all = all_found c.args.bits s.invariant.p c.args.base c.args.words.now (subst (λ left. AreLeft c.args.bits left s.invariant.p) none s.invariant.are_left) in
     s.invariant.words ∙ rw (c.in_ok-reserve-2.ensures.items, all) refl
-
-pub returns-then-bits-eq0-clause-inner : goal.returns-then-bits-eq0-clause-inner
-returns-then-bits-eq0-clause-inner c = rw (no_bits c.args.bits c.args.base c.args.words.now c.if-bits-eq0.true) (sym (append-nil _))
-
-pub returns-then-bits-eq0-clause-words : goal.returns-then-bits-eq0-clause-words
-returns-then-bits-eq0-clause-words c = rw (no_bits c.args.bits c.args.base c.args.words.now c.if-bits-eq0.true) (sym (append-nil _))

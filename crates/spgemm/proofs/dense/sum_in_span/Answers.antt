@@ -5,11 +5,11 @@ use Rattle.spgemm.proofs.dense.sum_in_span.Goals as goal
 
 pub gather-requires-clause-before : goal.gather-requires-clause-before
 gather-requires-clause-before c = λ at less.
-    c.add_terms.ensures.others at (All-weaker (λ t. (c.args.span.start ≤ t.col / 64) × (t.col / 64 < c.args.span.end)) (λ t. t.col / 64 ≢ at) (λ t within is. absurd (omega (arith, within.0))) _ c.requires.span)
+    c.add_terms.ensures.others at (All-weaker (λ t. (c.args.span.now.start ≤ t.col / 64) × (t.col / 64 < c.args.span.now.end)) (λ t. t.col / 64 ≢ at) (λ t within is. absurd (omega (arith, within.0))) _ c.requires.span)
 
 pub gather-requires-clause-behind : goal.gather-requires-clause-behind
 gather-requires-clause-behind c = λ at le.
-    c.add_terms.ensures.others at (All-weaker (λ t. (c.args.span.start ≤ t.col / 64) × (t.col / 64 < c.args.span.end)) (λ t. t.col / 64 ≢ at) (λ t within is. absurd (omega (arith, within.1))) _ c.requires.span)
+    c.add_terms.ensures.others at (All-weaker (λ t. (c.args.span.now.start ≤ t.col / 64) × (t.col / 64 < c.args.span.now.end)) (λ t. t.col / 64 ≢ at) (λ t within is. absurd (omega (arith, within.1))) _ c.requires.span)
 
 pub returns-clause-row : goal.returns-clause-row
 returns-clause-row c =

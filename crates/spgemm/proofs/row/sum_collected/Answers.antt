@@ -25,31 +25,31 @@ below_cols op index cols words b terms done same past first =
 pub sum_in_span-requires-clause-inside : goal.sum_in_span-requires-clause-inside
 sum_in_span-requires-clause-inside c =
     let below = below_cols c.args.semiring.multiply c.args.row.index c.args.row.cols.now c.args.row.words.now c.args.b.now c.expand.new.terms.items c.in_ok-done.done c.requires.lengths (omega (arith, c.if-done-row.false)) c.in_ok-done.ensures.terms in
-    let places = c.pays.ensures c.if-spans.true in
+    let places = c.pays.ensures c.if-pays.true in
     let cols = c.cols-2.ensures in
     let len = c.len-3.ensures in
-    let long = c.deref_mut-then-spans-2.ensures.len in
-    rw c.deref-then-spans.ensures.value (All-weaker (λ t. t.col < c.args.b.now.cols) (λ t. t.col < length c.deref_mut-then-spans-2.result.now) (λ t less. omega arith) c.expand.new.terms.items below)
+    let long = c.deref_mut-then-pays-2.ensures.len in
+    rw c.deref-then-pays.ensures.value (All-weaker (λ t. t.col < c.args.b.now.cols) (λ t. t.col < length c.deref_mut-then-pays-2.result.now) (λ t less. omega arith) c.expand.new.terms.items below)
 
 pub sum_in_span-requires-clause-end : goal.sum_in_span-requires-clause-end
 sum_in_span-requires-clause-end c =
     let below = below_cols c.args.semiring.multiply c.args.row.index c.args.row.cols.now c.args.row.words.now c.args.b.now c.expand.new.terms.items c.in_ok-done.done c.requires.lengths (omega (arith, c.if-done-row.false)) c.in_ok-done.ensures.terms in
-    let places = c.pays.ensures c.if-spans.true in
+    let places = c.pays.ensures c.if-pays.true in
     let cols = c.cols-2.ensures in
     let len = c.len-3.ensures in
-    let sums = c.deref_mut-then-spans-2.ensures.value in
-    let long = c.deref_mut-then-spans-2.ensures.len in
-    let words = length c.deref_mut-then-spans.result.now in
-    let bits : words ≡ length c.args.scratch.now.bits.items = ap length c.deref_mut-then-spans.ensures.value in
+    let sums = c.deref_mut-then-pays-2.ensures.value in
+    let long = c.deref_mut-then-pays-2.ensures.len in
+    let words = length c.deref_mut-then-pays.result.now in
+    let bits : words ≡ length c.args.scratch.now.bits.items = ap length c.deref_mut-then-pays.ensures.value in
     let room = c.requires.room in
     let same = ap length sums in
     c.span_of-span.ensures.bound words (omega arith) (rw c.deref-2.ensures.value (All-weaker (λ t. t.col < c.args.b.now.cols) (λ t. t.col / 64 < words) (λ t less. omega arith) c.expand.new.terms.items below))
 
-pub returns-then-spans-clause-row : goal.returns-then-spans-clause-row
-returns-then-spans-clause-row c =
+pub returns-then-pays-clause-row : goal.returns-then-pays-clause-row
+returns-then-pays-clause-row c =
     let all = all_terms c.args.semiring.multiply c.args.row.index c.args.row.cols.now c.args.row.words.now c.args.b.now c.expand.new.terms.items c.in_ok-done.done c.requires.lengths (omega (arith, c.if-done-row.false)) c.in_ok-done.ensures.terms in
-    open_of c.sum_in_span.result c.args.semiring.add.op c.args.row.index c.deref-then-spans.result.now (terms_of_row c.args.semiring.multiply (entries_along c.args.row.index c.args.row.cols.now c.args.row.words.now) c.args.b.now)
-    c.args.lists.now c.sum_in_span.new.lists (c.deref-then-spans.ensures.value ∙ all) c.sum_in_span.ensures.row
+    open_of c.sum_in_span.result c.args.semiring.add.op c.args.row.index c.deref-then-pays.result.now (terms_of_row c.args.semiring.multiply (entries_along c.args.row.index c.args.row.cols.now c.args.row.words.now) c.args.b.now)
+    c.args.lists.now c.sum_in_span.new.lists (c.deref-then-pays.ensures.value ∙ all) c.sum_in_span.ensures.row
 
 pub returns-clause-row : goal.returns-clause-row
 returns-clause-row c =

@@ -1,12 +1,8 @@
-use Rattle.std.proofs.Common.{◌≡◌, ap, arith, length}
+use Rattle.std.proofs.Common.{arith}
 use Rattle.spgemm.proofs.row.sum_row.Goals as goal
 
-pub sum_row_in_span-requires-clause-end : goal.sum_row_in_span-requires-clause-end
-sum_row_in_span-requires-clause-end c =
-    let words = length c.deref_mut.result.now in
-    let bits : words ≡ length c.args.scratch.now.bits.items = ap length c.deref_mut.ensures.value in
-    let places = c.pays.ensures c.if-pays.true in
-    let room = c.requires.room in
+pub sum_at_once-requires-clause-inside : goal.sum_at_once-requires-clause-inside
+sum_at_once-requires-clause-inside c =
+    let below = c.expects_compact.ensures c.if-not-expects_compact.false in
     let cols = c.cols.ensures in
-    let len = c.len.ensures in
-    c.reach_of-reach.ensures.bound words (omega arith) (omega arith)
+    rw c.deref_mut-2.ensures.value (omega arith)
