@@ -35,7 +35,7 @@ pub fn listed_entries<C: Collects>(
     let mut listed = C::with_capacity(alloc, room).map_err(|_| MmFault::NoMemory)?;
     let mut left = heading.entries;
     let mut rest = text;
-    while let Some((said, behind)) = first_said(domain, heading, rest) {
+    while let Some((said, behind)) = first_said(domain, &heading, rest) {
         if left == 0 {
             return Err(MmFault::TooMany);
         }
@@ -52,17 +52,17 @@ pub fn listed_entries<C: Collects>(
 
 /// What the first line of a text that says something says, and what follows it.
 #[inline(always)]
-fn first_said(
+fn first_said<'a>(
     domain: Domain,
-    heading: Heading,
-    text: &[u8],
-) -> Option<(Result<Entry, MmFault>, &[u8])>
+    heading: &Heading,
+    text: &'a [u8],
+) -> Option<(Result<Entry, MmFault>, &'a [u8])>
     ensures lines { MatchOption result
         (told_in text.now ≡ [])
-        (λ found. SaysFirst domain heading text.now found.0 found.1.now) }
+        (λ found. SaysFirst domain heading.now text.now found.0 found.1.now) }
     ensures shorter { IfSome result (λ found. length found.1.now < length text.now) }
 {
-    if let Some((entry, behind)) = usual_entry(domain, heading, text) {
+    if let Some((entry, behind)) = usual_entry(domain, *heading, text) {
         return Some((Ok(entry), behind));
     }
     first_of_any_form(domain, heading, text)
@@ -70,18 +70,18 @@ fn first_said(
 
 /// The same for a line of any form. It stays out of the loop of the lines of the usual form for the same reason.
 #[inline(never)]
-fn first_of_any_form(
+fn first_of_any_form<'a>(
     domain: Domain,
-    heading: Heading,
-    text: &[u8],
-) -> Option<(Result<Entry, MmFault>, &[u8])>
+    heading: &Heading,
+    text: &'a [u8],
+) -> Option<(Result<Entry, MmFault>, &'a [u8])>
     ensures lines { MatchOption result
         (told_in text.now ≡ [])
-        (λ found. SaysFirst domain heading text.now found.0 found.1.now) }
+        (λ found. SaysFirst domain heading.now text.now found.0 found.1.now) }
     ensures shorter { IfSome result (λ found. length found.1.now < length text.now) }
 {
     let (line, behind) = first_told(text)?;
-    Some((entry(domain, heading, line), behind))
+    Some((entry(domain, *heading, line), behind))
 }
 
 /// Adds an entry, and behind it the one that the file leaves out.
