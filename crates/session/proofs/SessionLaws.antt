@@ -8,6 +8,7 @@ use Rattle.algebra.specs.declared.operator_names.MonoidName.{MonoidName}
 use Rattle.algebra.specs.declared.operator_names.OpName.{OpName}
 use Rattle.algebra.specs.Operators.{answer_domain, combines_by, offers}
 use Rattle.algebra.specs.Value.{are_compatible, is_value_of, same_domain}
+use Rattle.calls.specs.Checks.{Decides}
 use Rattle.calls.specs.declared.obj.Obj.{Obj}
 use Rattle.model.specs.declared.call.Call.TheVariants.{Create, Dup, Free, Clear, Resize, Build, Set, Remove, Get, Nvals, Print, Reduce}
 use Rattle.model.specs.declared.limits.TheConstants.{MOST_OBJECTS}
@@ -27,6 +28,10 @@ use Rattle.session.specs.Tables.{same_object}
 pub no_late : {X : Type 0} (fault : Option X) → fault ≡ None → option_map_or Some fault None ≡ None
 no_late None h = refl
 no_late (Some x) h = absurd (cc)
+
+-- where no fault depends on a value, a check that refuses the call decides it
+pub decides_by : {T : Type 0} (fault : Option Status) (r : Result T Status) (s : Status) → r ≡ Err s → fault ≡ Some s → Decides (option_map_or Some fault None) r
+decides_by fault r s is why = rw is (ap (λ f. option_map_or Some f None) why)
 
 three : (a b c : Bool) → cond (not a) (Some status.WrongKind) (cond (not b) (Some status.InvalidIndex) (cond (not c) (Some status.InvalidValue) None)) ≡ None → (b ≡ true) × (c ≡ true)
 three true true true h = (refl, refl)

@@ -125,7 +125,8 @@ impl Session {
             ((environment_of self.old).count + 1)) }
         ensures kept { OnErr result (environment_of self.new ≡ environment_of self.old) }
         ensures object { IfOk result (λ object. object ≡ next_object self.old) }
-        ensures made { made_in self.new ≤ made_in self.old + 1 }
+        ensures made { OnOk result (made_in self.new ≡ made_in self.old + 1) }
+        ensures unmade { OnErr result (made_in self.new ≡ made_in self.old) }
         ensures unused { (environment_of self.old).find_object (next_object self.old) ≡ None }
     {
         let shape = Shape::Two(rows, cols);
@@ -202,7 +203,8 @@ impl Session {
 
     /// Removes all entries of an object (`GrB_Matrix_clear`, `GrB_Vector_clear`). It takes no memory.
     pub fn clear(&mut self, object: Obj) -> Result<(), Status>
-        ensures { IsPerformed self.old self.new (Call.Clear object) result }
+        ensures performed { IsPerformed self.old self.new (Call.Clear object) result }
+        ensures decided { Decides (fault_in self.old (Call.Clear object)) result }
     {
         check_there(self, object)?;
         let Some(held) = self.table.find(object) else {
@@ -259,9 +261,11 @@ impl Session {
         Ok(held.store.nvals())
     }
 
-    /// Whether there is an object whose text can be asked for; its domain, shape and store are `held`'s.
+    /// Whether there is an object whose text can be asked for; its domain, shape and store are `held`'s. It takes no
+    /// memory.
     pub fn print(&self, object: Obj) -> Result<(), Status>
         ensures performed { IsPerformed self.now self.now (Call.Print object) result }
+        ensures decided { Decides (fault_in self.now (Call.Print object)) result }
         ensures there { OnOk result (is_some ((environment_of self.now).find_object object) ≡ true) }
     {
         check_there(self, object)?;

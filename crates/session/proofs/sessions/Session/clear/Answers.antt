@@ -2,7 +2,7 @@
 use Rattle.std.proofs.Common.{◌≡◌, ◌<◌, None, arith, refl, rules}
 use Rattle.session.specs.Performed.{count_in, environment_of}
 use Rattle.session.proofs.PerformedLaws.{performed-clear}
-use Rattle.session.proofs.SessionLaws.{below-put, clear-accepted}
+use Rattle.session.proofs.SessionLaws.{below-put, clear-accepted, decides_by, no_late}
 use Rattle.session.proofs.sessions.Session.clear.Goals as goal
 
 pub unreachable-requires : goal.unreachable-requires
@@ -18,5 +18,11 @@ invariant_of-self c =
     let low : c.args.object.0 < session.next = session.fresh c.args.object there in
     record { fresh = below-put (environment_of session) _ c.args.object _ _ session.next session.next session.fresh low (omega arith) c.replace.ensures }
 
-pub returns : goal.returns
-returns c = performed-clear c.args.self.now _ c.args.object _ _ c.in_ok-check_there.ensures.clear c.replace.ensures c.new-store.ensures.content refl
+pub returns-clause-performed : goal.returns-clause-performed
+returns-clause-performed c = performed-clear c.args.self.now _ c.args.object _ _ c.in_ok-check_there.ensures.clear c.replace.ensures c.new-store.ensures.content refl
+
+pub returns-clause-decided : goal.returns-clause-decided
+returns-clause-decided c = no_late _ c.in_ok-check_there.ensures.clear
+
+pub returns-in_err-check_there-clause-decided : goal.returns-in_err-check_there-clause-decided
+returns-in_err-check_there-clause-decided c = decides_by _ c.from_residual.result c.in_err-check_there.field-0.0 (search rules) c.in_err-check_there.ensures.clear
