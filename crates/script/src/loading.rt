@@ -19,7 +19,8 @@ use store::Tuples;
 impl Names {
     ghost use Rattle.script.specs.Named.{environment_in};
 
-    /// Makes a matrix of what a file holds, under a new name. An error leaves the objects as they were.
+    /// Makes a matrix of what a file holds, under a new name. An error leaves the objects as they were; where there was
+    /// no memory for the name alone, the matrix' number is used up.
     pub fn load<S: Sources>(&mut self, sources: &S, load: Load<'_>) -> Result<(), Status>
         requires made { made_in self.old.session < 2 ^ 64 - 1 }
         ensures status { Ends (load_fault (environment_in self.old).count
@@ -29,7 +30,9 @@ impl Names {
             load.entry.name.now load.entry.domain
             (file_in (S.held sources.now) load.entry.domain load.entry.file.now)) }
         ensures kept { OnErr result (environment_in self.new ≡ environment_in self.old) }
-        ensures made { made_in self.new.session ≤ made_in self.old.session + 1 }
+        ensures made { OnOk result (made_in self.new.session ≡ made_in self.old.session + 1) }
+        ensures least { made_in self.old.session ≤ made_in self.new.session }
+        ensures most { made_in self.new.session ≤ made_in self.old.session + 1 }
     {
         if self.numbers.contains_key(load.name) {
             return Err(Status::NameTaken);
