@@ -4,4 +4,5 @@ pub mod Known
 pub mod Loaded
 pub mod Orders
 pub mod Outcomes
+pub mod Runs
 pub mod Writing

@@ -1,15 +1,15 @@
 -- How the program ends: on which words, and what output and standard error then hold.
-use Rattle.std.specs.Prelude.{ℕ, ◌≡◌, ◌⊎◌, [], codes, List, take, Option, None, is_some, true, All, Any, IsUtf8}
+use Rattle.std.specs.Prelude.{ℕ, ◌≡◌, ◌⊎◌, [], codes, List, Option, None, Some, is_some, true, All, Any, IsUtf8}
 use Rattle.std.specs.Prelude.{Result, Ok, Err}
 use Rattle.std.specs.Option.{option_map_or}
 use Rattle.std.specs.Io.KnownBytes.{Appends, Keeps}
 use Rattle.clap.specs.Words.{Text, fault_of}
-use Rattle.model.specs.Loads.{Sources, readings_in}
-use Rattle.model.specs.Runs.{Ran}
+use Rattle.model.specs.Loads.{Sources}
 use Rattle.model.specs.declared.memory.NoMemory.{NoMemory}
 use Rattle.gbrun.specs.CommandLine.{IsMistake, IsRequest, command_line, order_in, text_of}
 use Rattle.gbrun.specs.Faults.{line_of, status_of}
 use Rattle.gbrun.specs.Known.{AreFiles, IsKnown}
+use Rattle.gbrun.specs.Runs.{Made}
 use Rattle.gbrun.specs.Writing.{Begins, Grows}
 use Rattle.gbrun.specs.declared.fault.Fault.{Fault}
 use Rattle.gbrun.specs.declared.fault.Fault.TheVariants.{CommandLine, BadOrder, UnreadableScript, OutOfMemory}
@@ -48,21 +48,13 @@ pub record Given : Type 0 where
 abbrev pub given_in : (List ℕ → Option (List ℕ)) → Option (List ℕ) → List Text → Given
 given_in content input words = record { content = content; script = script_in content input words }
 
--- a run of the script with these files writes this
-pub record Runs (given : Given) (written : List ℕ) : Type 0 where
+-- Runs of the script with the files, as far as those are known: of which one may be the run that was made.
+pub record IsRun (admits : Sources → List ℕ → Made → Type 0) (given : Given) (run : Made) : Type 0 where
   pub script : List ℕ
   pub sources : Sources
   pub is_script : IsKnown given.script script
   pub are_files : AreFiles given.content sources
-  pub ran : Ran (readings_in sources script) [] written
-
--- a run of its first n lines does, for some n
-pub record RunsFirst (given : Given) (written : List ℕ) : Type 0 where
-  pub script : List ℕ
-  pub sources : Sources
-  pub is_script : IsKnown given.script script
-  pub are_files : AreFiles given.content sources
-  pub ran : (n : ℕ) × Ran (take n (readings_in sources script)) [] written
+  pub is_run : admits sources script run
 
 -- ---- how the program ends
 
@@ -76,15 +68,14 @@ Finishes (Err _) answers old new (Err OutOfMemory) = Appends old new answers
 Finishes (Err _) answers old new (Err OutOfMemoryUndelivered) = Begins answers old new
 Finishes _ _ _ _ _ = ⊥
 
--- how a run of a script ends, and what output then holds
-abbrev pub RunEnds : Given → Option (List ℕ) → Option (List ℕ) → Result (Unit {0}) Fault → Type 0
-RunEnds given old new (Ok _) = (written : List ℕ) × Runs given written × Appends old new written
-RunEnds given old new (Err UnreadableScript) = Keeps old new
-RunEnds given old new (Err OutOfMemory) = (written : List ℕ) × RunsFirst given written × Appends old new written
-RunEnds given old new (Err OutOfMemoryUndelivered) =
-    (written : List ℕ) × RunsFirst given written × Begins written old new
-RunEnds given old new (Err UnwritableOutput) = (written : List ℕ) × Runs given written × Begins written old new
-RunEnds given old new (Err _) = ⊥
+-- How the program ends that is to run a script, and what output then holds: by the run that was made, or before one
+-- was.
+abbrev pub RunEnds : (Sources → List ℕ → Made → Type 0) → Given → Option Made → Option (List ℕ) → Option (List ℕ)
+    → Result (Unit {0}) Fault → Type 0
+RunEnds admits given (Some run) old new end = IsRun admits given run × Finishes run.ended run.appended old new end
+RunEnds admits given None old new (Err UnreadableScript) = Keeps old new
+RunEnds admits given None old new (Err OutOfMemory) = Keeps old new
+RunEnds admits given None old new _ = ⊥
 
 -- how a text to print ends
 abbrev pub TextEnds : Option (List ℕ) → Option (List ℕ) → Result (Unit {0}) Fault → Type 0
@@ -92,13 +83,20 @@ TextEnds old new (Ok _) = Grows old new
 TextEnds old new (Err UnwritableOutput) = Grows old new
 TextEnds old new (Err _) = ⊥
 
--- How the program ends on words, where this is known of files and of the script. Words that are wrong, or memory that
--- runs out before the run, leave output as it was.
-abbrev pub Ends : List Text → Given → Option (List ℕ) → Option (List ℕ) → Result (Unit {0}) Fault → Type 0
-Ends words given old new (Err (CommandLine _)) = AsksNothing words × Keeps old new
-Ends words given old new (Err BadOrder) = AsksBadOrder words × Keeps old new
-Ends words given old new (Err OutOfMemory) = Keeps old new ⊎ (AsksRun words × RunEnds given old new (Err OutOfMemory))
-Ends words given old new end = (AsksText words × TextEnds old new end) ⊎ (AsksRun words × RunEnds given old new end)
+-- no run was made, and output is as it was
+abbrev pub MakesNone : Option Made → Option (List ℕ) → Option (List ℕ) → Type 0
+MakesNone made old new = (made ≡ None) × Keeps old new
+
+-- How the program ends on words, where this is known of files and of the script, and this run was made, if one was.
+-- Words that are wrong, or memory that runs out before the run, leave output as it was.
+abbrev pub Ends : (Sources → List ℕ → Made → Type 0) → List Text → Given → Option Made → Option (List ℕ)
+    → Option (List ℕ) → Result (Unit {0}) Fault → Type 0
+Ends admits words given made old new (Err (CommandLine _)) = AsksNothing words × MakesNone made old new
+Ends admits words given made old new (Err BadOrder) = AsksBadOrder words × MakesNone made old new
+Ends admits words given made old new (Err OutOfMemory) =
+    MakesNone made old new ⊎ (AsksRun words × RunEnds admits given made old new (Err OutOfMemory))
+Ends admits words given made old new end =
+    (AsksText words × (made ≡ None) × TextEnds old new end) ⊎ (AsksRun words × RunEnds admits given made old new end)
 
 abbrev pub status_after : Result (Unit {0}) Fault → ℕ
 status_after (Ok _) = 0

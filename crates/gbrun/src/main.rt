@@ -3,6 +3,7 @@
 #![tactic(auto)]
 
 mod delivery;
+mod evaluation;
 mod fault;
 mod files;
 mod loaded;

@@ -1,12 +1,14 @@
 //! The program, over any input, files and output.
-ghost use Rattle.std.specs.Prelude.{◌≡◌, IfErr, IfOk, OnOk, Result, map};
+ghost use Rattle.std.specs.Prelude.{◌≡◌, IfErr, IfOk, None, OnOk, Option, Result, map};
 ghost use Rattle.std.specs.Option.{option_map_or};
 ghost use Rattle.std.specs.Io.KnownBytes.{Appends};
 ghost use Rattle.gbrun.specs.Known.{IsKnown};
 ghost use Rattle.gbrun.specs.Outcomes.{Ends, Finishes, RunEnds, Tells, TextEnds, given_in, status_after};
+ghost use Rattle.gbrun.specs.Runs.{AnswersRun, Made};
 ghost use Rattle.gbrun.specs.declared.fault.Fault.{Fault};
 
 use crate::delivery::deliver;
+use crate::evaluation::{Answers, Evaluation};
 use crate::fault::Fault;
 use crate::files::FileSource;
 use crate::loaded::Loaded;
@@ -19,8 +21,8 @@ use std::io::{Read, Write};
 /// Runs the program on the words after its name, and gives its exit status. What stops it is told
 /// in a line on `err`.
 ///
-/// The contract: there is an end, Ok or a fault, that these words, this script and what `out` holds
-/// admit (`Ends`); the status is that end's, and `err` gets its line, or a beginning of it, and
+/// The contract: there is an end, Ok or a fault, that these words, this script, a run of it and what `out`
+/// holds admit (`Ends`); the status is that end's, and `err` gets its line, or a beginning of it, and
 /// nothing else.
 pub fn execute<R: Read, F: FileSource, W: Write, E: Write>(
     alloc: Global,
@@ -30,34 +32,58 @@ pub fn execute<R: Read, F: FileSource, W: Write, E: Write>(
     out: &mut W,
     err: &mut E,
 ) -> u8
-    ensures { (end : Result (Unit {0}) Fault) × (result ≡ status_after end)
-        × Ends (map (λ word. word.items) words.now)
+    ensures { (made : Option Made) × (end : Result (Unit {0}) Fault) × (result ≡ status_after end)
+        × Ends AnswersRun (map (λ word. word.items) words.now)
         (given_in (F.content files.now) (R.remaining input.old) (map (λ word. word.items) words.now))
-        (W.contents out.old) (W.contents out.new) end
+        made (W.contents out.old) (W.contents out.new) end
         × Tells end (E.contents err.old) (E.contents err.new) }
 {
-    match serve(alloc, words, input, files, out) {
+    let mut run = Answers::new(alloc);
+    execute_by(alloc, words, input, files, &mut run, out, err)
+}
+
+/// The same by a run of any kind. What output gains is what the run appended that was made, and nothing where none
+/// was.
+pub fn execute_by<R: Read, F: FileSource, X: Evaluation, W: Write, E: Write>(
+    alloc: Global,
+    words: &[Vec<u8>],
+    input: &mut R,
+    files: &F,
+    run: &mut X,
+    out: &mut W,
+    err: &mut E,
+) -> u8
+    requires { X.made run.old ≡ None }
+    ensures { (end : Result (Unit {0}) Fault) × (result ≡ status_after end)
+        × Ends X.admits (map (λ word. word.items) words.now)
+        (given_in (F.content files.now) (R.remaining input.old) (map (λ word. word.items) words.now))
+        (X.made run.new) (W.contents out.old) (W.contents out.new) end
+        × Tells end (E.contents err.old) (E.contents err.new) }
+{
+    match serve(alloc, words, input, files, run, out) {
         Ok(()) => 0,
         Err(fault) => fault.report(err),
     }
 }
 
 /// Does what the words after the program's name ask for.
-pub fn serve<R: Read, F: FileSource, W: Write>(
+pub fn serve<R: Read, F: FileSource, X: Evaluation, W: Write>(
     alloc: Global,
     words: &[Vec<u8>],
     input: &mut R,
     files: &F,
+    run: &mut X,
     out: &mut W,
 ) -> Result<(), Fault>
-    ensures { Ends (map (λ word. word.items) words.now)
+    requires { X.made run.old ≡ None }
+    ensures { Ends X.admits (map (λ word. word.items) words.now)
         (given_in (F.content files.now) (R.remaining input.old) (map (λ word. word.items) words.now))
-        (W.contents out.old) (W.contents out.new) result }
+        (X.made run.new) (W.contents out.old) (W.contents out.new) result }
 {
     let texts = options::texts(alloc, words)?;
     match options::parse(alloc, texts.as_slice())? {
         Request::Print(text) => print(out, text.as_bytes()),
-        Request::Run(options) => run(alloc, options.script, input, files, out),
+        Request::Run(options) => run_script(alloc, options.script, input, files, run, out),
     }
 }
 
@@ -68,33 +94,30 @@ fn print<W: Write>(out: &mut W, text: &[u8]) -> Result<(), Fault>
     deliver(out, text).map_err(|_| Fault::UnwritableOutput)
 }
 
-fn run<R: Read, F: FileSource, W: Write>(
+fn run_script<R: Read, F: FileSource, X: Evaluation, W: Write>(
     alloc: Global,
     name: Option<&str>,
     input: &mut R,
     files: &F,
+    run: &mut X,
     out: &mut W,
 ) -> Result<(), Fault>
-    ensures { RunEnds (record {
+    requires { X.made run.old ≡ None }
+    ensures { RunEnds X.admits (record {
       content = F.content files.now;
       script =
           option_map_or (λ name. F.content files.now name.now) name.entry (R.remaining input.old);
     })
-        (W.contents out.old) (W.contents out.new) result }
+        (X.made run.new) (W.contents out.old) (W.contents out.new) result }
 {
     let script = read_script(alloc, name, input, files)?;
     let loaded = Loaded::read(alloc, script.as_slice(), files)?;
-    let mut answers = Vec::new(alloc);
-    let ended = script::run(alloc, script.as_slice(), &loaded, &mut answers);
-    finish(out, answers.as_slice(), ended)
+    let ended = run.run(alloc, script.as_slice(), &loaded);
+    finish(out, run.answers(), ended)
 }
 
 // Delivers the answers that a run made. Where memory ran out they are those that were whole.
-pub(crate) fn finish<W: Write>(
-    out: &mut W,
-    answers: &[u8],
-    ended: Result<(), NoMemory>,
-) -> Result<(), Fault>
+fn finish<W: Write>(out: &mut W, answers: &[u8], ended: Result<(), NoMemory>) -> Result<(), Fault>
     ensures { Finishes ended answers.now (W.contents out.old) (W.contents out.new) result }
 {
     match (ended, deliver(out, answers)) {

@@ -1,7 +1,7 @@
 //! The program over readers, writers and files in memory.
-use crate::fault::Fault;
+use crate::evaluation::Evaluation;
 use crate::files::FileSource;
-use crate::program::{execute, finish};
+use crate::program::{execute, execute_by};
 use crate::words::of_process;
 use model::NoMemory;
 use script::Sources;
@@ -356,19 +356,63 @@ fn prints_the_version(rt: HostRuntime) -> Result<(), AllocError> {
     Ok(())
 }
 
+// A run that finds no memory behind some answers.
+#[derive(Drop)]
+struct CutOff<'a> {
+    answers: &'a [u8],
+    ended: Option<Result<(), NoMemory>>,
+}
+
+impl Evaluation for CutOff<'_> {
+    ghost use Rattle.std.specs.Option.{option_map};
+
+    ghost made = { λ run. option_map (λ ended. record { appended = run.answers.now; ended = ended }) run.ended };
+
+    ghost admits = { λ _ _ _. Unit {0} };
+
+    fn run<S: Sources>(
+        &mut self,
+        _alloc: Global,
+        _script: &[u8],
+        _sources: &S,
+    ) -> Result<(), NoMemory> {
+        let ended = Err(NoMemory);
+        self.ended = Some(ended);
+        ended
+    }
+
+    fn answers(&self) -> &[u8] {
+        self.answers
+    }
+}
+
+fn run_cut_off(alloc: Global, mut out: Output) -> Outcome {
+    let mut err = Output::new(alloc);
+    let mut run = CutOff {
+        answers: b"1 OK\n",
+        ended: None,
+    };
+    let input = &mut Input::new(STORED);
+    let status = execute_by(
+        alloc,
+        &[],
+        input,
+        &Shelf { alloc },
+        &mut run,
+        &mut out,
+        &mut err,
+    );
+    Outcome { status, out, err }
+}
+
 #[test]
 fn delivers_the_answers_that_were_whole_when_memory_ran_out(rt: HostRuntime) {
     let alloc = rt.alloc();
-    let mut out = Output::new(alloc);
-    let told = finish(&mut out, b"1 OK\n", Err(NoMemory));
-    assert!(rt; matches!(told, Err(Fault::OutOfMemory)));
-    assert!(rt; out.bytes.as_slice() == b"1 OK\n".as_slice() && out.is_flushed);
-    let (mut closed, mut err) = (Output::new(alloc), Output::new(alloc));
+    let outcome = run_cut_off(alloc, Output::new(alloc));
+    assert!(rt; outcome.is(1, b"1 OK\n", NO_MEMORY) && outcome.out.is_flushed);
+    let mut closed = Output::new(alloc);
     closed.fails_at = Some(0);
-    let told = finish(&mut closed, b"1 OK\n", Err(NoMemory));
-    assert!(rt; matches!(&told, Err(Fault::OutOfMemoryUndelivered)));
-    let status = told.map_or_else(|fault| fault.report(&mut err), |_| 0);
-    assert!(rt; status == 1 && err.bytes.as_slice() == NO_MEMORY.as_bytes());
+    assert!(rt; run_cut_off(alloc, closed).is(1, b"", NO_MEMORY));
 }
 
 #[test]

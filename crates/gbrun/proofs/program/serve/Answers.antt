@@ -11,8 +11,8 @@ use Rattle.gbrun.proofs.program.serve.Goals as goal
 
 pub returns-in_err-texts : goal.returns-in_err-texts
 returns-in_err-texts g c =
-    passed_on c.from_residual.result c.in_err-texts.field-0.0 (Ends _ _ _ _) c.from_residual.ensures.1
-    (no_text_ends _ _ _ c.in_err-texts.field-0.0 (elim c.in_err-texts.ensures.err [
+    passed_on c.from_residual.result c.in_err-texts.field-0.0 (Ends _ _ _ _ _ _) c.from_residual.ensures.1
+    (no_text_ends _ _ _ _ _ c.in_err-texts.field-0.0 c.requires (elim c.in_err-texts.ensures.err [
       | inl gone ↦ inl gone
       | inr wrong ↦ inr (wrong.0, Any-map (λ word. ¬ (IsUtf8 word)) _ _ wrong.1)
     ]))
@@ -25,8 +25,8 @@ returns-in_err-text g c =
     let same : read ≡ words = search rules in
     let comes : ComesOf read (Err fault) = c.in_err-text.ensures in
     let utf8 : All IsUtf8 words = All-map IsUtf8 _ _ c.in_ok-texts.ensures.utf8 in
-    passed_on c.from_residual-in_err-text.result fault (Ends _ _ _ _) c.from_residual-in_err-text.ensures.1
-    (refused_ends words _ _ fault utf8 (subst (λ ws. ComesOf ws (Err fault)) same comes))
+    passed_on c.from_residual-in_err-text.result fault (Ends _ _ _ _ _ _) c.from_residual-in_err-text.ensures.1
+    (refused_ends _ words _ _ _ fault c.requires utf8 (subst (λ ws. ComesOf ws (Err fault)) same comes))
 
 pub returns-in-Print : goal.returns-in-Print
 returns-in-Print g c =
@@ -34,7 +34,7 @@ returns-in-Print g c =
     let words = map (λ word. word.items) c.args.words.now in
     let same : read ≡ words = search rules in
     let comes : ComesOf read (Ok (Print c.in-Print.text)) = rw c.in-Print.is at c.in_ok-text.ensures in
-    text_ends words _ _ _ c.print.result (All-map IsUtf8 _ _ c.in_ok-texts.ensures.utf8, subst (λ ws. IsRequest (fault_of command_line ws)) same comes) c.print.ensures.ends
+    text_ends _ words _ _ _ _ c.print.result c.requires (All-map IsUtf8 _ _ c.in_ok-texts.ensures.utf8, subst (λ ws. IsRequest (fault_of command_line ws)) same comes) c.print.ensures.ends
 
 pub returns : goal.returns
 returns g c =
@@ -42,5 +42,5 @@ returns g c =
     let words = map (λ word. word.items) c.args.words.now in
     let same : read ≡ words = search rules in
     let comes : ComesOf read (Ok (Run c.in-Run.options)) = rw c.in-Run.is at c.in_ok-text.ensures in
-    run_ends words c.in-Run.options (g.F.FileSource.content c.args.files.now) (g.R.Read.remaining c.args.input.now) _ _ c.run.result
-    (All-map IsUtf8 _ _ c.in_ok-texts.ensures.utf8) (subst (λ ws. ComesOf ws (Ok (Run c.in-Run.options))) same comes) c.run.ensures
+    run_ends _ words c.in-Run.options (g.F.FileSource.content c.args.files.now) (g.R.Read.remaining c.args.input.now) _ _ _ c.run_script.result
+    (All-map IsUtf8 _ _ c.in_ok-texts.ensures.utf8) (subst (λ ws. ComesOf ws (Ok (Run c.in-Run.options))) same comes) c.run_script.ensures

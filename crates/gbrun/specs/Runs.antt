@@ -1,0 +1,24 @@
+-- Runs of scripts, and what they may append.
+use Rattle.std.specs.Prelude.{ℕ, ◌≡◌, [], List, take, Option, None, Some, Result, Ok, Err}
+use Rattle.model.specs.Loads.{Sources, readings_in}
+use Rattle.model.specs.Runs.{Ran}
+use Rattle.model.specs.declared.memory.NoMemory.{NoMemory}
+
+-- a run that was made: what it appended, and how it ended
+pub record Made : Type 0 where
+  pub appended : List ℕ
+  pub ended : Result (Unit {0}) NoMemory
+
+-- a run was made, that ended so, and may be one of these
+abbrev pub IsMade : (Made → Type 0) → Result (Unit {0}) NoMemory → Option Made → Type 0
+IsMade may_be result (Some run) = (run.ended ≡ result) × may_be run
+IsMade may_be result None = ⊥
+
+-- what a run appends that ends so: the text of the script's answers, or of those to its first n lines, for some n
+abbrev pub AreAnswers : Sources → List ℕ → List ℕ → Result (Unit {0}) NoMemory → Type 0
+AreAnswers sources script text (Ok _) = Ran (readings_in sources script) [] text
+AreAnswers sources script text (Err _) = (n : ℕ) × Ran (take n (readings_in sources script)) [] text
+
+-- a run by `script::run`
+abbrev pub AnswersRun : Sources → List ℕ → Made → Type 0
+AnswersRun sources script run = AreAnswers sources script run.appended run.ended
