@@ -39,6 +39,10 @@ AsksNothing words = Any (λ word. ¬ (IsUtf8 word)) words ⊎ (All IsUtf8 words 
 abbrev pub script_in : (List ℕ → Option (List ℕ)) → Option (List ℕ) → List Text → Option (List ℕ)
 script_in content input words = option_map_or content (text_of (codes "script") words) input
 
+-- the words name the script, and don't leave it to the input
+abbrev pub NamesScript : List Text → Type 0
+NamesScript words = is_some (text_of (codes "script") words) ≡ true
+
 -- what is known of files, by their names, and of the script
 pub record Given : Type 0 where
   pub content : List ℕ → Option (List ℕ)

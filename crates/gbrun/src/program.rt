@@ -1,9 +1,10 @@
 //! The program, over any input, files and output.
-ghost use Rattle.std.specs.Prelude.{◌≡◌, IfErr, IfOk, None, OnOk, Option, Result, map};
+ghost use Rattle.std.specs.Prelude.{◌≡◌, IfErr, IfOk, None, OnOk, Option, Result, is_some, map, true};
 ghost use Rattle.std.specs.Option.{option_map_or};
 ghost use Rattle.std.specs.Io.KnownBytes.{Appends};
 ghost use Rattle.gbrun.specs.Known.{IsKnown};
-ghost use Rattle.gbrun.specs.Outcomes.{Ends, Finishes, RunEnds, Tells, TextEnds, given_in, status_after};
+ghost use Rattle.gbrun.specs.Outcomes.{Ends, Finishes, NamesScript, RunEnds, Tells, TextEnds, given_in};
+ghost use Rattle.gbrun.specs.Outcomes.{status_after};
 ghost use Rattle.gbrun.specs.Runs.{AnswersRun, Made};
 ghost use Rattle.gbrun.specs.declared.fault.Fault.{Fault};
 
@@ -23,7 +24,7 @@ use std::io::{Read, Write};
 ///
 /// The contract: there is an end, Ok or a fault, that these words, this script, a run of it and what `out`
 /// holds admit (`Ends`); the status is that end's, and `err` gets its line, or a beginning of it, and
-/// nothing else.
+/// nothing else. Where the words name a script, `input` isn't read.
 pub fn execute<R: Read, F: FileSource, W: Write, E: Write>(
     alloc: Global,
     words: &[Vec<u8>],
@@ -32,11 +33,12 @@ pub fn execute<R: Read, F: FileSource, W: Write, E: Write>(
     out: &mut W,
     err: &mut E,
 ) -> u8
-    ensures { (made : Option Made) × (end : Result (Unit {0}) Fault) × (result ≡ status_after end)
+    ensures ends { (made : Option Made) × (end : Result (Unit {0}) Fault) × (result ≡ status_after end)
         × Ends AnswersRun (map (λ word. word.items) words.now)
         (given_in (F.content files.now) (R.remaining input.old) (map (λ word. word.items) words.now))
         made (W.contents out.old) (W.contents out.new) end
         × Tells end (E.contents err.old) (E.contents err.new) }
+    ensures unread { NamesScript (map (λ word. word.items) words.now) → input.new ≡ input.old }
 {
     let mut run = Answers::new(alloc);
     execute_by(alloc, words, input, files, &mut run, out, err)
@@ -54,11 +56,12 @@ pub fn execute_by<R: Read, F: FileSource, X: Evaluation, W: Write, E: Write>(
     err: &mut E,
 ) -> u8
     requires { X.made run.old ≡ None }
-    ensures { (end : Result (Unit {0}) Fault) × (result ≡ status_after end)
+    ensures ends { (end : Result (Unit {0}) Fault) × (result ≡ status_after end)
         × Ends X.admits (map (λ word. word.items) words.now)
         (given_in (F.content files.now) (R.remaining input.old) (map (λ word. word.items) words.now))
         (X.made run.new) (W.contents out.old) (W.contents out.new) end
         × Tells end (E.contents err.old) (E.contents err.new) }
+    ensures unread { NamesScript (map (λ word. word.items) words.now) → input.new ≡ input.old }
 {
     match serve(alloc, words, input, files, run, out) {
         Ok(()) => 0,
@@ -76,9 +79,10 @@ pub fn serve<R: Read, F: FileSource, X: Evaluation, W: Write>(
     out: &mut W,
 ) -> Result<(), Fault>
     requires { X.made run.old ≡ None }
-    ensures { Ends X.admits (map (λ word. word.items) words.now)
+    ensures ends { Ends X.admits (map (λ word. word.items) words.now)
         (given_in (F.content files.now) (R.remaining input.old) (map (λ word. word.items) words.now))
         (X.made run.new) (W.contents out.old) (W.contents out.new) result }
+    ensures unread { NamesScript (map (λ word. word.items) words.now) → input.new ≡ input.old }
 {
     let texts = options::texts(alloc, words)?;
     match options::parse(alloc, texts.as_slice())? {
@@ -103,12 +107,13 @@ fn run_script<R: Read, F: FileSource, X: Evaluation, W: Write>(
     out: &mut W,
 ) -> Result<(), Fault>
     requires { X.made run.old ≡ None }
-    ensures { RunEnds X.admits (record {
+    ensures ends { RunEnds X.admits (record {
       content = F.content files.now;
       script =
           option_map_or (λ name. F.content files.now name.now) name.entry (R.remaining input.old);
     })
         (X.made run.new) (W.contents out.old) (W.contents out.new) result }
+    ensures unread { is_some name.entry ≡ true → input.new ≡ input.old }
 {
     let script = read_script(alloc, name, input, files)?;
     let loaded = Loaded::read(alloc, script.as_slice(), files)?;
@@ -136,6 +141,7 @@ fn read_script<R: Read, F: FileSource>(
 ) -> Result<Vec<u8>, Fault>
     ensures known { IfOk result (λ script. IsKnown
         (option_map_or (λ name. F.content files.now name.now) name.entry (R.remaining input.old)) script.items) }
+    ensures unread { is_some name.entry ≡ true → input.new ≡ input.old }
     ensures err { IfErr result (λ fault. fault ≡ Fault.UnreadableScript) }
 {
     let read = match name {

@@ -3,11 +3,11 @@ use Rattle.std.proofs.Common.{rules}
 use Rattle.gbrun.proofs.Endings.{finished_ends, unread_files_end}
 use Rattle.gbrun.proofs.program.run_script.Goals as goal
 
-pub returns-in_err-loaded : goal.returns-in_err-loaded
-returns-in_err-loaded g c = unread_files_end _ _ _ _ c.from_residual-in_err-loaded.result c.requires (search rules)
+pub returns-in_err-loaded-clause-ends : goal.returns-in_err-loaded-clause-ends
+returns-in_err-loaded-clause-ends g c = unread_files_end _ _ _ _ c.from_residual-in_err-loaded.result c.requires (search rules)
 
-pub returns : goal.returns
-returns g c =
+pub returns-clause-ends : goal.returns-clause-ends
+returns-clause-ends g c =
     let run = rw c.as_slice-2.ensures.value at c.run-ended.ensures in
     finished_ends _ _ c.in_ok-script.script.items c.answers.result.now _ c.run-ended.result _ _ _ c.finish.result
     c.in_ok-script.ensures.known c.in_ok-loaded.ensures run c.answers.ensures c.finish.ensures
