@@ -74,6 +74,11 @@ pub record Chooses (workers_text rows_text order_text script_text : Option Text)
   pub order : Some options.order ≡ option_and_then order_of order_text
   pub script : option_map (λ name. name.now) options.script ≡ script_text
 
+-- these are the options that the words choose
+abbrev pub ChoosesOf : List Text → Options → Type 0
+ChoosesOf words = Chooses (number_text_of (codes "workers") words) (number_text_of (codes "rows") words)
+    (text_of (codes "order") words) (text_of (codes "script") words)
+
 -- the wish for the help or the version
 abbrev pub IsWish : ErrorKind → Type 0
 IsWish kind = (kind ≡ DisplayHelp) ⊎ (kind ≡ DisplayVersion)
@@ -97,9 +102,7 @@ LeadsTo kind (Err _) = ⊥
 -- what may come of the words; memory may run out at any
 abbrev pub ComesOf : List Text → Result Request Fault → Type 0
 ComesOf words (Ok (Print text)) = IsRequest (fault_of command_line words)
-ComesOf words (Ok (Run options)) = (fault_of command_line words ≡ [])
-    × Chooses (number_text_of (codes "workers") words) (number_text_of (codes "rows") words)
-    (text_of (codes "order") words) (text_of (codes "script") words) options
+ComesOf words (Ok (Run options)) = (fault_of command_line words ≡ []) × ChoosesOf words options
 ComesOf words (Err (CommandLine text)) = IsMistake (fault_of command_line words)
 ComesOf words (Err BadOrder) = (fault_of command_line words ≡ []) × (order_in words ≡ None)
 ComesOf words (Err OutOfMemory) = ⊤

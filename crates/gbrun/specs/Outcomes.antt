@@ -6,12 +6,13 @@ use Rattle.std.specs.Io.KnownBytes.{Appends, Keeps}
 use Rattle.clap.specs.Words.{Text, fault_of}
 use Rattle.model.specs.Loads.{Sources}
 use Rattle.model.specs.declared.memory.NoMemory.{NoMemory}
-use Rattle.gbrun.specs.CommandLine.{IsMistake, IsRequest, command_line, order_in, text_of}
+use Rattle.gbrun.specs.CommandLine.{ChoosesOf, IsMistake, IsRequest, command_line, order_in, text_of}
 use Rattle.gbrun.specs.Faults.{line_of, status_of}
 use Rattle.gbrun.specs.Known.{AreFiles, IsKnown}
 use Rattle.gbrun.specs.Runs.{Made}
 use Rattle.gbrun.specs.Writing.{Begins, Grows}
 use Rattle.gbrun.specs.declared.fault.Fault.{Fault}
+use Rattle.gbrun.specs.declared.options.Options.{Options}
 use Rattle.gbrun.specs.declared.fault.Fault.TheVariants.{CommandLine, BadOrder, UnreadableScript, OutOfMemory}
 use Rattle.gbrun.specs.declared.fault.Fault.TheVariants.{OutOfMemoryUndelivered, UnwritableOutput}
 
@@ -52,13 +53,20 @@ pub record Given : Type 0 where
 abbrev pub given_in : (List ℕ → Option (List ℕ)) → Option (List ℕ) → List Text → Given
 given_in content input words = record { content = content; script = script_in content input words }
 
--- Runs of the script with the files, as far as those are known: of which one may be the run that was made.
-pub record IsRun (admits : Sources → List ℕ → Made → Type 0) (given : Given) (run : Made) : Type 0 where
+-- what a run may be, by files, script and options
+abbrev pub Admits : Type 1
+Admits = Sources → List ℕ → Options → Made → Type 0
+
+-- The run that was made may be one of the script with the files, as far as those are known, and with options that
+-- were chosen.
+pub record IsRun (admits : Admits) (chosen : Options → Type 0) (given : Given) (run : Made) : Type 0 where
   pub script : List ℕ
   pub sources : Sources
+  pub options : Options
   pub is_script : IsKnown given.script script
   pub are_files : AreFiles given.content sources
-  pub is_run : admits sources script run
+  pub are_options : chosen options
+  pub is_run : admits sources script options run
 
 -- ---- how the program ends
 
@@ -74,12 +82,13 @@ Finishes _ _ _ _ _ = ⊥
 
 -- How the program ends that is to run a script, and what output then holds: by the run that was made, or before one
 -- was.
-abbrev pub RunEnds : (Sources → List ℕ → Made → Type 0) → Given → Option Made → Option (List ℕ) → Option (List ℕ)
+abbrev pub RunEnds : Admits → (Options → Type 0) → Given → Option Made → Option (List ℕ) → Option (List ℕ)
     → Result (Unit {0}) Fault → Type 0
-RunEnds admits given (Some run) old new end = IsRun admits given run × Finishes run.ended run.appended old new end
-RunEnds admits given None old new (Err UnreadableScript) = Keeps old new
-RunEnds admits given None old new (Err OutOfMemory) = Keeps old new
-RunEnds admits given None old new _ = ⊥
+RunEnds admits chosen given (Some run) old new end =
+    IsRun admits chosen given run × Finishes run.ended run.appended old new end
+RunEnds admits chosen given None old new (Err UnreadableScript) = Keeps old new
+RunEnds admits chosen given None old new (Err OutOfMemory) = Keeps old new
+RunEnds admits chosen given None old new _ = ⊥
 
 -- how a text to print ends
 abbrev pub TextEnds : Option (List ℕ) → Option (List ℕ) → Result (Unit {0}) Fault → Type 0
@@ -93,14 +102,15 @@ MakesNone made old new = (made ≡ None) × Keeps old new
 
 -- How the program ends on words, where this is known of files and of the script, and this run was made, if one was.
 -- Words that are wrong, or memory that runs out before the run, leave output as it was.
-abbrev pub Ends : (Sources → List ℕ → Made → Type 0) → List Text → Given → Option Made → Option (List ℕ)
-    → Option (List ℕ) → Result (Unit {0}) Fault → Type 0
+abbrev pub Ends : Admits → List Text → Given → Option Made → Option (List ℕ) → Option (List ℕ)
+    → Result (Unit {0}) Fault → Type 0
 Ends admits words given made old new (Err (CommandLine _)) = AsksNothing words × MakesNone made old new
 Ends admits words given made old new (Err BadOrder) = AsksBadOrder words × MakesNone made old new
 Ends admits words given made old new (Err OutOfMemory) =
-    MakesNone made old new ⊎ (AsksRun words × RunEnds admits given made old new (Err OutOfMemory))
+    MakesNone made old new ⊎ (AsksRun words × RunEnds admits (ChoosesOf words) given made old new (Err OutOfMemory))
 Ends admits words given made old new end =
-    (AsksText words × (made ≡ None) × TextEnds old new end) ⊎ (AsksRun words × RunEnds admits given made old new end)
+    (AsksText words × (made ≡ None) × TextEnds old new end)
+    ⊎ (AsksRun words × RunEnds admits (ChoosesOf words) given made old new end)
 
 abbrev pub status_after : Result (Unit {0}) Fault → ℕ
 status_after (Ok _) = 0

@@ -3,6 +3,7 @@ use Rattle.std.specs.Prelude.{ℕ, ◌≡◌, [], List, take, Option, None, Some
 use Rattle.model.specs.Loads.{Sources, readings_in}
 use Rattle.model.specs.Runs.{Ran}
 use Rattle.model.specs.declared.memory.NoMemory.{NoMemory}
+use Rattle.gbrun.specs.declared.options.Options.{Options}
 
 -- a run that was made: what it appended, and how it ended
 pub record Made : Type 0 where
@@ -19,6 +20,6 @@ abbrev pub AreAnswers : Sources → List ℕ → List ℕ → Result (Unit {0}) 
 AreAnswers sources script text (Ok _) = Ran (readings_in sources script) [] text
 AreAnswers sources script text (Err _) = (n : ℕ) × Ran (take n (readings_in sources script)) [] text
 
--- a run by `script::run`
-abbrev pub AnswersRun : Sources → List ℕ → Made → Type 0
-AnswersRun sources script run = AreAnswers sources script run.appended run.ended
+-- a run by `script::run`, on which no option has an effect
+abbrev pub AnswersRun : Sources → List ℕ → Options → Made → Type 0
+AnswersRun sources script options run = AreAnswers sources script run.appended run.ended

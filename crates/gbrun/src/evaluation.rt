@@ -2,7 +2,9 @@
 ghost use Rattle.std.specs.Prelude.{◌≡◌, ℕ, [], List, None, Option, IfSome};
 ghost use Rattle.std.specs.Option.{option_map};
 ghost use Rattle.gbrun.specs.Runs.{AnswersRun, IsMade, Made};
+ghost use Rattle.gbrun.specs.declared.options.Options.{Options as Chosen};
 
+use crate::options::Options;
 use model::NoMemory;
 use script::Sources;
 use std::alloc::Global;
@@ -12,20 +14,21 @@ use std::alloc::Global;
 pub trait Evaluation {
     // The run that was made, if one was.
     ghost made: { Self → Option Made };
-    // Whether a run of a script with these files may be this one.
-    ghost admits: { (List ℕ → Option (List ℕ)) → List ℕ → Made → Type 0 };
+    // Whether a run of a script with these files and options may be this one.
+    ghost admits: { (List ℕ → Option (List ℕ)) → List ℕ → Chosen → Made → Type 0 };
 
-    /// Runs a script with these files, and appends its answers to none.
-    fn run<S: Sources>(&mut self, alloc: Global, script: &[u8], sources: &S) -> Result<(), NoMemory>
+    /// Runs a script with these files, as the options say, and appends its answers to none.
+    fn run<S: Sources>(&mut self, alloc: Global, script: &[u8], sources: &S, options: Options<'_>) -> Result<(), NoMemory>
         requires { made self.old ≡ None }
-        ensures { IsMade (admits (S.held sources.now) script.now) result (made self.new) };
+        ensures { IsMade (admits (S.held sources.now) script.now options.entry) result (made self.new) };
 
     /// The answers of the run that was made.
     fn answers(&self) -> &[u8]
         ensures { IfSome (made self.now) (λ run. result.now ≡ run.appended) };
 }
 
-/// The run that `script::run` makes.
+/// The run that `script::run` makes. No option has an effect on it yet: each call is done at once, on the thread that
+/// reads the script.
 #[derive(Drop)]
 pub struct Answers {
     pub text: Vec<u8>,
@@ -55,6 +58,7 @@ impl Evaluation for Answers {
         alloc: Global,
         script: &[u8],
         sources: &S,
+        _options: Options<'_>,
     ) -> Result<(), NoMemory> {
         self.text.clear();
         let ended = script::run(alloc, script, sources, &mut self.text);

@@ -14,7 +14,7 @@ use crate::fault::Fault;
 use crate::files::FileSource;
 use crate::loaded::Loaded;
 use crate::options;
-use crate::options::Request;
+use crate::options::{Options, Request};
 use model::NoMemory;
 use std::alloc::Global;
 use std::io::{Read, Write};
@@ -87,7 +87,7 @@ pub fn serve<R: Read, F: FileSource, X: Evaluation, W: Write>(
     let texts = options::texts(alloc, words)?;
     match options::parse(alloc, texts.as_slice())? {
         Request::Print(text) => print(out, text.as_bytes()),
-        Request::Run(options) => run_script(alloc, options.script, input, files, run, out),
+        Request::Run(options) => run_script(alloc, options, input, files, run, out),
     }
 }
 
@@ -100,24 +100,24 @@ fn print<W: Write>(out: &mut W, text: &[u8]) -> Result<(), Fault>
 
 fn run_script<R: Read, F: FileSource, X: Evaluation, W: Write>(
     alloc: Global,
-    name: Option<&str>,
+    options: Options<'_>,
     input: &mut R,
     files: &F,
     run: &mut X,
     out: &mut W,
 ) -> Result<(), Fault>
     requires { X.made run.old ≡ None }
-    ensures ends { RunEnds X.admits (record {
+    ensures ends { RunEnds X.admits (λ chosen. chosen ≡ options.entry) (record {
       content = F.content files.now;
       script =
-          option_map_or (λ name. F.content files.now name.now) name.entry (R.remaining input.old);
+          option_map_or (λ name. F.content files.now name.now) options.entry.script (R.remaining input.old);
     })
         (X.made run.new) (W.contents out.old) (W.contents out.new) result }
-    ensures unread { is_some name.entry ≡ true → input.new ≡ input.old }
+    ensures unread { is_some options.entry.script ≡ true → input.new ≡ input.old }
 {
-    let script = read_script(alloc, name, input, files)?;
+    let script = read_script(alloc, options.script, input, files)?;
     let loaded = Loaded::read(alloc, script.as_slice(), files)?;
-    let ended = run.run(alloc, script.as_slice(), &loaded);
+    let ended = run.run(alloc, script.as_slice(), &loaded, options);
     finish(out, run.answers(), ended)
 }
 

@@ -1,6 +1,7 @@
 //! The program over readers, writers and files in memory.
 use crate::evaluation::Evaluation;
 use crate::files::FileSource;
+use crate::options::Options;
 use crate::program::{execute, execute_by};
 use crate::words::of_process;
 use model::NoMemory;
@@ -368,13 +369,14 @@ impl Evaluation for CutOff<'_> {
 
     ghost made = { λ run. option_map (λ ended. record { appended = run.answers.now; ended = ended }) run.ended };
 
-    ghost admits = { λ _ _ _. Unit {0} };
+    ghost admits = { λ _ _ _ _. Unit {0} };
 
     fn run<S: Sources>(
         &mut self,
         _alloc: Global,
         _script: &[u8],
         _sources: &S,
+        _options: Options<'_>,
     ) -> Result<(), NoMemory> {
         let ended = Err(NoMemory);
         self.ended = Some(ended);

@@ -4,10 +4,10 @@ use Rattle.gbrun.proofs.Endings.{finished_ends, unread_files_end}
 use Rattle.gbrun.proofs.program.run_script.Goals as goal
 
 pub returns-in_err-loaded-clause-ends : goal.returns-in_err-loaded-clause-ends
-returns-in_err-loaded-clause-ends g c = unread_files_end _ _ _ _ c.from_residual-in_err-loaded.result c.requires (search rules)
+returns-in_err-loaded-clause-ends g c = unread_files_end _ _ _ _ _ c.from_residual-in_err-loaded.result c.requires (search rules)
 
 pub returns-clause-ends : goal.returns-clause-ends
 returns-clause-ends g c =
     let run = rw c.as_slice-2.ensures.value at c.run-ended.ensures in
-    finished_ends _ _ c.in_ok-script.script.items c.answers.result.now _ c.run-ended.result _ _ _ c.finish.result
+    finished_ends _ _ _ c.in_ok-script.script.items c.answers.result.now _ c.run-ended.result _ _ _ c.finish.result
     c.in_ok-script.ensures.known c.in_ok-loaded.ensures run c.answers.ensures c.finish.ensures
