@@ -114,8 +114,7 @@ choice_ends admits words options given None old new (Err OutOfMemory) is ends = 
 choice_ends admits words options given None old new (Err OutOfMemoryUndelivered) is ends = ends
 choice_ends admits words options given None old new (Err UnwritableOutput) is ends = ends
 choice_ends admits words options given (Some run) old new end is ends =
-    let made = ends.0 in
-    (
+    let made = ends.0 in (
       record {
         script = made.script;
         sources = made.sources;

@@ -34,7 +34,7 @@ AsksBadOrder words = All IsUtf8 words × (fault_of command_line words ≡ []) ×
 abbrev pub AsksNothing : List Text → Type 0
 AsksNothing words = Any (λ word. ¬ (IsUtf8 word)) words ⊎ (All IsUtf8 words × IsMistake (fault_of command_line words))
 
--- ---- what a run of a script writes
+-- ---- the run of a script
 
 -- the bytes of the script that the words name, where they are known: of a file, or what the input still has
 abbrev pub script_in : (List ℕ → Option (List ℕ)) → Option (List ℕ) → List Text → Option (List ℕ)

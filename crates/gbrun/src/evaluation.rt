@@ -18,7 +18,13 @@ pub trait Evaluation {
     ghost admits: { (List ℕ → Option (List ℕ)) → List ℕ → Chosen → Made → Type 0 };
 
     /// Runs a script with these files, as the options say, and appends its answers to none.
-    fn run<S: Sources>(&mut self, alloc: Global, script: &[u8], sources: &S, options: Options<'_>) -> Result<(), NoMemory>
+    fn run<S: Sources>(
+        &mut self,
+        alloc: Global,
+        script: &[u8],
+        sources: &S,
+        options: Options<'_>,
+    ) -> Result<(), NoMemory>
         requires { made self.old ≡ None }
         ensures { IsMade (admits (S.held sources.now) script.now options.entry) result (made self.new) };
 
