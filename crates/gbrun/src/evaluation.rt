@@ -33,7 +33,8 @@ pub trait Evaluation {
         ensures { IfSome (made self.now) (λ run. result.now ≡ run.appended) };
 }
 
-/// The run that `script::run` makes. No option has an effect on it yet: each call is done at once, on the thread that
+/// The run that `script::run` makes. Where memory ran out, its contract and that of `script::run` say no more of the
+/// text than that it answers some first lines. No option has an effect on it yet: each call is done at once, on the thread that
 /// reads the script.
 #[derive(Drop)]
 pub struct Answers {

@@ -68,7 +68,8 @@ fn first_said<'a>(
     first_of_any_form(domain, heading, text)
 }
 
-/// The same for a line of any form. It stays out of the loop of the lines of the usual form for the same reason.
+/// The same for a line of any form. It stays out of the loop of the lines of the usual form for the same reason, and
+/// the heading is lent to it, since it would be copied for each line else.
 #[inline(never)]
 fn first_of_any_form<'a>(
     domain: Domain,
