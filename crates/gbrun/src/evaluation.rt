@@ -34,8 +34,8 @@ pub trait Evaluation {
 }
 
 /// The run that `script::run` makes. Where memory ran out, its contract and that of `script::run` say no more of the
-/// text than that it answers some first lines. No option has an effect on it yet: each call is done at once, on the thread that
-/// reads the script.
+/// text than that it answers some first lines. No option has an effect on it yet: each call is done at once, on the
+/// thread that reads the script.
 #[derive(Drop)]
 pub struct Answers {
     pub text: Vec<u8>,
