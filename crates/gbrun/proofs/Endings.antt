@@ -10,7 +10,7 @@ use Rattle.model.specs.declared.memory.NoMemory.{NoMemory}
 use Rattle.gbrun.specs.CommandLine.{ChoosesOf, ComesOf, order_in}
 use Rattle.gbrun.specs.Faults.{IsCommandLine}
 use Rattle.gbrun.specs.Outcomes.{Admits, AsksRun, AsksText, Ends, Finishes, Given, RunEnds, TextEnds, given_in, script_in}
-use Rattle.gbrun.specs.Known.{AreFiles, IsKnown}
+use Rattle.gbrun.specs.Known.{AreFiles, HasReadable, IsKnown}
 use Rattle.gbrun.specs.Runs.{IsMade, Made}
 use Rattle.gbrun.specs.declared.options.Options.{Options}
 use Rattle.gbrun.specs.declared.options.Request.TheVariants.{Run}
@@ -121,6 +121,7 @@ choice_ends admits words options given (Some run) old new end is ends =
         options = made.options;
         is_script = made.is_script;
         are_files = made.are_files;
+        has_readable = made.has_readable;
         are_options = subst (ChoosesOf words) (sym made.are_options) is;
         is_run = made.is_run;
       },
@@ -128,24 +129,24 @@ choice_ends admits words options given (Some run) old new end is ends =
     )
 
 -- words that ask for a run: it is of the script that they name
-pub run_ends : (admits : Admits) (words : List Text) (options : Options) (content : List ℕ → Option (List ℕ)) (input : Option (List ℕ)) (made : Option Made) (old new : Option (List ℕ)) (end : Result (Unit {0}) Fault)
-    → All IsUtf8 words → ComesOf words (Ok (Run options)) → (let given : Given = record { content = content; script = option_map_or (λ name. content name.now) options.script input } in RunEnds admits (λ chosen. chosen ≡ options) given made old new end)
-    → Ends admits words (given_in content input words) made old new end
-run_ends admits words options content input made old new end utf8 comes ends =
+pub run_ends : (admits : Admits) (words : List Text) (options : Options) (content : List ℕ → Option (List ℕ)) (readable : List ℕ → Type 0) (input : Option (List ℕ)) (made : Option Made) (old new : Option (List ℕ)) (end : Result (Unit {0}) Fault)
+    → All IsUtf8 words → ComesOf words (Ok (Run options)) → (let given : Given = record { content = content; readable = readable; script = option_map_or (λ name. content name.now) options.script input } in RunEnds admits (λ chosen. chosen ≡ options) given made old new end)
+    → Ends admits words (given_in content readable input words) made old new end
+run_ends admits words options content readable input made old new end utf8 comes ends =
     let is : option_map_or (λ name. content name.now) options.script input ≡ script_in content input words =
     map_or-map content (λ name. name.now) options.script input ∙ ap (λ name. option_map_or content name input) comes.1.script in
     let ordered : is_some (order_in words) ≡ true = ap is_some (sym comes.1.order) in
-    let of_words = subst (λ (script : Option (List ℕ)). let given : Given = record { content = content; script = script } in RunEnds admits (λ chosen. chosen ≡ options) given made old new end) is ends in
-    run_of_script_ends admits words (given_in content input words) made old new end (utf8, comes.0, ordered)
-    (choice_ends admits words options (given_in content input words) made old new end comes.1 of_words)
+    let of_words = subst (λ (script : Option (List ℕ)). let given : Given = record { content = content; readable = readable; script = script } in RunEnds admits (λ chosen. chosen ≡ options) given made old new end) is ends in
+    run_of_script_ends admits words (given_in content readable input words) made old new end (utf8, comes.0, ordered)
+    (choice_ends admits words options (given_in content readable input words) made old new end comes.1 of_words)
 
 -- a run whose answers were finished with
 pub finished_ends : (admits : Admits) (options : Options) (given : Given) (bytes answers : List ℕ) (sources : Sources) (ended : Result (Unit {0}) NoMemory) (made : Option Made) (old new : Option (List ℕ)) (result : Result (Unit {0}) Fault)
-    → IsKnown given.script bytes → AreFiles given.content sources → IsMade (admits sources bytes options) ended made → IfSome made (λ run. answers ≡ run.appended)
+    → IsKnown given.script bytes → AreFiles given.content sources → HasReadable given.readable bytes sources → IsMade (admits sources bytes options) ended made → IfSome made (λ run. answers ≡ run.appended)
     → Finishes ended answers old new result → RunEnds admits (λ chosen. chosen ≡ options) given made old new result
-finished_ends admits options given bytes answers sources ended None old new result is are run same finished = absurd run
-finished_ends admits options given bytes answers sources ended (Some made) old new result is are run same finished =
-    (record { script = bytes; sources = sources; options = options; is_script = is; are_files = are; are_options = refl; is_run = run.1 }, rw (run.0, ← same) finished)
+finished_ends admits options given bytes answers sources ended None old new result is are has run same finished = absurd run
+finished_ends admits options given bytes answers sources ended (Some made) old new result is are has run same finished =
+    (record { script = bytes; sources = sources; options = options; is_script = is; are_files = are; has_readable = has; are_options = refl; is_run = run.1 }, rw (run.0, ← same) finished)
 
 -- memory ran out before the run
 pub unread_files_end : (admits : Admits) (chosen : Options → Type 0) (given : Given) (made : Option Made) (old : Option (List ℕ)) (result : Result (Unit {0}) Fault) → made ≡ None → result ≡ Err OutOfMemory

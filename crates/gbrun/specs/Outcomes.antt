@@ -8,7 +8,7 @@ use Rattle.model.specs.Loads.{Sources}
 use Rattle.model.specs.declared.memory.NoMemory.{NoMemory}
 use Rattle.gbrun.specs.CommandLine.{ChoosesOf, IsMistake, IsRequest, command_line, order_in, text_of}
 use Rattle.gbrun.specs.Faults.{line_of, status_of}
-use Rattle.gbrun.specs.Known.{AreFiles, IsKnown}
+use Rattle.gbrun.specs.Known.{AreFiles, HasReadable, IsKnown}
 use Rattle.gbrun.specs.Runs.{Made}
 use Rattle.gbrun.specs.Writing.{Begins, Grows}
 use Rattle.gbrun.specs.declared.fault.Fault.{Fault}
@@ -45,13 +45,15 @@ abbrev pub NamesScript : List Text → Type 0
 NamesScript words = is_some (text_of (codes "script") words) ≡ true
 
 -- what is known of files, by their names, and of the script
-pub record Given : Type 0 where
+pub record Given : Type 1 where
   pub content : List ℕ → Option (List ℕ)
+  pub readable : List ℕ → Type 0
   pub script : Option (List ℕ)
 
 -- ..where the words name the script
-abbrev pub given_in : (List ℕ → Option (List ℕ)) → Option (List ℕ) → List Text → Given
-given_in content input words = record { content = content; script = script_in content input words }
+abbrev pub given_in : (List ℕ → Option (List ℕ)) → (List ℕ → Type 0) → Option (List ℕ) → List Text → Given
+given_in content readable input words =
+    record { content = content; readable = readable; script = script_in content input words }
 
 -- what a run may be, by files, script and options
 abbrev pub Admits : Type 1
@@ -65,6 +67,7 @@ pub record IsRun (admits : Admits) (chosen : Options → Type 0) (given : Given)
   pub options : Options
   pub is_script : IsKnown given.script script
   pub are_files : AreFiles given.content sources
+  pub has_readable : HasReadable given.readable script sources
   pub are_options : chosen options
   pub is_run : admits sources script options run
 

@@ -1,5 +1,7 @@
 //! Where the file of a script comes from.
-ghost use Rattle.std.specs.Prelude.{◌≡◌, ℕ, List, None, IfOk, IfSome};
+ghost use Rattle.std.specs.Prelude.{◌≡◌, ℕ, List, None, IfErr, IfOk, IfSome};
+ghost use Rattle.std.specs.IoError.{error_kind};
+ghost use Rattle.std.specs.declared.io.ErrorKind.TheVariants.{OutOfMemory};
 ghost use Rattle.std.specs.declared.option.Option.{Option};
 
 use std::fs::{File, OpenFile};
@@ -11,11 +13,14 @@ use std::rt::Files;
 pub trait FileSource {
     // The bytes of the file of a name, where they are known.
     ghost content: { Self → List ℕ → Option (List ℕ) } = { λ _ _. None };
+    // Whether it is known that the file of a name can be read whole, if memory isn't refused.
+    ghost readable: { Self → List ℕ → Type 0 } = { λ _ _. ⊥ };
 
     /// All the bytes of the file `name`, or why it can't be opened and read whole.
     fn read(&self, name: &str) -> io::Result<Vec<u8>>
-        ensures { IfOk result (λ bytes. IfSome (content self.now name.now)
-            (λ known. bytes.items ≡ known)) };
+        ensures bytes { IfOk result (λ bytes. IfSome (content self.now name.now)
+            (λ known. bytes.items ≡ known)) }
+        ensures refused { IfErr result (λ error. readable self.now name.now → error_kind error ≡ OutOfMemory) };
 }
 
 /// The files of a runtime.

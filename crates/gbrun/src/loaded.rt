@@ -1,8 +1,8 @@
 //! The files that a script loads.
-ghost use Rattle.std.specs.Prelude.{IfOk};
+ghost use Rattle.std.specs.Prelude.{ℕ, ◌≡◌, List, IfOk, OnOk, is_some, true};
 ghost use Rattle.std.specs.Option.{option_map};
-ghost use Rattle.gbrun.specs.Known.{AreFiles, IsFile};
-ghost use Rattle.gbrun.specs.Loaded.{held_in};
+ghost use Rattle.gbrun.specs.Known.{AreFiles, HasReadable, IsFile};
+ghost use Rattle.gbrun.specs.Loaded.{HasTried, held_in, is_tried};
 
 use crate::files::FileSource;
 use lines::{first_line, loaded_file};
@@ -30,13 +30,15 @@ impl Sources for Loaded<'_> {
 }
 
 impl<'a> Loaded<'a> {
-    /// Reads each file that a well-formed load of a script names, once.
+    /// Reads each file that a well-formed load of a script names, once. Those that can be read are held.
     pub fn read<F: FileSource>(
         alloc: Global,
         script: &'a [u8],
         files: &F,
     ) -> Result<Loaded<'a>, NoMemory>
-        ensures { IfOk result (λ loaded. AreFiles (F.content files.now) (held_in loaded)) }
+        ensures files { IfOk result (λ loaded. AreFiles (F.content files.now) (held_in loaded)) }
+        ensures readable { IfOk result (λ loaded.
+            HasReadable (F.readable files.now) script.entry.now (held_in loaded)) }
     {
         let mut loaded = Loaded {
             by_name: BTreeMap::new(alloc),
@@ -54,8 +56,12 @@ impl<'a> Loaded<'a> {
 
     /// Reads the file of a name, unless it was read before.
     fn add<F: FileSource>(&mut self, name: &'a str, files: &F) -> Result<(), NoMemory>
-        requires { AreFiles (F.content files.now) (held_in self.old) }
-        ensures { AreFiles (F.content files.now) (held_in self.new) }
+        requires files { AreFiles (F.content files.now) (held_in self.old) }
+        requires tried { HasTried (F.readable files.now) self.old }
+        ensures files { AreFiles (F.content files.now) (held_in self.new) }
+        ensures tried { HasTried (F.readable files.now) self.new }
+        ensures kept { (other : List ℕ) → is_tried self.old other ≡ true → is_tried self.new other ≡ true }
+        ensures added { OnOk result (is_tried self.new name.now ≡ true) }
     {
         if self.by_name.contains_key(name.as_bytes()) {
             return Ok(());
@@ -68,7 +74,9 @@ impl<'a> Loaded<'a> {
 
 /// The bytes of a file, if it can be opened and read whole. Want of memory is no want of a file.
 fn whole<F: FileSource>(name: &str, files: &F) -> Result<Option<Vec<u8>>, NoMemory>
-    ensures { IfOk result (λ bytes. IsFile (F.content files.now name.now) (option_map (λ bytes. bytes.items) bytes)) }
+    ensures file { IfOk result (λ bytes.
+        IsFile (F.content files.now name.now) (option_map (λ bytes. bytes.items) bytes)) }
+    ensures readable { IfOk result (λ bytes. F.readable files.now name.now → is_some bytes ≡ true) }
 {
     match files.read(name) {
         Ok(bytes) => Ok(Some(bytes)),

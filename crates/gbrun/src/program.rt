@@ -35,7 +35,8 @@ pub fn execute<R: Read, F: FileSource, W: Write, E: Write>(
 ) -> u8
     ensures ends { (made : Option Made) × (end : Result (Unit {0}) Fault) × (result ≡ status_after end)
         × Ends AnswersRun (map (λ word. word.items) words.now)
-        (given_in (F.content files.now) (R.remaining input.old) (map (λ word. word.items) words.now))
+        (given_in (F.content files.now) (F.readable files.now) (R.remaining input.old)
+        (map (λ word. word.items) words.now))
         made (W.contents out.old) (W.contents out.new) end
         × Tells end (E.contents err.old) (E.contents err.new) }
     ensures unread { NamesScript (map (λ word. word.items) words.now) → input.new ≡ input.old }
@@ -58,7 +59,8 @@ pub fn execute_by<R: Read, F: FileSource, X: Evaluation, W: Write, E: Write>(
     requires { X.made run.old ≡ None }
     ensures ends { (end : Result (Unit {0}) Fault) × (result ≡ status_after end)
         × Ends X.admits (map (λ word. word.items) words.now)
-        (given_in (F.content files.now) (R.remaining input.old) (map (λ word. word.items) words.now))
+        (given_in (F.content files.now) (F.readable files.now) (R.remaining input.old)
+        (map (λ word. word.items) words.now))
         (X.made run.new) (W.contents out.old) (W.contents out.new) end
         × Tells end (E.contents err.old) (E.contents err.new) }
     ensures unread { NamesScript (map (λ word. word.items) words.now) → input.new ≡ input.old }
@@ -80,7 +82,8 @@ pub fn serve<R: Read, F: FileSource, X: Evaluation, W: Write>(
 ) -> Result<(), Fault>
     requires { X.made run.old ≡ None }
     ensures ends { Ends X.admits (map (λ word. word.items) words.now)
-        (given_in (F.content files.now) (R.remaining input.old) (map (λ word. word.items) words.now))
+        (given_in (F.content files.now) (F.readable files.now) (R.remaining input.old)
+        (map (λ word. word.items) words.now))
         (X.made run.new) (W.contents out.old) (W.contents out.new) result }
     ensures unread { NamesScript (map (λ word. word.items) words.now) → input.new ≡ input.old }
 {
@@ -109,6 +112,7 @@ fn run_script<R: Read, F: FileSource, X: Evaluation, W: Write>(
     requires { X.made run.old ≡ None }
     ensures ends { RunEnds X.admits (λ chosen. chosen ≡ options.entry) (record {
       content = F.content files.now;
+      readable = F.readable files.now;
       script =
           option_map_or (λ name. F.content files.now name.now) options.entry.script (R.remaining input.old);
     })

@@ -10,4 +10,5 @@ pub returns-clause-ends : goal.returns-clause-ends
 returns-clause-ends g c =
     let run = rw c.as_slice-2.ensures.value at c.run-ended.ensures in
     finished_ends _ _ _ c.in_ok-script.script.items c.answers.result.now _ c.run-ended.result _ _ _ c.finish.result
-    c.in_ok-script.ensures.known c.in_ok-loaded.ensures run c.answers.ensures c.finish.ensures
+    c.in_ok-script.ensures.known c.in_ok-loaded.ensures.files (rw c.as_slice.ensures.value at c.in_ok-loaded.ensures.readable)
+    run c.answers.ensures c.finish.ensures

@@ -42,5 +42,5 @@ returns-clause-ends g c =
     let words = map (λ word. word.items) c.args.words.now in
     let same : read ≡ words = search rules in
     let comes : ComesOf read (Ok (Run c.in-Run.options)) = rw c.in-Run.is at c.in_ok-text.ensures in
-    run_ends _ words c.in-Run.options (g.F.FileSource.content c.args.files.now) (g.R.Read.remaining c.args.input.now) _ _ _ c.run_script.result
+    run_ends _ words c.in-Run.options (g.F.FileSource.content c.args.files.now) (g.F.FileSource.readable c.args.files.now) (g.R.Read.remaining c.args.input.now) _ _ _ c.run_script.result
     (All-map IsUtf8 _ _ c.in_ok-texts.ensures.utf8) (subst (λ ws. ComesOf ws (Ok (Run c.in-Run.options))) same comes) c.run_script.ensures.ends
