@@ -7,7 +7,6 @@ pub mod Joins
 mod Keeping
 pub mod Keeps
 mod KeptFiber
-pub mod MaskLaws
 mod Merges
 mod Merging
 pub mod SameEnds

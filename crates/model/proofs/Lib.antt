@@ -1,11 +1,14 @@
 pub mod ElementWiseLaws
 pub mod BuildLaws
 pub mod CanonicalLaws
+pub mod CountLaws
+pub mod EditLaws
 pub mod EntryLaws
 pub mod EnvironmentLaws
 pub mod FileRows
 pub mod IndexLaws
 pub mod MarketLaws
+pub mod MaskLaws
 pub mod ObjectLaws
 pub mod OperationLaws
 pub mod ProductLaws

@@ -1,8 +1,8 @@
 -- What is found at lists of indices lies inside the shape that they make or name, and is of the same domain.
-use Rattle.std.proofs.Common.{◌≡◌, ◌∙◌, ℕ, ◌+◌, ◌==◌, ◌&&◌, Bool, true, false, if◌then◌else◌, List, [], ◌∷◌, Option, Some, None, is_some, refl, inl, inr, arith}
-use Rattle.std.specs.Prelude.{nat_lt}
+use Rattle.std.proofs.Common.{◌≡◌, ◌∙◌, ℕ, zero, suc, ◌+◌, ◌==◌, ◌&&◌, not, Bool, true, false, if◌then◌else◌, List, [], ◌∷◌, Option, Some, None, is_some, refl, ap, inl, inr, arith}
+use Rattle.std.specs.Prelude.{nat_lt, slice_get}
 use Rattle.std.specs.List.{list_all, position_from}
-use Rattle.std.proofs.lemmas.Bool.{and_parts, cases_Bool}
+use Rattle.std.proofs.lemmas.Bool.{and_parts, cases_Bool, eq-eqb}
 use Rattle.std.proofs.lemmas.Bool.Decides.{nat_tests}
 use Rattle.std.proofs.lemmas.Iterator.Adapters.{position_from-zero}
 use Rattle.std.proofs.lemmas.Option.{slice_get_past}
@@ -12,7 +12,7 @@ use Rattle.model.specs.declared.call.Region.{Region}
 use Rattle.model.specs.declared.call.Region.TheVariants as region
 use Rattle.model.specs.declared.shape.Shape.{Shape}
 use Rattle.model.specs.declared.shape.Shape.TheVariants.{One, Two}
-use Rattle.model.specs.Indices.{All, Indices, These, are_below, count_of, index_at, place_in}
+use Rattle.model.specs.Indices.{All, Indices, These, are_below, are_distinct, count_of, index_at, is_distinct, place_in}
 use Rattle.model.specs.Object.{AreWordsOf, Content, IsWithin, cols_of, rows_of}
 use Rattle.model.specs.Regions.{cols_in, cut_to, extracted, filled, found_at, is_listed, is_region_of, placed, rows_in, shape_in}
 
@@ -113,3 +113,45 @@ cut-word false old word is = absurd (cc)
 
 pub cut_to-words : (domain : Domain) (m n : ℕ) (c : Content) → AreWordsOf domain c → AreWordsOf domain (cut_to m n c)
 cut_to-words domain m n c words i j word is = words i j word (cut-word (nat_lt i m && nat_lt j n) (c i j) word is)
+
+-- ---- what is put at lists and found at them again
+
+not_true : (b : Bool) → not b ≡ true → b ≡ false
+not_true true h = absurd (cc)
+not_true false h = refl
+
+-- of all indices each stands at its own place
+all_at : (inside : Bool) (k i : ℕ) → (if inside then Some k else None) ≡ Some i → (inside ≡ true) × (k ≡ i)
+all_at true k i there = (refl, cc)
+all_at false k i there = absurd (cc)
+
+listed_apart : (x : ℕ) (items : List ℕ) (k i : ℕ) → list_all (λ y. not (x == y)) items ≡ true → slice_get items k ≡ Some i → (x == i) ≡ false
+listed_apart x [] k i apart there = absurd (cc)
+listed_apart x (y ∷ items) zero i apart there =
+    let parts = and_parts (not (x == y)) (list_all (λ y. not (x == y)) items) apart in
+    let same : y ≡ i = cc in
+    rw same at (not_true (x == y) parts.0)
+listed_apart x (y ∷ items) (suc k) i apart there =
+    listed_apart x items k i (and_parts (not (x == y)) (list_all (λ y. not (x == y)) items) apart).1 there
+
+place_of_index : (items : List ℕ) (from k i : ℕ) → is_distinct items ≡ true → slice_get items k ≡ Some i → position_from (λ x. x == i) from items ≡ Some (from + k)
+place_of_index [] from k i distinct there = absurd (cc)
+place_of_index (x ∷ items) from zero i distinct there =
+    let same : x ≡ i = cc in
+    rw (same, eq-eqb i i refl) (ap Some (omega arith))
+place_of_index (x ∷ items) from (suc k) i distinct there =
+    let parts = and_parts (list_all (λ y. not (x == y)) items) (is_distinct items) distinct in
+    rw (listed_apart x items k i parts.0 there) (place_of_index items (from + 1) k i parts.1 there ∙ ap Some (omega arith))
+
+-- where none is repeated, the place of the index that stands at a place of a list is that place
+pub place_in-index_at : (size : ℕ) (list : Indices) (k i : ℕ) → are_distinct list ≡ true → index_at size list k ≡ Some i → place_in size list i ≡ Some k
+place_in-index_at size All k i distinct there = let at = all_at (nat_lt k size) k i there in rw (← at.1, at.0) refl
+place_in-index_at size (These items) k i distinct there =
+    position_from-zero (λ x. x == i) items ∙ place_of_index items 0 k i distinct there ∙ ap Some (omega arith)
+
+-- Where no index is repeated, what is put at lists of rows and columns stands at the k-th row and the l-th column as it
+-- stood at (k, l).
+pub placed_at_listed : (m n : ℕ) (rows cols : Indices) (c : Content) (k l i j : ℕ) → are_distinct rows ≡ true → are_distinct cols ≡ true
+    → index_at m rows k ≡ Some i → index_at n cols l ≡ Some j → placed m n rows cols c i j ≡ c k l
+placed_at_listed m n rows cols c k l i j apart_rows apart_cols row col =
+    rw (place_in-index_at m rows k i apart_rows row, place_in-index_at n cols l j apart_cols col) refl

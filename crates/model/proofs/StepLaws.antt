@@ -90,7 +90,7 @@ without_object-are_objects same env name are other o found =
 -- ---- accepted calls
 
 -- a call without a fault has none that is found early
-no_early : (early late : Option Status) → option_map_or Some early late ≡ None → early ≡ None
+pub no_early : (early late : Option Status) → option_map_or Some early late ≡ None → early ≡ None
 no_early None late h = refl
 no_early (Some s) late h = absurd (cc)
 

@@ -22,11 +22,11 @@ split true x rest h = absurd (cc)
 split false x rest h = (refl, h)
 
 -- no test of those in the order fails
-passed : (fails : Status → Bool) (s : Status) (before after : List Status) → find fails (before ++ s ∷ after) ≡ None → fails s ≡ false
+pub passed : (fails : Status → Bool) (s : Status) (before after : List Status) → find fails (before ++ s ∷ after) ≡ None → fails s ≡ false
 passed fails s [] after h = (split (fails s) s (find fails after) h).0
 passed fails s (x ∷ before) after h = passed fails s before after (split (fails x) x (find fails (before ++ s ∷ after)) h).1
 
-not_false : (b : Bool) → not b ≡ false → b ≡ true
+pub not_false : (b : Bool) → not b ≡ false → b ≡ true
 not_false true h = refl
 not_false false h = absurd (cc)
 

@@ -5,7 +5,8 @@ use crate::Status;
 use std::alloc::{AllocError, AllocFailed};
 use thiserror::Error;
 
-/// A growth was refused during the call, and what was lent to it is unchanged.
+/// A growth was refused during the call. What was lent to it means what it did before, though it may lie in another
+/// form: a store that was to take edits may have done some of them, which then wait no longer.
 #[derive(Clone, Copy, Debug, PartialEq, Eq, Error)]
 #[error("out of memory")]
 pub struct NoMemory;
