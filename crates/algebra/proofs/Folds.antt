@@ -14,8 +14,8 @@ pub record CombinesWords (IsWord : ℕ → Type 0) (f : ℕ → ℕ → ℕ) : T
   pub associates : (a b c : ℕ) → IsWord a → IsWord b → IsWord c → f (f a b) c ≡ f a (f b c)
 
 -- two words can be put on in either order
-turned : (W : ℕ → Type 0) (f : ℕ → ℕ → ℕ) (laws : CombinesWords W f) (c x y : ℕ) → W c → W x → W y → f (f c x) y ≡ f (f c y) x
-turned W f laws c x y p q r =
+transposed : (W : ℕ → Type 0) (f : ℕ → ℕ → ℕ) (laws : CombinesWords W f) (c x y : ℕ) → W c → W x → W y → f (f c x) y ≡ f (f c y) x
+transposed W f laws c x y p q r =
     laws.associates c x y p q r ∙ ap (f c) (laws.commutes x y q r) ∙ sym (laws.associates c y x p r q)
 
 -- a word of the list and the one in front of it can change places
@@ -24,14 +24,14 @@ exchanged_first : (W : ℕ → Type 0) (f : ℕ → ℕ → ℕ) (laws : Combine
     → fold f (f c (get_or l j d)) (set l j a) ≡ fold f (f c a) l
 exchanged_first W f laws [] j a c d inside p q all = absurd (omega arith)
 exchanged_first W f laws (b ∷ l) zero a c d inside p q all =
-    ap (λ s. fold f s l) (turned W f laws c b a p (all zero d (omega arith)) q)
+    ap (λ s. fold f s l) (transposed W f laws c b a p (all zero d (omega arith)) q)
 exchanged_first W f laws (b ∷ l) (suc j) a c d inside p q all =
     let below : j < length l = omega arith in
     let first : W b = all zero d (omega arith) in
     let tail = All-tail W b l all in
-    ap (λ s. fold f s (set l j a)) (turned W f laws c (get_or l j d) b p (tail j d below) first)
+    ap (λ s. fold f s (set l j a)) (transposed W f laws c (get_or l j d) b p (tail j d below) first)
     ∙ exchanged_first W f laws l j a (f c b) d below (laws.word c b) q tail
-    ∙ ap (λ s. fold f s l) (turned W f laws c b a p first q)
+    ∙ ap (λ s. fold f s l) (transposed W f laws c b a p first q)
 
 -- two words of the list can change places
 exchanged : (W : ℕ → Type 0) (f : ℕ → ℕ → ℕ) (laws : CombinesWords W f) (l : List ℕ) (i j c d : ℕ)

@@ -75,9 +75,9 @@ sum-permutation kind d [] [] h permutes all = refl
 sum-permutation kind d [] (y ∷ ys) h permutes all = let none = length_permutation [] (y ∷ ys) permutes in absurd (omega arith)
 sum-permutation kind d (x ∷ xs) [] h permutes all = let none = length_permutation (x ∷ xs) [] permutes in absurd (omega arith)
 sum-permutation kind d (x ∷ xs) (y ∷ ys) h permutes all =
-    let turned = All-permutation (IsWordOf d) (x ∷ xs) (y ∷ ys) permutes all in
+    let transposed = All-permutation (IsWordOf d) (x ∷ xs) (y ∷ ys) permutes all in
     let same = fold-permutation (IsWordOf d) (eval_of (combines_by kind) d) (monoid-laws kind d h) (x ∷ xs) (y ∷ ys) (identity_of kind d) permutes all (identity-word kind d h) in
-    ap Some (sym (begins_at_identity kind d y ys h turned) ∙ same ∙ begins_at_identity kind d x xs h all)
+    ap Some (sym (begins_at_identity kind d y ys h transposed) ∙ same ∙ begins_at_identity kind d x xs h all)
 
 -- the sum of the sums of parts is the sum of the whole
 pub sum-parts : (kind : MonoidKind) (d : Domain) (parts : List (List ℕ))

@@ -5,7 +5,7 @@ use Rattle.algebra.specs.declared.monoid.Monoid.{Monoid}
 use Rattle.algebra.specs.declared.operator_names.IndexName.{IndexName}
 use Rattle.algebra.specs.declared.operator_names.MonoidName.{MonoidName}
 use Rattle.algebra.specs.declared.operator_names.OpName.{OpName}
-use Rattle.algebra.specs.declared.operator_names.RingName.{RingName}
+use Rattle.algebra.specs.declared.operator_names.SemiringName.{SemiringName}
 use Rattle.algebra.specs.declared.operator_names.UnaryName.{UnaryName}
 use Rattle.algebra.specs.declared.semiring.Semiring.{Semiring}
 use Rattle.algebra.specs.declared.unary.UnaryOp.{UnaryOp}
@@ -23,5 +23,9 @@ abbrev pub monoid_named : Monoid → MonoidName
 monoid_named monoid = record { kind = monoid.kind; domain = monoid.op.domain }
 
 -- a semiring's domain is that of its operator's inputs
-abbrev pub ring_named : Semiring → RingName
-ring_named ring = record { add = ring.add.kind; multiply = ring.multiply.kind; domain = ring.multiply.domain }
+abbrev pub semiring_named : Semiring → SemiringName
+semiring_named semiring = record {
+  add = semiring.add.kind;
+  multiply = semiring.multiply.kind;
+  domain = semiring.multiply.domain;
+}

@@ -20,6 +20,6 @@ pub use functions::{Function, FunctionName};
 pub use index::IndexOp;
 pub use kinds::{BinaryKind, IndexKind, MonoidKind, UnaryKind};
 pub use monoid::Monoid;
-pub use operator_names::{IndexName, MonoidName, OpName, RingName, UnaryName};
+pub use operator_names::{IndexName, MonoidName, OpName, SemiringName, UnaryName};
 pub use semiring::Semiring;
 pub use unary::UnaryOp;

@@ -1,7 +1,7 @@
 //! Operators and semirings by name, whether they are offered or not.
 ghost use Rattle.std.specs.Prelude.{◌≡◌, MatchOption, true, false};
 ghost use Rattle.algebra.specs.IndexOperators.{index_answer_domain, offers_index, scalar_domain, takes_index};
-ghost use Rattle.algebra.specs.OperatorNames.{index_named, monoid_named, op_named, ring_named, unary_named};
+ghost use Rattle.algebra.specs.OperatorNames.{index_named, monoid_named, op_named, semiring_named, unary_named};
 ghost use Rattle.algebra.specs.Operators.{answer_domain, combines_by, offers, offers_semiring};
 ghost use Rattle.algebra.specs.UnaryOperators.{offers_unary};
 
@@ -142,13 +142,13 @@ impl MonoidName {
 /// A semiring by the kinds of its monoid and of its operator, and the domain of the operator's
 /// inputs, perhaps of none that there is.
 #[derive(Clone, Copy, Debug, PartialEq, Eq)]
-pub struct RingName {
+pub struct SemiringName {
     pub add: MonoidKind,
     pub multiply: BinaryKind,
     pub domain: Domain,
 }
 
-impl RingName {
+impl SemiringName {
     /// Whether there is a semiring of this name.
     pub const fn is_offered(self) -> bool
         ensures { result ≡ offers_semiring self.add self.multiply self.domain }
@@ -167,7 +167,8 @@ impl RingName {
     pub fn resolve(self) -> Option<Semiring>
         ensures { MatchOption result
             (offers_semiring self.add self.multiply self.domain ≡ false)
-            (λ ring. (offers_semiring self.add self.multiply self.domain ≡ true) × (ring_named ring ≡ self)) }
+            (λ semiring. (offers_semiring self.add self.multiply self.domain ≡ true)
+            × (semiring_named semiring ≡ self)) }
     {
         Semiring::new(self.add, self.multiply, self.domain)
     }

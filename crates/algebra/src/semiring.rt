@@ -19,11 +19,11 @@ impl Semiring {
     #[inline(always)]
     pub const fn new(add: MonoidKind, multiply: BinaryKind, domain: Domain) -> Option<Semiring>
         ensures offered { IsSome result ↔ IsTrue (offers_semiring add multiply domain) }
-        ensures add { IfSome result (λ ring. ring.add.op.kind ≡ combines_by add) }
-        ensures add_domain { IfSome result (λ ring. ring.add.op.domain ≡ answer_domain multiply domain) }
-        ensures add_name { IfSome result (λ ring. ring.add.kind ≡ add) }
-        ensures multiply { IfSome result (λ ring. ring.multiply.kind ≡ multiply) }
-        ensures multiply_domain { IfSome result (λ ring. ring.multiply.domain ≡ domain) }
+        ensures add { IfSome result (λ semiring. semiring.add.op.kind ≡ combines_by add) }
+        ensures add_domain { IfSome result (λ semiring. semiring.add.op.domain ≡ answer_domain multiply domain) }
+        ensures add_name { IfSome result (λ semiring. semiring.add.kind ≡ add) }
+        ensures multiply { IfSome result (λ semiring. semiring.multiply.kind ≡ multiply) }
+        ensures multiply_domain { IfSome result (λ semiring. semiring.multiply.domain ≡ domain) }
     {
         let Some(multiply) = BinaryOp::new(multiply, domain) else {
             return None;

@@ -1,6 +1,6 @@
 -- Operations with their operators, by their names.
 use Rattle.algebra.specs.Functions.{function_named}
-use Rattle.algebra.specs.OperatorNames.{index_named, monoid_named, op_named, ring_named}
+use Rattle.algebra.specs.OperatorNames.{index_named, monoid_named, op_named, semiring_named}
 use Rattle.calls.specs.declared.role.Role.{Role}
 use Rattle.calls.specs.declared.role.Role.TheVariants as role
 use Rattle.calls.specs.declared.step.Step.{Step}
@@ -24,7 +24,7 @@ called_of_two computes = OfTwo computes role.First role.Second
 -- the operation whose operators were found
 abbrev pub called : Step → Operation Role
 called (Fill value region) = operation.Fill value region.now
-called (Multiply form ring) = called_of_two (two.Multiply form (ring_named ring))
+called (Multiply form semiring) = called_of_two (two.Multiply form (semiring_named semiring))
 called (Combine positions op) = called_of_two (two.Combine positions (op_named op))
 called (Apply function) = called_of_one (one.Apply (function_named function))
 called (Select op scalar) = called_of_one (one.Select (index_named op) scalar)

@@ -2,20 +2,20 @@
 ghost use Rattle.std.specs.Prelude.{◌≡◌, true};
 ghost use Rattle.calls.specs.Known.{operation_in};
 ghost use Rattle.model.specs.Fault.{plan_in};
-ghost use Rattle.model.specs.Object.{turned_signature};
+ghost use Rattle.model.specs.Object.{transposed_signature};
 ghost use Rattle.model.specs.Table.{are_factors, inner_size, plan_of_fill, plan_of_one, plan_of_two};
-ghost use Rattle.model.specs.Table.{product_shape, turned, turned_if};
+ghost use Rattle.model.specs.Table.{product_shape, transposed, transposed_if};
 
 use crate::known::Known;
 use crate::regions::{has_no_repeat, is_region_of, lies_inside, shape_in};
 use algebra::compatible;
 use model::{Desc, Form, OneInput, Plan, Region, Shape, Signature, TwoInputs};
 
-/// What the table says of an operation on its output and its inputs, turned as the descriptor says.
+/// What the table says of an operation on its output and its inputs, transposed as the descriptor says.
 pub(crate) fn plan(c: Signature, desc: Desc, operation: Known<'_>) -> Plan
     ensures { result ≡ plan_in c desc (operation_in operation.entry) }
 {
-    match turned(desc, operation) {
+    match transposed(desc, operation) {
         Known::Fill { value, region } => plan_of_fill(c, value, region),
         Known::OfOne { computes, a } => plan_of_one(c, computes, a),
         Known::OfTwo { computes, a, b } => plan_of_two(computes, a, b),
@@ -84,7 +84,7 @@ fn plan_of_one(c: Signature, computes: &OneInput, a: Signature) -> Plan
         },
         OneInput::Transpose => Plan {
             kinds: shape.is_matrix(),
-            shape: shape.turned(),
+            shape: shape.transposed(),
             ..unasked(a)
         },
         OneInput::Extract(region) => Plan {
@@ -109,14 +109,15 @@ fn plan_of_two(computes: TwoInputs, a: Signature, b: Signature) -> Plan
     ensures { result ≡ plan_of_two computes a b }
 {
     match computes {
-        TwoInputs::Multiply { form, ring } => Plan {
+        TwoInputs::Multiply { form, semiring } => Plan {
             kinds: are_factors(form, a.shape, b.shape),
-            compatible: compatible(a.domain, ring.domain) && compatible(b.domain, ring.domain),
+            compatible: compatible(a.domain, semiring.domain)
+                && compatible(b.domain, semiring.domain),
             fits: inner_size(form, a.shape) == b.shape.rows(),
             inside: true,
             values: true,
             shape: product_shape(form, a.shape, b.shape),
-            domain: ring.answer(),
+            domain: semiring.answer(),
         },
         TwoInputs::Combine { op, .. } => Plan {
             kinds: a.shape.is_like(b.shape),
@@ -161,32 +162,32 @@ fn product_shape(form: Form, a: Shape, b: Shape) -> Shape
     }
 }
 
-/// An operation whose inputs are turned as a descriptor's flags say.
-fn turned(desc: Desc, operation: Known<'_>) -> Known<'_>
-    ensures { operation_in result ≡ turned turned_signature desc (operation_in operation.entry) }
+/// An operation whose inputs are transposed as a descriptor's flags say.
+fn transposed(desc: Desc, operation: Known<'_>) -> Known<'_>
+    ensures { operation_in result ≡ transposed transposed_signature desc (operation_in operation.entry) }
 {
     match operation {
         Known::Fill { value, region } => Known::Fill { value, region },
         Known::OfOne { computes, a } => Known::OfOne {
             computes,
-            a: turned_if(computes.is_turned(desc), a),
+            a: transposed_if(computes.is_transposed(desc), a),
         },
         Known::OfTwo { computes, a, b } => Known::OfTwo {
             computes,
-            a: turned_if(desc.turn_first, a),
-            b: turned_if(desc.turn_second, b),
+            a: transposed_if(desc.transpose_first, a),
+            b: transposed_if(desc.transpose_second, b),
         },
     }
 }
 
-fn turned_if(flag: bool, signature: Signature) -> Signature
-    ensures { result ≡ turned_if turned_signature flag signature }
+fn transposed_if(flag: bool, signature: Signature) -> Signature
+    ensures { result ≡ transposed_if transposed_signature flag signature }
 {
     if !flag {
         return signature;
     }
     Signature {
         domain: signature.domain,
-        shape: signature.shape.turned(),
+        shape: signature.shape.transposed(),
     }
 }

@@ -16,7 +16,7 @@ pub enum Step<'a> {
     /// A value at each position of a region of the output.
     Fill { value: i128, region: &'a Region },
     /// The product of two factors over a semiring.
-    Multiply { form: Form, ring: Semiring },
+    Multiply { form: Form, semiring: Semiring },
     /// An operator's answers for two inputs, position by position.
     Combine { positions: Positions, op: BinaryOp },
     /// A function of each entry.
@@ -73,9 +73,9 @@ fn resolved_two<'a>(computes: TwoInputs) -> Option<Step<'a>>
         (λ step. (offers_two computes ≡ true) × (called step ≡ called_of_two computes)) }
 {
     match computes {
-        TwoInputs::Multiply { form, ring } => {
-            let ring = ring.resolve()?;
-            Some(Step::Multiply { form, ring })
+        TwoInputs::Multiply { form, semiring } => {
+            let semiring = semiring.resolve()?;
+            Some(Step::Multiply { form, semiring })
         }
         TwoInputs::Combine { positions, op } => {
             let op = op.resolve()?;

@@ -8,7 +8,7 @@ use Rattle.model.specs.declared.entry.Entry.{Entry}
 use Rattle.model.specs.Entries.{InOrder, Precedes, entry_at, word_at}
 use Rattle.store.specs.declared.lists.FiberEnd.{FiberEnd}
 use Rattle.store.specs.Fibers.{AreFlat, entries_from, placed}
-use Rattle.store.specs.Stored.{AreIn, along, turned}
+use Rattle.store.specs.Stored.{AreIn, along, transposed}
 use Rattle.store.proofs.Order.{all_pairs_map}
 use Rattle.elementwise.specs.Mapped.{as_they_lie, mapped}
 
@@ -28,23 +28,23 @@ word_at-mapped f [] i j = refl
 word_at-mapped f (e ∷ es) i j =
     ap (cond (eqb i e.row && eqb j e.col) (Some (f e.row e.col e.word))) (word_at-mapped f es i j) ∙ here_or_there f i j e (word_at es i j)
 
-turned-mapped : (f : ℕ → ℕ → ℕ → ℕ) (es : List Entry) → turned (mapped f es) ≡ mapped (λ i j. f j i) (turned es)
-turned-mapped f [] = refl
-turned-mapped f (e ∷ es) = ap (λ rest. entry_at e.col e.row (f e.row e.col e.word) ∷ rest) (turned-mapped f es)
+transposed-mapped : (f : ℕ → ℕ → ℕ → ℕ) (es : List Entry) → transposed (mapped f es) ≡ mapped (λ i j. f j i) (transposed es)
+transposed-mapped f [] = refl
+transposed-mapped f (e ∷ es) = ap (λ rest. entry_at e.col e.row (f e.row e.col e.word) ∷ rest) (transposed-mapped f es)
 
 -- a function of the row and the column, of entries as they lie
 pub along-mapped : (cols : ℕ) (f : ℕ → ℕ → ℕ → ℕ) (es : List Entry) → along cols (mapped (as_they_lie (eqb cols 1) f) es) ≡ mapped f (along cols es)
 along-mapped cols f es =
-    elim (eqb cols 1) as (λ b. cond b (turned (mapped (λ outer inner word. cond b (f inner outer word) (f outer inner word)) es)) (mapped (λ outer inner word. cond b (f inner outer word) (f outer inner word)) es) ≡ mapped f (cond b (turned es) es)) [
-      | true ↦ turned-mapped (λ outer inner word. f inner outer word) es
+    elim (eqb cols 1) as (λ b. cond b (transposed (mapped (λ outer inner word. cond b (f inner outer word) (f outer inner word)) es)) (mapped (λ outer inner word. cond b (f inner outer word) (f outer inner word)) es) ≡ mapped f (cond b (transposed es) es)) [
+      | true ↦ transposed-mapped (λ outer inner word. f inner outer word) es
       | false ↦ refl
     ]
 
 -- the same where a function of words alone makes them
 pub along-words : (cols : ℕ) (f : ℕ → ℕ) (es : List Entry) → along cols (mapped (λ _ _. f) es) ≡ mapped (λ _ _. f) (along cols es)
 along-words cols f es =
-    elim (eqb cols 1) as (λ b. cond b (turned (mapped (λ _ _. f) es)) (mapped (λ _ _. f) es) ≡ mapped (λ _ _. f) (cond b (turned es) es)) [
-      | true ↦ turned-mapped (λ _ _. f) es
+    elim (eqb cols 1) as (λ b. cond b (transposed (mapped (λ _ _. f) es)) (mapped (λ _ _. f) es) ≡ mapped (λ _ _. f) (cond b (transposed es) es)) [
+      | true ↦ transposed-mapped (λ _ _. f) es
       | false ↦ refl
     ]
 

@@ -20,7 +20,7 @@ use Rattle.model.specs.Object.{Content}
 use Rattle.store.specs.declared.lists.FiberLists.{FiberLists}
 use Rattle.store.specs.Parts.{HasPart}
 use Rattle.store.specs.Stored.{AreIn, along}
-use Rattle.store.proofs.Contents.{as_column, by_rows, word_at-turned}
+use Rattle.store.proofs.Contents.{as_column, by_rows, word_at-transposed}
 use Rattle.store.proofs.PartLaws.{LiesIn, are_in, lies_in}
 use Rattle.masks.specs.Joins.{HaveSamePlaces, beside}
 use Rattle.masks.proofs.SamePlaces.{beside_both}
@@ -119,7 +119,7 @@ met_none f (e ∷ es) b h =
 met_along : (f : ℕ → ℕ → ℕ) (cols : ℕ) (a b : List Entry) (i j : ℕ) → word_at (along cols (met f a b)) i j ≡ of_both f (word_at (along cols a) i j) (word_at (along cols b) i j)
 met_along f cols a b i j =
     elim (cases_Bool (eqb cols 1)) [
-      | inl one ↦ rw (as_column cols (met f a b) one, as_column cols a one, as_column cols b one) (word_at-turned (met f a b) i j ∙ met_words f a b j i ∙ rw (word_at-turned a i j, word_at-turned b i j) refl)
+      | inl one ↦ rw (as_column cols (met f a b) one, as_column cols a one, as_column cols b one) (word_at-transposed (met f a b) i j ∙ met_words f a b j i ∙ rw (word_at-transposed a i j, word_at-transposed b i j) refl)
       | inr many ↦ rw (by_rows cols (met f a b) many, by_rows cols a many, by_rows cols b many) (met_words f a b i j)
     ]
 
@@ -127,7 +127,7 @@ met_along f cols a b i j =
 pub beside_along : (f : ℕ → ℕ → ℕ) (cols : ℕ) (a b : List Entry) (i j : ℕ) → HaveSamePlaces a b → word_at (along cols (beside f a b)) i j ≡ of_both f (word_at (along cols a) i j) (word_at (along cols b) i j)
 beside_along f cols a b i j same =
     elim (cases_Bool (eqb cols 1)) [
-      | inl one ↦ rw (as_column cols (beside f a b) one, as_column cols a one, as_column cols b one) (word_at-turned (beside f a b) i j ∙ beside_both f a b j i same ∙ rw (word_at-turned a i j, word_at-turned b i j) refl)
+      | inl one ↦ rw (as_column cols (beside f a b) one, as_column cols a one, as_column cols b one) (word_at-transposed (beside f a b) i j ∙ beside_both f a b j i same ∙ rw (word_at-transposed a i j, word_at-transposed b i j) refl)
       | inr many ↦ rw (by_rows cols (beside f a b) many, by_rows cols a many, by_rows cols b many) (beside_both f a b i j same)
     ]
 

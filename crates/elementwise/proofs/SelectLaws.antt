@@ -8,7 +8,7 @@ use Rattle.std.proofs.lemmas.List.Elements.{All-weaker}
 use Rattle.model.specs.ElementWise.{kept_where}
 use Rattle.model.specs.declared.entry.Entry.{Entry}
 use Rattle.model.specs.Entries.{InOrder, Precedes, entry_at, word_at}
-use Rattle.store.specs.Stored.{along, turned}
+use Rattle.store.specs.Stored.{along, transposed}
 use Rattle.store.proofs.Order.{all_pairs_head, all_pairs_tail}
 use Rattle.store.proofs.Positions.{word_at-none}
 
@@ -46,20 +46,20 @@ word_at-filter test (e ∷ es) i j order =
       ]
     ]
 
-turned-filter : (test : ℕ → ℕ → ℕ → Bool) (es : List Entry) → turned (filter (λ e. test e.col e.row e.word) es) ≡ filter (λ e. test e.row e.col e.word) (turned es)
-turned-filter test [] = refl
-turned-filter test (e ∷ es) =
-    elim (test e.col e.row e.word) as (λ b. turned (cond b (e ∷ filter (λ e. test e.col e.row e.word) es) (filter (λ e. test e.col e.row e.word) es))
-    ≡ cond b (entry_at e.col e.row e.word ∷ filter (λ e. test e.row e.col e.word) (turned es)) (filter (λ e. test e.row e.col e.word) (turned es))) [
-      | true ↦ ap (λ rest. entry_at e.col e.row e.word ∷ rest) (turned-filter test es)
-      | false ↦ turned-filter test es
+transposed-filter : (test : ℕ → ℕ → ℕ → Bool) (es : List Entry) → transposed (filter (λ e. test e.col e.row e.word) es) ≡ filter (λ e. test e.row e.col e.word) (transposed es)
+transposed-filter test [] = refl
+transposed-filter test (e ∷ es) =
+    elim (test e.col e.row e.word) as (λ b. transposed (cond b (e ∷ filter (λ e. test e.col e.row e.word) es) (filter (λ e. test e.col e.row e.word) es))
+    ≡ cond b (entry_at e.col e.row e.word ∷ filter (λ e. test e.row e.col e.word) (transposed es)) (filter (λ e. test e.row e.col e.word) (transposed es))) [
+      | true ↦ ap (λ rest. entry_at e.col e.row e.word ∷ rest) (transposed-filter test es)
+      | false ↦ transposed-filter test es
     ]
 
 -- a test of rows and columns, of entries as they lie
 pub along-filter : (cols : ℕ) (test : ℕ → ℕ → ℕ → Bool) (es : List Entry)
     → along cols (filter (λ e. cond (eqb cols 1) (test e.col e.row e.word) (test e.row e.col e.word)) es) ≡ filter (λ e. test e.row e.col e.word) (along cols es)
 along-filter cols test es =
-    elim (eqb cols 1) as (λ b. cond b (turned (filter (λ (e : Entry). cond b (test e.col e.row e.word) (test e.row e.col e.word)) es)) (filter (λ (e : Entry). cond b (test e.col e.row e.word) (test e.row e.col e.word)) es) ≡ filter (λ (e : Entry). test e.row e.col e.word) (cond b (turned es) es)) [
-      | true ↦ turned-filter test es
+    elim (eqb cols 1) as (λ b. cond b (transposed (filter (λ (e : Entry). cond b (test e.col e.row e.word) (test e.row e.col e.word)) es)) (filter (λ (e : Entry). cond b (test e.col e.row e.word) (test e.row e.col e.word)) es) ≡ filter (λ (e : Entry). test e.row e.col e.word) (cond b (transposed es) es)) [
+      | true ↦ transposed-filter test es
       | false ↦ refl
     ]

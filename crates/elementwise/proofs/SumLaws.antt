@@ -18,11 +18,11 @@ use Rattle.model.specs.Object.{Content}
 use Rattle.model.specs.Reductions.{row_words}
 use Rattle.store.specs.declared.lists.FiberEnd.{FiberEnd}
 use Rattle.store.specs.Fibers.{AreFlat, entries_along, entries_from, outers}
-use Rattle.store.specs.Stored.{AreIn, turned}
+use Rattle.store.specs.Stored.{AreIn, transposed}
 use Rattle.store.specs.Walks.{entries_down}
 use Rattle.store.proofs.CloseLaws.{close_fiber, closed}
 use Rattle.store.proofs.Content.{nothing_outside}
-use Rattle.store.proofs.Contents.{turned_along}
+use Rattle.store.proofs.Contents.{transposed_along}
 use Rattle.store.proofs.FlatLaws.{all_rows, flat_none}
 use Rattle.store.proofs.Order.{all_append_left, all_append_right, all_pairs_map}
 use Rattle.store.proofs.Positions.{filter_none, filter_whole}
@@ -119,8 +119,8 @@ down_in first past (r ∷ rows) (w ∷ sums) h =
 -- lists are the column of the sums of rows with these entries
 pub record IsSumColumn (monoid : Monoid) (es : List Entry) (ends : List FiberEnd) (rows sums : List ℕ) : Type 0 where
   pub flat : AreFlat ends rows sums
-  pub inside : (first past : ℕ) → All (λ e. (first ≤ e.row) × (e.row < past)) es → AreIn first past 1 (turned (entries_from 0 ends rows sums))
-  pub words : (i j : ℕ) → word_at (turned (entries_from 0 ends rows sums)) i j ≡ cond (eqb j 0) (row_sum monoid i es) None
+  pub inside : (first past : ℕ) → All (λ e. (first ≤ e.row) × (e.row < past)) es → AreIn first past 1 (transposed (entries_from 0 ends rows sums))
+  pub words : (i j : ℕ) → word_at (transposed (entries_from 0 ends rows sums)) i j ≡ cond (eqb j 0) (row_sum monoid i es) None
 
 pub sum_column : (monoid : Monoid) (from : ℕ) (ends : List FiberEnd) (inner words : List ℕ) (made : List FiberEnd) (rows sums : List ℕ) → AreFilled from ends inner words
     → rows ≡ map (λ (r : FiberEnd). r.outer) ends → sums ≡ sums_of monoid.kind monoid.op.domain from ends words → made ≡ closed [] 0 (length rows)
@@ -131,7 +131,7 @@ sum_column monoid from ends inner words made rows sums h rows_are sums_are made_
     let long : length sums ≡ length rows = rw (rows_are, sums_are) (length_sums monoid.kind monoid.op.domain from ends words ∙ sym (length-map ends (λ (r : FiberEnd). r.outer))) in
     let rising : AllPairs (λ a b. a < b) rows = rw rows_are (all_pairs_map (λ a b. a < b) (λ (r : FiberEnd). r.outer) ends h.apart) in
     let one = close_fiber [] [] [] 0 rows sums flat_none (All-nil (λ (r : FiberEnd). r.outer < 0)) long rising in
-    let down : turned (entries_from 0 made rows sums) ≡ entries_down rows sums = ap (λ es. turned (entries_from 0 es rows sums)) made_is ∙ ap turned one.entries ∙ turned_along rows sums in
+    let down : transposed (entries_from 0 made rows sums) ≡ entries_down rows sums = ap (λ es. transposed (entries_from 0 es rows sums)) made_is ∙ ap transposed one.entries ∙ transposed_along rows sums in
     record {
       flat = rw made_is one.flat;
       inside = λ first past all. rw down (down_in first past rows sums (rw rows_are (All-map (λ o. (first ≤ o) × (o < past)) (λ (r : FiberEnd). r.outer) ends (outers_hold (λ o. (first ≤ o) × (o < past)) from ends inner words h all))));
@@ -148,12 +148,12 @@ one_word monoid None = refl
 one_word monoid (Some w) = refl
 
 -- the sum of a row of one column is that of its one word
-pub column_sum_is : (monoid : Monoid) (rows : ℕ) (c : Content) (i j : ℕ) (es : List Entry) → IsInside rows 1 (turned es) → ((k : ℕ) → word_at (turned es) i k ≡ c i k)
-    → option_map (eval_of (combines_by monoid.kind) monoid.op.domain (identity_of monoid.kind monoid.op.domain)) (word_at (turned es) i j) ≡ cond (eqb j 0) (folded monoid (row_words 1 c i)) None
+pub column_sum_is : (monoid : Monoid) (rows : ℕ) (c : Content) (i j : ℕ) (es : List Entry) → IsInside rows 1 (transposed es) → ((k : ℕ) → word_at (transposed es) i k ≡ c i k)
+    → option_map (eval_of (combines_by monoid.kind) monoid.op.domain (identity_of monoid.kind monoid.op.domain)) (word_at (transposed es) i j) ≡ cond (eqb j 0) (folded monoid (row_words 1 c i)) None
 unfolding count_from
 column_sum_is monoid rows c i j es inside words =
     let f = eval_of (combines_by monoid.kind) monoid.op.domain (identity_of monoid.kind monoid.op.domain) in
     elim (cases_eq j 0) [
-      | inl first ↦ rw (eq-eqb j 0 first) (ap (λ k. option_map f (word_at (turned es) i k)) first ∙ ap (option_map f) (words 0) ∙ one_word monoid (c i 0))
-      | inr other ↦ rw (ne_eqb j 0 other) (ap (option_map f) (nothing_outside rows 1 (turned es) i j inside (grind (arith, nat_tests))))
+      | inl first ↦ rw (eq-eqb j 0 first) (ap (λ k. option_map f (word_at (transposed es) i k)) first ∙ ap (option_map f) (words 0) ∙ one_word monoid (c i 0))
+      | inr other ↦ rw (ne_eqb j 0 other) (ap (option_map f) (nothing_outside rows 1 (transposed es) i j inside (grind (arith, nat_tests))))
     ]

@@ -6,7 +6,7 @@ ghost use Rattle.lanes.specs.Lists.{fold_of};
 ghost use Rattle.model.specs.Reductions.{all_words, row_words};
 ghost use Rattle.std.specs.List.{All};
 ghost use Rattle.store.specs.Fibers.{AreFlat, entries_in};
-ghost use Rattle.store.specs.Stored.{AreIn, block_content, content_of, turned};
+ghost use Rattle.store.specs.Stored.{AreIn, block_content, content_of, transposed};
 ghost use Rattle.store.specs.Walks.{AreLeft};
 
 use crate::mapping::{WordFunction, map_fibers};
@@ -51,8 +51,8 @@ fn sum_fibers(alloc: Global, monoid: Monoid, fibers: &Fibers<'_>) -> Result<Fibe
     ensures flat { IfOk result (λ lists. AreFlat lists.ends.items lists.inner.items lists.words.items) }
     ensures inside { IfOk result (λ lists. (first past : ℕ)
         → All (λ e. (first ≤ e.row) × (e.row < past)) fibers.now.entries
-        → AreIn first past 1 (turned (entries_in lists))) }
-    ensures sums { IfOk result (λ lists. (i j : ℕ) → word_at (turned (entries_in lists)) i j
+        → AreIn first past 1 (transposed (entries_in lists))) }
+    ensures sums { IfOk result (λ lists. (i j : ℕ) → word_at (transposed (entries_in lists)) i j
         ≡ (if j == 0 then row_sum monoid i fibers.now.entries else None)) }
 {
     let flat = fibers.flat();

@@ -16,7 +16,7 @@ use Rattle.calls.specs.declared.step.Step.{Step}
 use Rattle.calls.specs.Steps.{called}
 use Rattle.kernel.specs.Evaluated.{AreInputs, AreStraight, computed, computed_in, is_written_in, object_in, output_of, plan_in}
 use Rattle.kernel.specs.Straight.{IsStraight}
-use Rattle.kernel.proofs.StraightLaws.{turned-none, written-renamed}
+use Rattle.kernel.proofs.StraightLaws.{transposed-none, written-renamed}
 use Rattle.model.specs.declared.call.Operation.{Operation}
 use Rattle.model.specs.declared.call.Operation.TheVariants.{Fill, OfOne, OfTwo}
 use Rattle.model.specs.declared.call.Out.{Out}
@@ -25,7 +25,7 @@ use Rattle.model.specs.declared.shape.Signature.{Signature}
 use Rattle.model.specs.declared.limits.TheConstants.{MOST_FILLED}
 use Rattle.model.specs.Fault.{accumulates, operation_fault}
 use Rattle.model.specs.Fault as fault
-use Rattle.model.specs.Object.{AreWordsOf, IsObject, Object, cast_content, cols_of, rows_of, same_shape, signature_of, turned_object, turned_signature}
+use Rattle.model.specs.Object.{AreWordsOf, IsObject, Object, cast_content, cols_of, rows_of, same_shape, signature_of, transposed_object, transposed_signature}
 use Rattle.model.specs.Operations.{is_written_by, operation}
 use Rattle.model.specs.Renamed.{inputs_of, renamed_operation, renamed_out}
 use Rattle.model.specs.Table.{filled_by, is_offered, plan_of}
@@ -43,13 +43,13 @@ offered_as f g (Fill value region) = refl
 offered_as f g (OfOne computes a) = refl
 offered_as f g (OfTwo computes a b) = refl
 
--- what the table says of the operation of a recipe that turns no input
+-- what the table says of the operation of a recipe that transposes no input
 pub recipe-plan : (recipe : Recipe) → IsStraight recipe.out.desc → let out = renamed_out (role_of recipe.signatures) recipe.out in
     let op = renamed_operation (role_of recipe.signatures) (called recipe.step) in fault.plan_in out.c out.desc op ≡ plan_of out.c op
 recipe-plan recipe straight =
     let out = renamed_out (role_of recipe.signatures) recipe.out in
     let op = renamed_operation (role_of recipe.signatures) (called recipe.step) in
-    ap (plan_of out.c) (turned-none turned_signature out.desc op straight)
+    ap (plan_of out.c) (transposed-none transposed_signature out.desc op straight)
 
 -- what an accepted operation says of its inputs and its output
 pub record Accepts (plan : Plan) (c : Signature) : Type 0 where
@@ -105,7 +105,7 @@ recipe-accumulator recipe op is =
     (and_parts (offers op.kind op.domain) (same_domain op.domain out.c.domain)
     (and_parts (offers op.kind op.domain && same_domain op.domain out.c.domain) (same_domain (answer_domain op.kind op.domain) out.c.domain) passes).0).0
 
--- what a recipe means that turns no input is what its operation computes, written back
+-- what a recipe means that transposes no input is what its operation computes, written back
 pub recipe-means : (recipe : Recipe) (stored : Role → Stored) → IsStraight recipe.out.desc → (i j : ℕ)
     → meaning recipe (object_in recipe stored) i j
     ≡ masked (renamed_out (object_in recipe stored) recipe.out) (landed (renamed_out (object_in recipe stored) recipe.out) (is_written_in recipe) (computed_in recipe (object_in recipe stored))) i j
@@ -117,9 +117,9 @@ recipe-means recipe stored straight i j =
     let op = called recipe.step in
     let result = renamed_operation object op in
     ap (λ (p : Operation Object). masked out (landed out (is_written_by c.shape result) (cast_content (fault.plan_in c out.desc (renamed_operation signature_of result)).domain c.domain (operation c p))) i j)
-    (turned-none turned_object out.desc result straight)
+    (transposed-none transposed_object out.desc result straight)
     ∙ ap (λ (p : Operation Signature). masked out (landed out (is_written_by c.shape result) (cast_content (plan_of c p).domain c.domain (operation c result))) i j)
-    (turned-none turned_signature out.desc (renamed_operation signature_of result) straight ∙ operation_twice object signature_of op)
+    (transposed-none transposed_signature out.desc (renamed_operation signature_of result) straight ∙ operation_twice object signature_of op)
     ∙ (λ t. masked out (landed out (λ p q. written-renamed c.shape object op p q t) (computed_in recipe object)) i j)
 
 -- ---- what a recipe leaves is an object

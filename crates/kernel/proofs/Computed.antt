@@ -10,7 +10,7 @@ use Rattle.algebra.specs.declared.monoid.Monoid.{Monoid}
 use Rattle.algebra.specs.declared.semiring.Semiring.{Semiring}
 use Rattle.algebra.specs.Functions.{function_named}
 use Rattle.algebra.specs.IndexOperators.{scalar_domain}
-use Rattle.algebra.specs.OperatorNames.{index_named, op_named, ring_named}
+use Rattle.algebra.specs.OperatorNames.{index_named, op_named, semiring_named}
 use Rattle.algebra.specs.Monoids.{sum_of}
 use Rattle.algebra.specs.Operators.{combines_by, eval_of, offers}
 use Rattle.algebra.specs.Value.{IsWordOf, are_compatible, cast_of, word_of}
@@ -56,23 +56,23 @@ module _ (recipe : Recipe) (stored : Role → Stored) (are : AreStraight recipe 
   shaped : (r : Role) → IsShaped (stored r) (signature r).shape
   shaped r = record { rows = are.rows r; cols = are.cols r }
 
-  module _ (form : Form) (ring : Semiring) (is : recipe.step ≡ Multiply form ring) where
+  module _ (form : Form) (semiring : Semiring) (is : recipe.step ≡ Multiply form semiring) where
     pub factors-fit : FitTogether form (stored role.First) (stored role.Second) (output_of recipe).shape
     factors-fit =
-        let accepts = step-accepts recipe (Multiply form ring) are.desc is in
+        let accepts = step-accepts recipe (Multiply form semiring) are.desc is in
         fit_together form (stored role.First) (stored role.Second) (signature role.First).shape (signature role.Second).shape (output_of recipe).shape
         (shaped role.First) (shaped role.Second) accepts.kinds (eqb-true _ _ accepts.fits) accepts.shape
 
-    pub product-computed : (i j : ℕ) → multiplied form (ring_named ring) (inner_of form (stored role.First)) (content_of (stored role.First)) (content_of (stored role.Second)) i j
+    pub product-computed : (i j : ℕ) → multiplied form (semiring_named semiring) (inner_of form (stored role.First)) (content_of (stored role.First)) (content_of (stored role.Second)) i j
         ≡ computed recipe object i j
     unfolding operation
     product-computed i j =
-        let accepts = step-accepts recipe (Multiply form ring) are.desc is in
-        let name = ring_named ring in
+        let accepts = step-accepts recipe (Multiply form semiring) are.desc is in
+        let name = semiring_named semiring in
         let compatible = and_parts (are_compatible (signature role.First).domain name.domain) (are_compatible (signature role.Second).domain name.domain) accepts.compatible in
         ap (λ (n : ℕ). multiplied form name n (content_of (stored role.First)) (content_of (stored role.Second)) i j) (inner-shaped form (stored role.First) (signature role.First).shape (shaped role.First))
         ∙ sym (multiplied-stored form name _ (object role.First) (object role.Second) compatible.0 compatible.1 (are.objects role.First).words (are.objects role.Second).words i j)
-        ∙ of_step recipe (Multiply form ring) object is i j
+        ∙ of_step recipe (Multiply form semiring) object is i j
 
   module _ (op : BinaryOp) where
     pub same_cols : (positions : Positions) → recipe.step ≡ Combine positions op → (stored role.First).cols ≡ (stored role.Second).cols

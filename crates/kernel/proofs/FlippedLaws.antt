@@ -11,13 +11,13 @@ use Rattle.std.proofs.lemmas.Nat as bits
 use Rattle.algebra.specs.declared.domain.Domain.{Domain}
 use Rattle.algebra.specs.declared.kinds.BinaryKind.{BinaryKind}
 use Rattle.algebra.specs.declared.kinds.BinaryKind.TheVariants as binary
-use Rattle.algebra.specs.declared.operator_names.RingName.{RingName}
+use Rattle.algebra.specs.declared.operator_names.SemiringName.{SemiringName}
 use Rattle.algebra.specs.Monoids as monoids
 use Rattle.algebra.specs.Operators.{answer_domain, combines_by, eval_of, formula, int_equal, offers, offers_semiring, truth}
 use Rattle.algebra.specs.Value.{residue, value_of, word_of}
 use Rattle.kernel.specs.Flipped.{flipped_kind, multiplying_by}
 use Rattle.model.specs.Entries.{below}
-use Rattle.model.specs.Object.{Content, turned_content}
+use Rattle.model.specs.Object.{Content, transposed_content}
 use Rattle.model.specs.Product.{product, product_of, sum_domain, sum_of, terms}
 
 -- ---- operators
@@ -76,30 +76,30 @@ flipped-word kind flipped is d x y =
 
 -- ---- products
 
-module _ (ring : RingName) (kind : BinaryKind) (is : flipped_kind ring.multiply ≡ Some kind) where
-  abbrev flipped : RingName
-  flipped = multiplying_by ring kind
+module _ (semiring : SemiringName) (kind : BinaryKind) (is : flipped_kind semiring.multiply ≡ Some kind) where
+  abbrev flipped : SemiringName
+  flipped = multiplying_by semiring kind
 
   -- the sums are of one domain
-  pub flipped-domain : sum_domain flipped ≡ sum_domain ring
-  flipped-domain = (flipped-kind ring.multiply kind is).answer ring.domain
+  pub flipped-domain : sum_domain flipped ≡ sum_domain semiring
+  flipped-domain = (flipped-kind semiring.multiply kind is).answer semiring.domain
 
   -- it is there where the other is
-  pub flipped-offered : offers_semiring flipped.add flipped.multiply flipped.domain ≡ offers_semiring ring.add ring.multiply ring.domain
-  flipped-offered = λ t. (flipped-kind ring.multiply kind is).offered ring.domain t && offers (combines_by ring.add) (flipped-domain t)
+  pub flipped-offered : offers_semiring flipped.add flipped.multiply flipped.domain ≡ offers_semiring semiring.add semiring.multiply semiring.domain
+  flipped-offered = λ t. (flipped-kind semiring.multiply kind is).offered semiring.domain t && offers (combines_by semiring.add) (flipped-domain t)
 
-  factors_exchanged : (a b : Option ℕ) → product_of ring a b ≡ product_of flipped b a
+  factors_exchanged : (a b : Option ℕ) → product_of semiring a b ≡ product_of flipped b a
   factors_exchanged None None = refl
   factors_exchanged None (Some y) = refl
   factors_exchanged (Some x) None = refl
-  factors_exchanged (Some x) (Some y) = ap Some (sym (flipped-word ring.multiply kind is ring.domain y x))
+  factors_exchanged (Some x) (Some y) = ap Some (sym (flipped-word semiring.multiply kind is semiring.domain y x))
 
-  terms_exchanged : (n : ℕ) (a b : Content) (i j : ℕ) → terms ring n a b i j ≡ terms flipped n (turned_content b) (turned_content a) j i
+  terms_exchanged : (n : ℕ) (a b : Content) (i j : ℕ) → terms semiring n a b i j ≡ terms flipped n (transposed_content b) (transposed_content a) j i
   terms_exchanged n a b i j = λ t. filter_map (λ k. factors_exchanged (a i k) (b k j) t) (below n)
 
-  -- the product turned is the product of the turned factors in exchanged order
-  pub product-flipped : (n : ℕ) (a b : Content) (i j : ℕ) → product ring n a b i j ≡ product flipped n (turned_content b) (turned_content a) j i
+  -- the product transposed is the product of the transposed factors in exchanged order
+  pub product-flipped : (n : ℕ) (a b : Content) (i j : ℕ) → product semiring n a b i j ≡ product flipped n (transposed_content b) (transposed_content a) j i
   unfolding product
   product-flipped n a b i j =
-      ap (sum_of ring) (terms_exchanged n a b i j)
-      ∙ ap (λ (d : Domain). monoids.sum_of ring.add d (terms flipped n (turned_content b) (turned_content a) j i)) (sym flipped-domain)
+      ap (sum_of semiring) (terms_exchanged n a b i j)
+      ∙ ap (λ (d : Domain). monoids.sum_of semiring.add d (terms flipped n (transposed_content b) (transposed_content a) j i)) (sym flipped-domain)

@@ -14,16 +14,16 @@ use Rattle.model.specs.declared.shape.Shape.{Shape}
 use Rattle.model.specs.declared.shape.Shape.TheVariants.{One, Two}
 use Rattle.model.specs.declared.shape.Signature.{Signature}
 use Rattle.model.specs.Indices.{are_below, are_distinct, count_of}
-use Rattle.model.specs.Object.{Object, cols_of, is_matrix, rows_of, turned_content, turned_shape}
+use Rattle.model.specs.Object.{Object, cols_of, is_matrix, rows_of, transposed_content, transposed_shape}
 use Rattle.model.specs.Operations.{operation}
 use Rattle.model.specs.Regions.{cols_in, extracted, filled, is_region_of, placed, rows_in, shape_in}
 use Rattle.model.proofs.ObjectLaws.{same_shape-rows}
 use Rattle.model.proofs.RegionLaws.{shape_in-counts}
 use Rattle.store.specs.Stored.{Stored, content_of}
 
-turned_sizes : (shape : Shape) → is_matrix shape ≡ true → (rows_of (turned_shape shape) ≡ cols_of shape) × (cols_of (turned_shape shape) ≡ rows_of shape)
-turned_sizes (Two m n) is = (refl, refl)
-turned_sizes (One n) is = absurd (cc)
+transposed_sizes : (shape : Shape) → is_matrix shape ≡ true → (rows_of (transposed_shape shape) ≡ cols_of shape) × (cols_of (transposed_shape shape) ≡ rows_of shape)
+transposed_sizes (Two m n) is = (refl, refl)
+transposed_sizes (One n) is = absurd (cc)
 
 module _ (recipe : Recipe) (stored : Role → Stored) (are : AreStraight recipe stored) where
   abbrev object : Role → Object
@@ -55,11 +55,11 @@ module _ (recipe : Recipe) (stored : Role → Stored) (are : AreStraight recipe 
     pub transposed-sizes : (rows_of shape ≡ first.cols) × (first.rows ≡ cols_of shape)
     transposed-sizes =
         let accepts = step-accepts recipe Transpose are.desc is in
-        let same = same_shape-rows (turned_shape (signature role.First).shape) shape accepts.shape in
-        let sizes = turned_sizes (signature role.First).shape accepts.kinds in
+        let same = same_shape-rows (transposed_shape (signature role.First).shape) shape accepts.shape in
+        let sizes = transposed_sizes (signature role.First).shape accepts.kinds in
         (sym same.0 ∙ sizes.0 ∙ sym (are.cols role.First), are.rows role.First ∙ sym sizes.1 ∙ same.1)
 
-    pub transposed-computed : (i j : ℕ) → turned_content (content_of first) i j ≡ computed recipe object i j
+    pub transposed-computed : (i j : ℕ) → transposed_content (content_of first) i j ≡ computed recipe object i j
     unfolding operation
     transposed-computed i j = of_step recipe Transpose object is i j
 

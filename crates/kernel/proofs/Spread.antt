@@ -34,7 +34,7 @@ unfolding operation
 unwritten sig (Fill value region) object i j none = rw none refl
 unwritten sig (Assign region) object i j none =
     both_found _ (place_in (rows_of sig.shape) (rows_in region.now) i) (place_in (cols_of sig.shape) (cols_in region.now) j) none
-unwritten sig (Multiply form ring) object i j none = absurd (cc)
+unwritten sig (Multiply form semiring) object i j none = absurd (cc)
 unwritten sig (Combine positions op) object i j none = absurd (cc)
 unwritten sig (Apply function) object i j none = absurd (cc)
 unwritten sig (Select op scalar) object i j none = absurd (cc)
@@ -46,7 +46,7 @@ unwritten sig (Extract region) object i j none = absurd (cc)
 all_written : (shape : Shape) (s : Step) (i j : ℕ) → region_of s ≡ None → is_written_by shape (called s) i j ≡ true
 all_written shape (Fill value region) i j none = absurd (cc)
 all_written shape (Assign region) i j none = absurd (cc)
-all_written shape (Multiply form ring) i j none = refl
+all_written shape (Multiply form semiring) i j none = refl
 all_written shape (Combine positions op) i j none = refl
 all_written shape (Apply function) i j none = refl
 all_written shape (Select op scalar) i j none = refl
@@ -59,7 +59,7 @@ listed_written : (shape : Shape) (s : Step) (r : Region) (i j : ℕ) → region_
     → is_listed (rows_of shape) (cols_of shape) (rows_in r) (cols_in r) i j ≡ is_written_by shape (called s) i j
 listed_written shape (Fill value region) r i j is = let same : region.now ≡ r = cc in rw (← same) refl
 listed_written shape (Assign region) r i j is = let same : region.now ≡ r = cc in rw (← same) refl
-listed_written shape (Multiply form ring) r i j is = absurd (cc)
+listed_written shape (Multiply form semiring) r i j is = absurd (cc)
 listed_written shape (Combine positions op) r i j is = absurd (cc)
 listed_written shape (Apply function) r i j is = absurd (cc)
 listed_written shape (Select op scalar) r i j is = absurd (cc)
@@ -73,7 +73,7 @@ region_low recipe (Fill value region) r straight is some =
     let same : region.now ≡ r = cc in rw (← same) (and_parts _ _ (step-accepts recipe (Fill value region) straight is).inside)
 region_low recipe (Assign region) r straight is some =
     let same : region.now ≡ r = cc in rw (← same) (and_parts _ _ (step-accepts recipe (Assign region) straight is).inside)
-region_low recipe (Multiply form ring) r straight is some = absurd (cc)
+region_low recipe (Multiply form semiring) r straight is some = absurd (cc)
 region_low recipe (Combine positions op) r straight is some = absurd (cc)
 region_low recipe (Apply function) r straight is some = absurd (cc)
 region_low recipe (Select op scalar) r straight is some = absurd (cc)

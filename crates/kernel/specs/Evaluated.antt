@@ -31,14 +31,14 @@ pub record AreInputs (recipe : Recipe) (stored : Role → Stored) : Type 0 where
   pub cols : (role : Role) → (stored role).cols ≡ cols_of (role_of recipe.signatures role).shape
   pub objects : (role : Role) → IsObject (object_in recipe stored role)
 
--- ..and the recipe turns none of them
+-- ..and the recipe transposes none of them
 pub record AreStraight (recipe : Recipe) (stored : Role → Stored) : Type 0 where
   pub rows : (role : Role) → (stored role).rows ≡ rows_of (role_of recipe.signatures role).shape
   pub cols : (role : Role) → (stored role).cols ≡ cols_of (role_of recipe.signatures role).shape
   pub objects : (role : Role) → IsObject (object_in recipe stored role)
   pub desc : IsStraight recipe.out.desc
 
--- what the table says of the operation of a recipe that turns no input
+-- what the table says of the operation of a recipe that transposes no input
 abbrev pub plan_in : Recipe → Plan
 plan_in recipe = plan_of (output_of recipe) (renamed_operation (role_of recipe.signatures) (called recipe.step))
 

@@ -1,10 +1,10 @@
--- Products of a matrix that is turned and a vector, as products of the vector and the matrix itself.
+-- Products of a matrix that is transposed and a vector, as products of the vector and the matrix itself.
 use Rattle.std.specs.Prelude.{◌≡◌, if◌then◌else◌, Option, Some, None}
 use Rattle.std.specs.Option.{option_and_then, option_map}
 use Rattle.algebra.specs.declared.kinds.BinaryKind.{BinaryKind}
 use Rattle.algebra.specs.declared.kinds.BinaryKind.TheVariants as binary
-use Rattle.algebra.specs.declared.operator_names.RingName.{RingName}
-use Rattle.algebra.specs.OperatorNames.{ring_named}
+use Rattle.algebra.specs.declared.operator_names.SemiringName.{SemiringName}
+use Rattle.algebra.specs.OperatorNames.{semiring_named}
 use Rattle.calls.specs.declared.recipe.Recipe.{Recipe}
 use Rattle.calls.specs.declared.role.Role.{Role}
 use Rattle.calls.specs.declared.role.Roles.{Roles}
@@ -29,23 +29,24 @@ flipped_kind binary.Le = Some binary.Ge
 flipped_kind binary.Minus = None
 flipped_kind kind = Some kind
 
-abbrev pub multiplying_by : RingName → BinaryKind → RingName
-multiplying_by ring kind = record ring { multiply = kind }
+abbrev pub multiplying_by : SemiringName → BinaryKind → SemiringName
+multiplying_by semiring kind = record semiring { multiply = kind }
 
 -- the semiring whose operator takes its operands in exchanged order
-abbrev pub flipped_ring : RingName → Option RingName
-flipped_ring ring = option_map (multiplying_by ring) (flipped_kind ring.multiply)
+abbrev pub flipped_semiring : SemiringName → Option SemiringName
+flipped_semiring semiring = option_map (multiplying_by semiring) (flipped_kind semiring.multiply)
 
--- the form of the product of the factors in exchanged order, where the matrix is turned that a vector is multiplied by
+-- the form of the product of the factors in exchanged order, where the matrix is transposed that multiplies a vector
 abbrev pub flipped_form : Form → Desc → Option Form
 flipped_form MatrixMatrix desc = None
-flipped_form MatrixVector desc = if desc.turn_first then Some VectorMatrix else None
-flipped_form VectorMatrix desc = if desc.turn_second then Some MatrixVector else None
+flipped_form MatrixVector desc = if desc.transpose_first then Some VectorMatrix else None
+flipped_form VectorMatrix desc = if desc.transpose_second then Some MatrixVector else None
 
 -- the product of the factors in exchanged order
 abbrev pub flipped_product : Step → Desc → Option (Operation Role)
-flipped_product (step.Multiply form ring) desc = option_and_then
-    (λ other. option_map (λ flipped. called_of_two (Multiply other flipped)) (flipped_ring (ring_named ring)))
+flipped_product (step.Multiply form semiring) desc = option_and_then
+    (λ other. option_map (λ flipped. called_of_two (Multiply other flipped))
+    (flipped_semiring (semiring_named semiring)))
     (flipped_form form desc)
 flipped_product _ desc = None
 
@@ -53,7 +54,7 @@ flipped_product _ desc = None
 abbrev pub exchanged : {T : Type 0} → Roles T → Roles T
 exchanged roles = record { old = roles.old; mask = roles.mask; first = roles.second; second = roles.first }
 
--- the recipe of the product of the factors in exchanged order, of which none is turned
+-- the recipe of the product of the factors in exchanged order, of which none is transposed
 pub record IsFlipped (recipe flipped : Recipe) : Type 0 where
   pub out : flipped.out ≡ straight_out recipe.out
   pub product : flipped_product recipe.step recipe.out.desc ≡ Some (called flipped.step)

@@ -4,4 +4,4 @@ pub mod Factors
 pub mod Flipped
 pub mod Regions
 pub mod Straight
-pub mod Turned
+pub mod Transposed

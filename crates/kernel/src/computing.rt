@@ -110,7 +110,9 @@ fn step_rows(
         Step::Fill { value, region } => {
             filled_rows(alloc, c.shape, region, c.domain.wrapped(value), range)
         }
-        Step::Multiply { form, ring } => multiplied_rows(alloc, form, ring, a, b, mask, range),
+        Step::Multiply { form, semiring } => multiplied_rows(
+            alloc, form, semiring, a, b, mask, range,
+        ),
         Step::Combine { positions, op } => match positions {
             Positions::Union => union_rows(alloc, a, b, op, range),
             Positions::Intersection => intersect_rows(alloc, a, b, op, range),
@@ -132,7 +134,7 @@ fn answer_of(recipe: &Recipe<'_>) -> Domain
     ensures { result ≡ (plan_in recipe.now).domain }
 {
     match recipe.step {
-        Step::Multiply { ring, .. } => ring.add.op.domain,
+        Step::Multiply { semiring, .. } => semiring.add.op.domain,
         Step::Combine { op, .. } => op.answer(),
         Step::Apply(function) => function.answer(),
         Step::Select { .. } => recipe.signatures.first.domain,

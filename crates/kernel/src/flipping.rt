@@ -1,33 +1,34 @@
-//! Products of a matrix that is turned and a vector, as products of the vector and the matrix itself: they
+//! Products of a matrix that is transposed and a vector, as products of the vector and the matrix itself: they
 //! need no transpose.
 ghost use Rattle.std.specs.Prelude.{◌≡◌, MatchOption, None};
 ghost use Rattle.std.specs.Option.{option_map};
-ghost use Rattle.algebra.specs.OperatorNames.{ring_named};
-ghost use Rattle.kernel.specs.Flipped.{IsFlipped, exchanged, flipped_form, flipped_kind, flipped_product, flipped_ring};
+ghost use Rattle.algebra.specs.OperatorNames.{semiring_named};
+ghost use Rattle.kernel.specs.Flipped.{IsFlipped, exchanged, flipped_form, flipped_kind, flipped_product};
+ghost use Rattle.kernel.specs.Flipped.{flipped_semiring};
 
 use algebra::{BinaryKind, BinaryOp, Semiring};
 use calls::{Desc, Out, Recipe, Roles, Step};
 use model::Form;
 
-/// The recipe of the same product with its factors in exchanged order, of which none is turned. None where
-/// a recipe turns no matrix that it multiplies by a vector, or where its operator has no partner.
+/// The recipe of the same product with its factors in exchanged order, of which none is transposed. None where
+/// a recipe transposes no matrix that it multiplies by a vector, or where its operator has no partner.
 pub(crate) fn flipped<'a>(recipe: &Recipe<'a>) -> Option<Recipe<'a>>
     ensures { MatchOption result (flipped_product recipe.now.step recipe.now.out.desc ≡ None)
         (IsFlipped recipe.now) }
 {
-    let Step::Multiply { form, ring } = recipe.step else {
+    let Step::Multiply { form, semiring } = recipe.step else {
         return None;
     };
     let form = flipped_form(form, recipe.out.desc)?;
-    let ring = flipped_ring(ring)?;
+    let semiring = flipped_semiring(semiring)?;
     let desc = Desc {
-        turn_first: false,
-        turn_second: false,
+        transpose_first: false,
+        transpose_second: false,
         ..recipe.out.desc
     };
     Some(Recipe {
         out: Out { desc, ..recipe.out },
-        step: Step::Multiply { form, ring },
+        step: Step::Multiply { form, semiring },
         signatures: exchanged(&recipe.signatures),
     })
 }
@@ -44,26 +45,26 @@ pub(crate) fn exchanged<T: Copy>(roles: &Roles<T>) -> Roles<T>
     }
 }
 
-/// The form of the product of the factors in exchanged order, where a descriptor turns the matrix that a
+/// The form of the product of the factors in exchanged order, where a descriptor transposes the matrix that a
 /// vector is multiplied by.
 fn flipped_form(form: Form, desc: Desc) -> Option<Form>
     ensures { result ≡ flipped_form form desc }
 {
     match form {
-        Form::MatrixVector if desc.turn_first => Some(Form::VectorMatrix),
-        Form::VectorMatrix if desc.turn_second => Some(Form::MatrixVector),
+        Form::MatrixVector if desc.transpose_first => Some(Form::VectorMatrix),
+        Form::VectorMatrix if desc.transpose_second => Some(Form::MatrixVector),
         _ => None,
     }
 }
 
 /// The semiring whose operator takes its operands in exchanged order, where there is one.
-fn flipped_ring(ring: Semiring) -> Option<Semiring>
-    ensures { option_map ring_named result ≡ flipped_ring (ring_named ring) }
+fn flipped_semiring(semiring: Semiring) -> Option<Semiring>
+    ensures { option_map semiring_named result ≡ flipped_semiring (semiring_named semiring) }
 {
-    let kind = flipped_kind(ring.multiply.kind)?;
+    let kind = flipped_kind(semiring.multiply.kind)?;
     Some(Semiring {
-        add: ring.add,
-        multiply: BinaryOp::of(kind, ring.multiply.domain),
+        add: semiring.add,
+        multiply: BinaryOp::of(kind, semiring.multiply.domain),
     })
 }
 

@@ -7,6 +7,6 @@ mod moving;
 mod output;
 mod piece;
 mod product;
-mod turning;
+mod transposing;
 
 pub use piece::{eval_piece, join};

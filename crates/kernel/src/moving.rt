@@ -2,7 +2,7 @@
 ghost use Rattle.std.specs.Prelude.{◌≡◌, ◌<◌, ◌≤◌, ℕ, IfOk, true};
 ghost use Rattle.kernel.specs.Blocks.{HasRows};
 ghost use Rattle.model.specs.Indices.{are_below, are_distinct, count_of};
-ghost use Rattle.model.specs.Object.{cols_of, rows_of, turned_content};
+ghost use Rattle.model.specs.Object.{cols_of, rows_of, transposed_content};
 ghost use Rattle.model.specs.Regions.{cols_in, extracted, filled, placed, rows_in};
 ghost use Rattle.store.specs.Stored.{content_of};
 
@@ -21,7 +21,7 @@ pub(crate) fn transposed_rows(
 ) -> Result<RowBlock, NoMemory>
     requires range { range.start ≤ range.end }
     requires rows { range.end ≤ a.now.cols }
-    ensures { IfOk result (HasRows range.start range.end a.now.rows (turned_content (content_of a.now))) }
+    ensures { IfOk result (HasRows range.start range.end a.now.rows (transposed_content (content_of a.now))) }
 {
     let t = transpose(alloc, a)?;
     if range.start == 0 && range.end == t.rows() {

@@ -9,7 +9,9 @@ ghost use Rattle.store.specs.Stored.{block_content, content_of};
 use crate::computing::computed_rows;
 use crate::flipping::{exchanged, flipped};
 use crate::output::{accumulator_of, mask_of};
-use crate::turning::{lent, straightened, turned_input, turns_first, turns_second};
+use crate::transposing::{
+    lent, straightened, transposed_input, transposes_first, transposes_second,
+};
 use calls::{Recipe, Roles};
 use masks::write_back;
 use model::NoMemory;
@@ -38,12 +40,12 @@ pub fn eval_piece(
 {
     match flipped(recipe) {
         Some(recipe) => eval_straight(alloc, &recipe, &exchanged(stores), range),
-        None => eval_turned(alloc, recipe, stores, range),
+        None => eval_transposed(alloc, recipe, stores, range),
     }
 }
 
-/// The same, where inputs are turned first that the recipe turns.
-fn eval_turned(
+/// The same, where inputs are transposed first that the recipe transposes.
+fn eval_transposed(
     alloc: Global,
     recipe: &Recipe<'_>,
     stores: &Roles<&Store>,
@@ -60,8 +62,13 @@ fn eval_turned(
         (object_in recipe.now (λ role. (role_of stores.now role).now)) i j) }
 {
     let Roles { first, second, .. } = recipe.signatures;
-    let first = turned_input(alloc, stores.first, first.shape, turns_first(recipe))?;
-    let second = turned_input(alloc, stores.second, second.shape, turns_second(recipe))?;
+    let first = transposed_input(alloc, stores.first, first.shape, transposes_first(recipe))?;
+    let second = transposed_input(
+        alloc,
+        stores.second,
+        second.shape,
+        transposes_second(recipe),
+    )?;
     let stores = Roles {
         old: stores.old,
         mask: stores.mask,
@@ -71,7 +78,7 @@ fn eval_turned(
     eval_straight(alloc, &straightened(recipe), &stores, range)
 }
 
-/// The same for a recipe whose inputs are turned already.
+/// The same for a recipe whose inputs are transposed already.
 fn eval_straight(
     alloc: Global,
     recipe: &Recipe<'_>,

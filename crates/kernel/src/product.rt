@@ -1,6 +1,6 @@
 //! Rows of products, by their form.
 ghost use Rattle.std.specs.Prelude.{◌≡◌, ◌≤◌, IfOk};
-ghost use Rattle.algebra.specs.OperatorNames.{ring_named};
+ghost use Rattle.algebra.specs.OperatorNames.{semiring_named};
 ghost use Rattle.kernel.specs.Blocks.{HasRows, HasShape};
 ghost use Rattle.kernel.specs.Factors.{AreFactors, cols_of_product, inner_of, rows_of_product};
 ghost use Rattle.masks.specs.Writes.{inside_of};
@@ -19,7 +19,7 @@ use store::{RowBlock, Store};
 pub(crate) fn multiplied_rows(
     alloc: Global,
     form: Form,
-    ring: Semiring,
+    semiring: Semiring,
     a: &Store,
     b: &Store,
     mask: MaskView<'_>,
@@ -30,12 +30,12 @@ pub(crate) fn multiplied_rows(
     requires rows { range.end ≤ rows_of_product form a.now b.now }
     requires mask { HasShape (rows_of_product form a.now b.now) (cols_of_product form b.now) mask }
     ensures { IfOk result (HasRows range.start range.end (cols_of_product form b.now) (inside_of mask.entry
-        (multiplied form (ring_named ring) (inner_of form a.now) (content_of a.now) (content_of b.now)))) }
+        (multiplied form (semiring_named semiring) (inner_of form a.now) (content_of a.now) (content_of b.now)))) }
 {
     match form {
         Form::MatrixMatrix | Form::MatrixVector => {
-            multiply_rows_under(alloc, a, b, mask, ring, range)
+            multiply_rows_under(alloc, a, b, mask, semiring, range)
         }
-        Form::VectorMatrix => multiply_vector(alloc, a, b, mask, ring, range),
+        Form::VectorMatrix => multiply_vector(alloc, a, b, mask, semiring, range),
     }
 }

@@ -2,7 +2,7 @@
 use Rattle.std.proofs.Common.{◌≡◌, ℕ, ◌+◌, ◌≤◌, Bool, List, [], ◌∷◌, length, take, drop, Some, None, arith, nat_lt, ◌==◌, false, refl, inl, inr, ltb-false}
 use Rattle.std.proofs.lemmas.Bool.Decides.{nat_tests}
 use Rattle.std.specs.List.{position, position_or_len, slice_split, count_by}
-use Rattle.model.specs.Grammar.{ring_name_of, dotted_of}
+use Rattle.model.specs.Grammar.{semiring_name_of, dotted_of}
 use Rattle.std.proofs.lemmas.Bool.{ltb-true, cases_Bool}
 use Rattle.std.proofs.lemmas.Option.{cond_some}
 use Rattle.std.proofs.lemmas.List.Splits.{slice_split_first, slice_split_none, length-slice_split}
@@ -22,13 +22,13 @@ one_part p xs e = elim (cases_Bool (nat_lt (position_or_len p xs) (length xs))) 
 ]
 
 -- a word of four parts or more names no semiring
-pub ring_name_of-four_parts : (word rest last others first second third : List ℕ)
+pub semiring_name_of-four_parts : (word rest last others first second third : List ℕ)
     → slice_split (λ b. b == 46) word ≡ first ∷ slice_split (λ b. b == 46) rest
     → slice_split (λ b. b == 46) rest ≡ second ∷ slice_split (λ b. b == 46) last
     → slice_split (λ b. b == 46) last ≡ third ∷ slice_split (λ b. b == 46) others
-    → ring_name_of word ≡ None
-unfolding ring_name_of
-ring_name_of-four_parts word rest last others first second third e f g =
+    → semiring_name_of word ≡ None
+unfolding semiring_name_of
+semiring_name_of-four_parts word rest last others first second third e f g =
     let count : length (slice_split (λ b. b == 46) others) ≡ count_by (λ b. b == 46) others + 1 = length-slice_split (λ b. b == 46) others in
     let four : (length (slice_split (λ b. b == 46) word) == 3) ≡ false = rw (e, f, g) (grind (arith, nat_tests)) in
     rw four refl

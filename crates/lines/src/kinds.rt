@@ -3,12 +3,12 @@ ghost use Rattle.std.specs.Prelude.{◌≡◌, ◌==◌, ◌∷◌, [], ◌<◌,
 ghost use Rattle.std.specs.List.{position, slice_split};
 ghost use Rattle.std.specs.Option.{option_map};
 ghost use Rattle.model.specs.Grammar.{by_position_of, by_value_of, desc_of, dotted_of, flag_added, flags_added};
-ghost use Rattle.model.specs.Grammar.{index_name_of, monoid_name_of, op_name_of, ring_name_of, unary_name_of};
+ghost use Rattle.model.specs.Grammar.{index_name_of, monoid_name_of, op_name_of, semiring_name_of, unary_name_of};
 
 use crate::words;
 use algebra::{
-    BinaryKind, Domain, IndexKind, IndexName, MonoidKind, MonoidName, OpName, RingName, UnaryKind,
-    UnaryName,
+    BinaryKind, Domain, IndexKind, IndexName, MonoidKind, MonoidName, OpName, SemiringName,
+    UnaryKind, UnaryName,
 };
 use model::Desc;
 
@@ -32,9 +32,9 @@ pub(crate) fn cut(byte: u8, word: &[u8]) -> Option<(&[u8], &[u8])>
 }
 
 /// A word that names a semiring: a monoid, an operator and a domain, with points between them.
-#[tactic(auto, unfolding(model::specs::Grammar::ring_name_of))]
-pub fn ring_name(word: &[u8]) -> Option<RingName>
-    ensures { result ≡ ring_name_of word.now }
+#[tactic(auto, unfolding(model::specs::Grammar::semiring_name_of))]
+pub fn semiring_name(word: &[u8]) -> Option<SemiringName>
+    ensures { result ≡ semiring_name_of word.now }
 {
     let (add, rest) = cut(b'.', word)?;
     let (multiply, domain) = cut(b'.', rest)?;
@@ -44,7 +44,7 @@ pub fn ring_name(word: &[u8]) -> Option<RingName>
     let add = MonoidKind::from_name(add)?;
     let multiply = BinaryKind::from_name(multiply)?;
     let domain = words::domain(domain)?;
-    Some(RingName {
+    Some(SemiringName {
         add,
         multiply,
         domain,
@@ -149,12 +149,12 @@ fn flag_added(desc: Desc, word: &[u8]) -> Option<Desc>
             complement: true,
             ..desc
         }),
-        b"T0" if !desc.turn_first => Some(Desc {
-            turn_first: true,
+        b"T0" if !desc.transpose_first => Some(Desc {
+            transpose_first: true,
             ..desc
         }),
-        b"T1" if !desc.turn_second => Some(Desc {
-            turn_second: true,
+        b"T1" if !desc.transpose_second => Some(Desc {
+            transpose_second: true,
             ..desc
         }),
         _ => None,
@@ -180,8 +180,8 @@ pub fn desc(word: &[u8]) -> Option<Desc>
         replace: false,
         structure: false,
         complement: false,
-        turn_first: false,
-        turn_second: false,
+        transpose_first: false,
+        transpose_second: false,
     };
     if word == b"-".as_slice() {
         return Some(none);

@@ -60,7 +60,7 @@ fn out<'a>(words: &[&'a [u8]]) -> Option<Out<&'a str>>
     })
 }
 
-/// `RING A B`
+/// `SEMIRING A B`
 #[tactic(auto, unfolding(model::specs::Grammar::multiply_of))]
 fn multiply<'a>(form: Form, words: &[&'a [u8]]) -> Option<Operation<&'a str>>
     ensures { option_map (renamed_operation (λ name. name.now)) result
@@ -69,10 +69,10 @@ fn multiply<'a>(form: Form, words: &[&'a [u8]]) -> Option<Operation<&'a str>>
     if words.len() != 8 {
         return None;
     }
-    let ring = kinds::ring_name(words[4])?;
+    let semiring = kinds::semiring_name(words[4])?;
     let a = words::name(words[5])?;
     let b = words::name(words[6])?;
-    let computes = TwoInputs::Multiply { form, ring };
+    let computes = TwoInputs::Multiply { form, semiring };
     Some(Operation::OfTwo { computes, a, b })
 }
 

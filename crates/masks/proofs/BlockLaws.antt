@@ -7,7 +7,7 @@ use Rattle.std.proofs.lemmas.List.Elements.{All-filter}
 use Rattle.model.specs.declared.entry.Entry.{Entry}
 use Rattle.model.specs.Entries.{entry_at, word_at}
 use Rattle.store.specs.Stored.{AreIn, along}
-use Rattle.store.proofs.Contents.{as_column, by_rows, length_along, word_at-turned}
+use Rattle.store.proofs.Contents.{as_column, by_rows, length_along, word_at-transposed}
 use Rattle.store.proofs.PartLaws.{LiesIn, are_in, lies_in}
 use Rattle.masks.specs.declared.view.MaskView.{MaskView}
 use Rattle.masks.specs.Keeps.{kept_by, lets_word}
@@ -46,7 +46,7 @@ kept_words mask stored es i j = filtered_words (λ i j. lets_word mask (word_at 
 pub kept_along : (mask : MaskView) (cols : ℕ) (stored es : List Entry) (i j : ℕ) → word_at (along cols (kept_by mask stored es)) i j ≡ cond (lets_word mask (word_at (along cols stored) i j)) (word_at (along cols es) i j) None
 kept_along mask cols stored es i j =
     elim (cases_Bool (eqb cols 1)) [
-      | inl one ↦ rw (as_column cols (kept_by mask stored es) one, as_column cols stored one, as_column cols es one) (word_at-turned (kept_by mask stored es) i j ∙ kept_words mask stored es j i ∙ rw (word_at-turned stored i j, word_at-turned es i j) refl)
+      | inl one ↦ rw (as_column cols (kept_by mask stored es) one, as_column cols stored one, as_column cols es one) (word_at-transposed (kept_by mask stored es) i j ∙ kept_words mask stored es j i ∙ rw (word_at-transposed stored i j, word_at-transposed es i j) refl)
       | inr many ↦ rw (by_rows cols (kept_by mask stored es) many, by_rows cols stored many, by_rows cols es many) (kept_words mask stored es i j)
     ]
 

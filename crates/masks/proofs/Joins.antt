@@ -12,7 +12,7 @@ use Rattle.store.specs.declared.lists.FiberLists.{FiberLists}
 use Rattle.store.specs.Fibers.{AreFlat, entries_from, outers}
 use Rattle.store.specs.Parts.{HasPart}
 use Rattle.store.specs.Stored.{AreIn, along}
-use Rattle.store.proofs.Contents.{as_column, by_rows, word_at-turned}
+use Rattle.store.proofs.Contents.{as_column, by_rows, word_at-transposed}
 use Rattle.store.proofs.PartLaws.{LiesIn, are_in, lies_in}
 use Rattle.masks.specs.declared.join.Joining.{Joining}
 use Rattle.masks.specs.Joins.{AreJoined, HasJoin, alone_of, both_of, joined}
@@ -56,7 +56,7 @@ pub join_along : (alone : ℕ → ℕ) (f : ℕ → ℕ → ℕ) (cols : ℕ) (a
     → (i j : ℕ) → word_at (along cols es) i j ≡ of_either alone alone f (word_at (along cols a) i j) (word_at (along cols b) i j)
 join_along alone f cols a b es words i j =
     elim (cases_Bool (eqb cols 1)) [
-      | inl one ↦ rw (as_column cols es one, as_column cols a one, as_column cols b one) (word_at-turned es i j ∙ words j i ∙ rw (word_at-turned a i j, word_at-turned b i j) refl)
+      | inl one ↦ rw (as_column cols es one, as_column cols a one, as_column cols b one) (word_at-transposed es i j ∙ words j i ∙ rw (word_at-transposed a i j, word_at-transposed b i j) refl)
       | inr many ↦ rw (by_rows cols es many, by_rows cols a many, by_rows cols b many) (words i j)
     ]
 

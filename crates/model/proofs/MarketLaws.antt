@@ -249,10 +249,10 @@ mirror domain f symmetry.Symmetric rows cols e fits holds said =
     let square : rows ≡ cols = grind (arith, nat_tests) in
     let low : e.row < cols = omega (arith, said.row) in
     let left : e.col < rows = omega (arith, said.col) in
-    let turned : IsListed domain rows cols (entry_at e.col e.row e.word) = record { row = left; col = low; word = said.word } in
+    let transposed : IsListed domain rows cols (entry_at e.col e.row e.word) = record { row = left; col = low; word = said.word } in
     let others : (b : Bool) → All (IsListed domain rows cols) (if b then [] else entry_at e.col e.row e.word ∷ []) = λ b. elim b as (λ (b : Bool). All (IsListed domain rows cols) (if b then [] else entry_at e.col e.row e.word ∷ [])) [
       | true ↦ All-nil (IsListed domain rows cols)
-      | false ↦ All-cons (IsListed domain rows cols) (entry_at e.col e.row e.word) [] turned (All-nil (IsListed domain rows cols))
+      | false ↦ All-cons (IsListed domain rows cols) (entry_at e.col e.row e.word) [] transposed (All-nil (IsListed domain rows cols))
     ] in
     All-cons (IsListed domain rows cols) e _ said (others (e.row == e.col))
 mirror Int64 f symmetry.SkewSymmetric rows cols e fits holds said =
@@ -260,8 +260,8 @@ mirror Int64 f symmetry.SkewSymmetric rows cols e fits holds said =
     let low : e.row < cols = omega (arith, said.row) in
     let left : e.col < rows = omega (arith, said.col) in
     let other = entry_at e.col e.row (word_of Int64 (neg_ℤ (value_of Int64 e.word))) in
-    let turned : IsListed Int64 rows cols other = record { row = left; col = low; word = IsWordOf-word_of Int64 (neg_ℤ (value_of Int64 e.word)) } in
-    All-cons (IsListed Int64 rows cols) e (other ∷ []) said (All-cons (IsListed Int64 rows cols) other [] turned (All-nil (IsListed Int64 rows cols)))
+    let transposed : IsListed Int64 rows cols other = record { row = left; col = low; word = IsWordOf-word_of Int64 (neg_ℤ (value_of Int64 e.word)) } in
+    All-cons (IsListed Int64 rows cols) e (other ∷ []) said (All-cons (IsListed Int64 rows cols) other [] transposed (All-nil (IsListed Int64 rows cols)))
 mirror _ f symmetry.SkewSymmetric rows cols e fits holds said = absurd (cc)
 
 -- what holds of each line's entries holds of all

@@ -10,10 +10,10 @@ use Rattle.model.specs.declared.call.Operation.{Operation}
 use Rattle.model.specs.declared.call.Operation.TheVariants.{Fill, OfOne, OfTwo}
 use Rattle.model.specs.declared.call.Out.{Out}
 use Rattle.model.specs.Fault.{plan_in}
-use Rattle.model.specs.Object.{Content, Object, cast_content, signature_of, turned_object, turned_signature}
+use Rattle.model.specs.Object.{Content, Object, cast_content, signature_of, transposed_object, transposed_signature}
 use Rattle.model.specs.Operations.{is_written_by, operation}
 use Rattle.model.specs.Renamed.{renamed_operation}
-use Rattle.model.specs.Table.{turned, turned_if, turns_one}
+use Rattle.model.specs.Table.{transposed, transposed_if, transposes_one}
 use Rattle.model.specs.WriteBack.{has_position, mask_set, masked, result_of}
 
 -- an output whose mask is complemented, or no longer is
@@ -60,7 +60,7 @@ pub outside_keeps : (out : Out Object) (inputs : Operation Object) (i j : ℕ) �
 unfolding result_of
 outside_keeps out inputs i j outside = rw outside refl
 
-one_alike : (computes : OneInput) (desc : Desc) (replace : Bool) → turns_one computes (record desc { replace = replace }) ≡ turns_one computes desc
+one_alike : (computes : OneInput) (desc : Desc) (replace : Bool) → transposes_one computes (record desc { replace = replace }) ≡ transposes_one computes desc
 one_alike (Apply (function.Unary op)) desc replace = refl
 one_alike (Apply (function.First op value)) desc replace = refl
 one_alike (Apply (function.Second op value)) desc replace = refl
@@ -73,10 +73,10 @@ one_alike (Assign region) desc replace = refl
 
 -- whether an output is cleared says nothing of inputs
 inputs_alike : {K : Type 0} (turn : K → K) (desc : Desc) (replace : Bool) (op : Operation K)
-    → turned turn (record desc { replace = replace }) op ≡ turned turn desc op
+    → transposed turn (record desc { replace = replace }) op ≡ transposed turn desc op
 inputs_alike turn desc replace (Fill value region) = refl
 inputs_alike turn desc replace (OfOne computes a) =
-    ap (λ flag. OfOne computes (turned_if turn flag a)) (one_alike computes desc replace)
+    ap (λ flag. OfOne computes (transposed_if turn flag a)) (one_alike computes desc replace)
 inputs_alike turn desc replace (OfTwo computes a b) = refl
 
 -- Inside it an operation leaves the same, whether it replaces or not.
@@ -86,8 +86,8 @@ unfolding result_of
 inside_alike out inputs replace i j inside =
     rw (
       inside,
-      inputs_alike turned_object out.desc replace inputs,
-      inputs_alike turned_signature out.desc replace (renamed_operation signature_of inputs),
+      inputs_alike transposed_object out.desc replace inputs,
+      inputs_alike transposed_signature out.desc replace (renamed_operation signature_of inputs),
     ) refl
 
 -- Without a mask that leaves something out, GrB_REPLACE changes nothing.
@@ -111,7 +111,7 @@ unfolding result_of
 written_twice out inputs i j none =
     let c = signature_of out.c in
     let plan = plan_in c out.desc (renamed_operation signature_of inputs) in
-    let values = cast_content plan.domain c.domain (operation c (turned turned_object out.desc inputs)) in
+    let values = cast_content plan.domain c.domain (operation c (transposed transposed_object out.desc inputs)) in
     rw none
     (kept_twice (mask_set out i j) out.desc.replace (is_written_by c.shape inputs i j) (values i j) (out.c.content i j))
 

@@ -12,7 +12,7 @@ use Rattle.model.specs.declared.shape.Place.{Place}
 use Rattle.model.specs.declared.shape.Place.TheVariants as place
 use Rattle.model.specs.declared.shape.Shape.{Shape}
 use Rattle.model.specs.declared.shape.Shape.TheVariants.{One, Two}
-use Rattle.model.specs.Object.{AreWordsOf, Content, IsObject, IsWithin, Object, cast_content, col_of, cols_of, empty_object, is_inside, is_matrix, row_of, rows_of, same_shape, turned_object, with_entry}
+use Rattle.model.specs.Object.{AreWordsOf, Content, IsObject, IsWithin, Object, cast_content, col_of, cols_of, empty_object, is_inside, is_matrix, row_of, rows_of, same_shape, transposed_object, with_entry}
 use Rattle.model.specs.Object.{without_entry}
 
 pub objects_equal : (a b : Object) → a.domain ≡ b.domain → a.shape ≡ b.shape → ((i j : ℕ) → a.content i j ≡ b.content i j) → a ≡ b
@@ -110,12 +110,12 @@ and_turned true false h = refl
 and_turned false true h = refl
 and_turned false false h = refl
 
-turned_as : (domain : Domain) (shape : Shape) (c : Content) → IsObject (record { domain = domain; shape = shape; content = c }) → IsObject (turned_object (record { domain = domain; shape = shape; content = c }))
-turned_as domain (Two m n) c is = record { within = λ i j outside. is.within j i (and_turned (nat_lt i n) (nat_lt j m) outside); words = λ i j word stored. is.words j i word stored }
-turned_as domain (One n) c is = record { within = is.within; words = is.words }
+transposed_as : (domain : Domain) (shape : Shape) (c : Content) → IsObject (record { domain = domain; shape = shape; content = c }) → IsObject (transposed_object (record { domain = domain; shape = shape; content = c }))
+transposed_as domain (Two m n) c is = record { within = λ i j outside. is.within j i (and_turned (nat_lt i n) (nat_lt j m) outside); words = λ i j word stored. is.words j i word stored }
+transposed_as domain (One n) c is = record { within = is.within; words = is.words }
 
-pub turned-is_object : (o : Object) → IsObject o → IsObject (turned_object o)
-turned-is_object o is = turned_as o.domain o.shape o.content is
+pub transposed-is_object : (o : Object) → IsObject o → IsObject (transposed_object o)
+transposed-is_object o is = transposed_as o.domain o.shape o.content is
 
 -- ---- shapes
 

@@ -12,7 +12,7 @@ use Rattle.algebra.specs.declared.functions.FunctionName.{FunctionName}
 use Rattle.algebra.specs.declared.functions.FunctionName.TheVariants.{Unary, First, Second, Index}
 use Rattle.algebra.specs.declared.operator_names.MonoidName.{MonoidName}
 use Rattle.algebra.specs.declared.operator_names.OpName.{OpName}
-use Rattle.algebra.specs.declared.operator_names.RingName.{RingName}
+use Rattle.algebra.specs.declared.operator_names.SemiringName.{SemiringName}
 use Rattle.algebra.specs.Functions.{function_answer, function_domain, function_of}
 use Rattle.algebra.specs.Monoids.{sum_of}
 use Rattle.algebra.specs.Operators.{answer_domain, combines_by, offers}
@@ -29,7 +29,7 @@ use Rattle.model.specs.declared.call.TwoInputs.{TwoInputs}
 use Rattle.model.specs.declared.call.TwoInputs.TheVariants.{Combine, Multiply}
 use Rattle.model.specs.declared.shape.Signature.{Signature}
 use Rattle.model.specs.ElementWise.{eval_cast, of_both, of_either}
-use Rattle.model.specs.Object.{AreWordsOf, Content, IsObject, Object, cols_of, in_domain, rows_of, signature_of, turned_content}
+use Rattle.model.specs.Object.{AreWordsOf, Content, IsObject, Object, cols_of, in_domain, rows_of, signature_of, transposed_content}
 use Rattle.model.specs.Operations.{combined, computed_of_one, computed_of_two, multiplied, operation}
 use Rattle.model.specs.Product.{sum_domain}
 use Rattle.model.specs.Reductions.{row_words}
@@ -42,10 +42,10 @@ use Rattle.model.proofs.StoredLaws.{row_words-domain}
 
 -- ---- two inputs
 
-multiplied-words : (form : Form) (ring : RingName) (n : ℕ) (a b : Content) → offers (combines_by ring.add) (sum_domain ring) ≡ true → AreWordsOf (sum_domain ring) (multiplied form ring n a b)
-multiplied-words MatrixMatrix ring n a b offered = product-words ring n a b offered
-multiplied-words MatrixVector ring n a b offered = product-words ring n a b offered
-multiplied-words VectorMatrix ring n a b offered = λ i j word is. product-words ring n (turned_content a) b offered j i word is
+multiplied-words : (form : Form) (semiring : SemiringName) (n : ℕ) (a b : Content) → offers (combines_by semiring.add) (sum_domain semiring) ≡ true → AreWordsOf (sum_domain semiring) (multiplied form semiring n a b)
+multiplied-words MatrixMatrix semiring n a b offered = product-words semiring n a b offered
+multiplied-words MatrixVector semiring n a b offered = product-words semiring n a b offered
+multiplied-words VectorMatrix semiring n a b offered = λ i j word is. product-words semiring n (transposed_content a) b offered j i word is
 
 either-word : (d : Domain) (f g : ℕ → ℕ) (h : ℕ → ℕ → ℕ) (x y : Option ℕ) (word : ℕ) → ((w : ℕ) → IsWordOf d (f w)) → ((w : ℕ) → IsWordOf d (g w)) → ((v w : ℕ) → IsWordOf d (h v w))
     → of_either f g h x y ≡ Some word → IsWordOf d word
@@ -71,9 +71,9 @@ combined-words Intersection op a b i j word is =
     both-word (answer_domain op.kind op.domain) (eval_cast op a b) (a.content i j) (b.content i j) word (eval_cast-word op a b) is
 
 two-words : (computes : TwoInputs) (a b : Object) → is_offered (OfTwo computes a b) ≡ true → AreWordsOf (plan_of_two computes (signature_of a) (signature_of b)).domain (computed_of_two computes a b)
-two-words (Multiply form ring) a b offered =
-    multiplied-words form ring (inner_size form a.shape) (in_domain ring.domain a) (in_domain ring.domain b)
-    (and_parts (offers ring.multiply ring.domain) (offers (combines_by ring.add) (sum_domain ring)) offered).1
+two-words (Multiply form semiring) a b offered =
+    multiplied-words form semiring (inner_size form a.shape) (in_domain semiring.domain a) (in_domain semiring.domain b)
+    (and_parts (offers semiring.multiply semiring.domain) (offers (combines_by semiring.add) (sum_domain semiring)) offered).1
 two-words (Combine positions op) a b offered = combined-words positions op a b
 
 -- ---- one input

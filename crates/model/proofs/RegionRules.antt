@@ -7,14 +7,14 @@ use Rattle.model.specs.declared.call.Operation.TheVariants.{OfOne}
 use Rattle.model.specs.declared.call.Out.{Out}
 use Rattle.model.specs.declared.call.Region.TheVariants as region
 use Rattle.model.specs.Indices.{All}
-use Rattle.model.specs.Object.{Content, IsWithin, Object, cast_content, cols_of, rows_of, turned_content}
+use Rattle.model.specs.Object.{Content, IsWithin, Object, cast_content, cols_of, rows_of, transposed_content}
 use Rattle.model.specs.Operations.{operation}
 use Rattle.model.specs.Regions.{cut_to, extracted, is_listed, placed}
 use Rattle.model.specs.WriteBack.{result_of}
 
 -- transposing twice is nothing
-pub turned_twice : (c : Content) (i j : ℕ) → turned_content (turned_content c) i j ≡ c i j
-turned_twice c i j = refl
+pub transposed_twice : (c : Content) (i j : ℕ) → transposed_content (transposed_content c) i j ≡ c i j
+transposed_twice c i j = refl
 
 -- all rows and columns of a map are the map
 pub extracted-all : (m n : ℕ) (c : Content) → IsWithin m n c → (i j : ℕ) → extracted m n All All c i j ≡ c i j
@@ -44,7 +44,7 @@ chosen true new old none gone = refl
 chosen false new old none gone = gone refl ∙ sym (none refl)
 
 -- to assign to all rows and columns without mask and accumulator is to replace
-pub assign-all : (out : Out Object) (a : Object) → out.mask ≡ None → out.accum ≡ None → out.desc.complement ≡ false → out.desc.turn_first ≡ false
+pub assign-all : (out : Out Object) (a : Object) → out.mask ≡ None → out.accum ≡ None → out.desc.complement ≡ false → out.desc.transpose_first ≡ false
     → IsWithin (rows_of out.c.shape) (cols_of out.c.shape) out.c.content → IsWithin (rows_of out.c.shape) (cols_of out.c.shape) a.content
     → (i j : ℕ) → result_of out (OfOne (Assign (region.Two All All)) a) i j ≡ cast_content a.domain out.c.domain a.content i j
 unfolding result_of operation

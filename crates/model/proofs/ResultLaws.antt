@@ -10,7 +10,7 @@ use Rattle.algebra.proofs.Words.{IsWordOf-eval}
 use Rattle.algebra.specs.declared.domain.Domain.{Domain}
 use Rattle.algebra.specs.declared.operator_names.MonoidName.{MonoidName}
 use Rattle.algebra.specs.declared.operator_names.OpName.{OpName}
-use Rattle.algebra.specs.declared.operator_names.RingName.{RingName}
+use Rattle.algebra.specs.declared.operator_names.SemiringName.{SemiringName}
 use Rattle.algebra.specs.Operators.{answer_domain, eval_of, offers}
 use Rattle.algebra.specs.Value.{IsWordOf, same_domain, word_of}
 use Rattle.model.specs.declared.call.Desc.{Desc}
@@ -30,7 +30,7 @@ use Rattle.model.specs.declared.shape.Shape.TheVariants.{One, Two}
 use Rattle.model.specs.declared.shape.Signature.{Signature}
 use Rattle.model.specs.Fault.{accumulates, operation_fault, plan_in}
 use Rattle.model.specs.Object.{AreWordsOf, Content, IsObject, IsWithin, Object, cast_content, cols_of, in_domain, is_matrix, rows_of, same_shape}
-use Rattle.model.specs.Object.{signature_of, turned_content, turned_object, turned_shape, turned_signature}
+use Rattle.model.specs.Object.{signature_of, transposed_content, transposed_object, transposed_shape, transposed_signature}
 use Rattle.model.specs.Entries.{below}
 use Rattle.model.specs.Operations.{combined, computed_of_one, is_written_by, multiplied, operation}
 use Rattle.model.specs.Product.{product}
@@ -38,7 +38,7 @@ use Rattle.model.specs.Reductions.{row_sums}
 use Rattle.model.specs.Indices.{are_below}
 use Rattle.model.specs.Regions.{cols_in, rows_in}
 use Rattle.model.specs.Renamed.{inputs_of, renamed_operation, renamed_out}
-use Rattle.model.specs.Table.{are_factors, inner_size, plan_of, plan_of_one, product_shape, turned, turned_if, turns_one}
+use Rattle.model.specs.Table.{are_factors, inner_size, plan_of, plan_of_one, product_shape, transposed, transposed_if, transposes_one}
 use Rattle.model.specs.WriteBack.{accumulated, accumulated_by, landed, mask_set, masked, result_of}
 use Rattle.model.proofs.ObjectLaws.{cast_content-within, cast_content-words, same_domain-true, same_shape-rows, vector-column}
 use Rattle.model.proofs.RegionLaws.{extracted-within, filled-within, placed-within, shape_in-counts}
@@ -56,12 +56,12 @@ abbrev pub KeepsInside : Object → Type 0
 KeepsInside o = IsWithin (rows_of o.shape) (cols_of o.shape) o.content
 
 -- a product of maps that lie inside m rows, and inside n columns
-product-within : (ring : RingName) (inner m n : ℕ) (a b : Content) → ((i k : ℕ) → nat_lt i m ≡ false → a i k ≡ None)
-    → ((k j : ℕ) → nat_lt j n ≡ false → b k j ≡ None) → IsWithin m n (product ring inner a b)
-product-within ring inner m n a b first second i j outside =
+product-within : (semiring : SemiringName) (inner m n : ℕ) (a b : Content) → ((i k : ℕ) → nat_lt i m ≡ false → a i k ≡ None)
+    → ((k j : ℕ) → nat_lt j n ≡ false → b k j ≡ None) → IsWithin m n (product semiring inner a b)
+product-within semiring inner m n a b first second i j outside =
     elim (cases_Bool (nat_lt i m)) [
-      | inl inside ↦ product-no_col ring inner a b i j (λ k. second k j (rw inside at outside))
-      | inr past ↦ product-no_row ring inner a b i j (λ k. first i k past)
+      | inl inside ↦ product-no_col semiring inner a b i j (λ k. second k j (rw inside at outside))
+      | inr past ↦ product-no_row semiring inner a b i j (λ k. first i k past)
     ]
 
 -- an input in another domain has nothing below its rows, and nothing behind its columns
@@ -79,20 +79,20 @@ and_turned false true h = refl
 and_turned false false h = refl
 
 -- a product of objects that are of the kinds of its form
-multiplied-within : (form : Form) (ring : RingName) (a b : Object) → are_factors form a.shape b.shape ≡ true → KeepsInside a → KeepsInside b
+multiplied-within : (form : Form) (semiring : SemiringName) (a b : Object) → are_factors form a.shape b.shape ≡ true → KeepsInside a → KeepsInside b
     → let shape = product_shape form a.shape b.shape in IsWithin (rows_of shape) (cols_of shape)
-    (multiplied form ring (inner_size form a.shape) (in_domain ring.domain a) (in_domain ring.domain b))
-multiplied-within MatrixMatrix ring a b kinds first second =
-    product-within ring (cols_of a.shape) (rows_of a.shape) (cols_of b.shape) (in_domain ring.domain a) (in_domain ring.domain b)
-    (no_row ring.domain a first) (no_col ring.domain b second)
-multiplied-within MatrixVector ring a b kinds first second =
+    (multiplied form semiring (inner_size form a.shape) (in_domain semiring.domain a) (in_domain semiring.domain b))
+multiplied-within MatrixMatrix semiring a b kinds first second =
+    product-within semiring (cols_of a.shape) (rows_of a.shape) (cols_of b.shape) (in_domain semiring.domain a) (in_domain semiring.domain b)
+    (no_row semiring.domain a first) (no_col semiring.domain b second)
+multiplied-within MatrixVector semiring a b kinds first second =
     let one = vector-column b.shape (and_parts (is_matrix a.shape) (not (is_matrix b.shape)) kinds).1 in
-    product-within ring (cols_of a.shape) (rows_of a.shape) 1 (in_domain ring.domain a) (in_domain ring.domain b)
-    (no_row ring.domain a first) (rw one at (no_col ring.domain b second))
-multiplied-within VectorMatrix ring a b kinds first second =
+    product-within semiring (cols_of a.shape) (rows_of a.shape) 1 (in_domain semiring.domain a) (in_domain semiring.domain b)
+    (no_row semiring.domain a first) (rw one at (no_col semiring.domain b second))
+multiplied-within VectorMatrix semiring a b kinds first second =
     let one = vector-column a.shape (and_parts (not (is_matrix a.shape)) (is_matrix b.shape) kinds).0 in
-    λ i j outside. product-within ring (rows_of a.shape) 1 (cols_of b.shape) (turned_content (in_domain ring.domain a)) (in_domain ring.domain b)
-    (λ i k past. no_col ring.domain a first k i (rw one past)) (no_col ring.domain b second) j i
+    λ i j outside. product-within semiring (rows_of a.shape) 1 (cols_of b.shape) (transposed_content (in_domain semiring.domain a)) (in_domain semiring.domain b)
+    (λ i k past. no_col semiring.domain a first k i (rw one past)) (no_col semiring.domain b second) j i
     (and_turned (nat_lt i (cols_of b.shape)) (nat_lt j 1) outside)
 
 -- where neither has a value, their union and their intersection have none
@@ -122,16 +122,16 @@ row_sums-within monoid cols m c none i j outside =
 abbrev IsFit : Plan → Type 0
 IsFit plan = (plan.kinds ≡ true) × (plan.fits ≡ true) × (plan.inside ≡ true)
 
-turned-within_shape : (shape : Shape) (c : Content) → is_matrix shape ≡ true → IsWithin (rows_of shape) (cols_of shape) c
-    → IsWithin (rows_of (turned_shape shape)) (cols_of (turned_shape shape)) (turned_content c)
-turned-within_shape (Two m n) c is inside = λ i j outside. inside j i (and_turned (nat_lt i n) (nat_lt j m) outside)
-turned-within_shape (One n) c is inside = absurd (cc)
+transposed-within_shape : (shape : Shape) (c : Content) → is_matrix shape ≡ true → IsWithin (rows_of shape) (cols_of shape) c
+    → IsWithin (rows_of (transposed_shape shape)) (cols_of (transposed_shape shape)) (transposed_content c)
+transposed-within_shape (Two m n) c is inside = λ i j outside. inside j i (and_turned (nat_lt i n) (nat_lt j m) outside)
+transposed-within_shape (One n) c is inside = absurd (cc)
 
 one-within : (c : Signature) (computes : OneInput) (a : Object) → IsFit (plan_of_one c computes (signature_of a)) → KeepsInside a
     → let shape = (plan_of_one c computes (signature_of a)).shape in IsWithin (rows_of shape) (cols_of shape) (computed_of_one c.shape computes a)
 one-within c (Apply function) a fit inside i j outside = rw (inside i j outside) refl
 one-within c (Select op scalar) a fit inside i j outside = rw (inside i j outside) refl
-one-within c Transpose a fit inside i j outside = turned-within_shape a.shape a.content fit.0 inside i j outside
+one-within c Transpose a fit inside i j outside = transposed-within_shape a.shape a.content fit.0 inside i j outside
 one-within c (Extract region) a fit inside i j outside =
     let counts = shape_in-counts a.shape region fit.0 in
     extracted-within (rows_of a.shape) (cols_of a.shape) (rows_in region) (cols_in region) a.content i j (rw (counts.0, counts.1) outside)
@@ -147,43 +147,43 @@ operation-within c (Fill value region) fit inside =
     let parts = and_parts (are_below (rows_of c.shape) (rows_in region)) (are_below (cols_of c.shape) (cols_in region)) fit.2 in
     filled-within (rows_of c.shape) (cols_of c.shape) (rows_in region) (cols_in region) (word_of c.domain value) parts.0 parts.1
 operation-within c (OfOne computes a) fit inside = one-within c computes a fit (All-head KeepsInside a [] inside)
-operation-within c (OfTwo (Multiply form ring) a b) fit inside =
-    multiplied-within form ring a b fit.0 (All-head KeepsInside a (b ∷ []) inside) (All-head KeepsInside b [] (All-tail KeepsInside a (b ∷ []) inside))
+operation-within c (OfTwo (Multiply form semiring) a b) fit inside =
+    multiplied-within form semiring a b fit.0 (All-head KeepsInside a (b ∷ []) inside) (All-head KeepsInside b [] (All-tail KeepsInside a (b ∷ []) inside))
 operation-within c (OfTwo (Combine positions op) a b) fit inside =
     combined-within positions op a b fit.1 (All-head KeepsInside a (b ∷ []) inside) (All-head KeepsInside b [] (All-tail KeepsInside a (b ∷ []) inside))
 
 -- ---- transposed inputs
 
-turned_as-within : (domain : Domain) (shape : Shape) (c : Content) → IsWithin (rows_of shape) (cols_of shape) c
-    → KeepsInside (turned_object (record { domain = domain; shape = shape; content = c }))
-turned_as-within domain (Two m n) c inside = λ i j outside. inside j i (and_turned (nat_lt i n) (nat_lt j m) outside)
-turned_as-within domain (One n) c inside = inside
+transposed_as-within : (domain : Domain) (shape : Shape) (c : Content) → IsWithin (rows_of shape) (cols_of shape) c
+    → KeepsInside (transposed_object (record { domain = domain; shape = shape; content = c }))
+transposed_as-within domain (Two m n) c inside = λ i j outside. inside j i (and_turned (nat_lt i n) (nat_lt j m) outside)
+transposed_as-within domain (One n) c inside = inside
 
-turned_if-within : (flag : Bool) (o : Object) → KeepsInside o → KeepsInside (turned_if turned_object flag o)
-turned_if-within true o inside = turned_as-within o.domain o.shape o.content inside
-turned_if-within false o inside = inside
+transposed_if-within : (flag : Bool) (o : Object) → KeepsInside o → KeepsInside (transposed_if transposed_object flag o)
+transposed_if-within true o inside = transposed_as-within o.domain o.shape o.content inside
+transposed_if-within false o inside = inside
 
-turned-within : (desc : Desc) (op : Operation Object) → All KeepsInside (inputs_of op) → All KeepsInside (inputs_of (turned turned_object desc op))
-turned-within desc (Fill value region) inside = All-nil KeepsInside
-turned-within desc (OfOne computes a) inside =
-    All-cons KeepsInside (turned_if turned_object (turns_one computes desc) a) []
-    (turned_if-within (turns_one computes desc) a (All-head KeepsInside a [] inside)) (All-nil KeepsInside)
-turned-within desc (OfTwo computes a b) inside =
+transposed-within : (desc : Desc) (op : Operation Object) → All KeepsInside (inputs_of op) → All KeepsInside (inputs_of (transposed transposed_object desc op))
+transposed-within desc (Fill value region) inside = All-nil KeepsInside
+transposed-within desc (OfOne computes a) inside =
+    All-cons KeepsInside (transposed_if transposed_object (transposes_one computes desc) a) []
+    (transposed_if-within (transposes_one computes desc) a (All-head KeepsInside a [] inside)) (All-nil KeepsInside)
+transposed-within desc (OfTwo computes a b) inside =
     let first = All-head KeepsInside a (b ∷ []) inside in
     let second = All-head KeepsInside b [] (All-tail KeepsInside a (b ∷ []) inside) in
-    let a' = turned_if turned_object desc.turn_first a in
-    let b' = turned_if turned_object desc.turn_second b in
-    All-cons KeepsInside a' (b' ∷ []) (turned_if-within desc.turn_first a first)
-    (All-cons KeepsInside b' [] (turned_if-within desc.turn_second b second) (All-nil KeepsInside))
+    let a' = transposed_if transposed_object desc.transpose_first a in
+    let b' = transposed_if transposed_object desc.transpose_second b in
+    All-cons KeepsInside a' (b' ∷ []) (transposed_if-within desc.transpose_first a first)
+    (All-cons KeepsInside b' [] (transposed_if-within desc.transpose_second b second) (All-nil KeepsInside))
 
-turned_if-signature : (flag : Bool) (o : Object) → signature_of (turned_if turned_object flag o) ≡ turned_if turned_signature flag (signature_of o)
-turned_if-signature true o = refl
-turned_if-signature false o = refl
+transposed_if-signature : (flag : Bool) (o : Object) → signature_of (transposed_if transposed_object flag o) ≡ transposed_if transposed_signature flag (signature_of o)
+transposed_if-signature true o = refl
+transposed_if-signature false o = refl
 
-pub turned-signature : (desc : Desc) (op : Operation Object) → renamed_operation signature_of (turned turned_object desc op) ≡ turned turned_signature desc (renamed_operation signature_of op)
-turned-signature desc (Fill value region) = refl
-turned-signature desc (OfOne computes a) = rw (turned_if-signature (turns_one computes desc) a) refl
-turned-signature desc (OfTwo computes a b) = rw (turned_if-signature desc.turn_first a, turned_if-signature desc.turn_second b) refl
+pub transposed-signature : (desc : Desc) (op : Operation Object) → renamed_operation signature_of (transposed transposed_object desc op) ≡ transposed transposed_signature desc (renamed_operation signature_of op)
+transposed-signature desc (Fill value region) = refl
+transposed-signature desc (OfOne computes a) = rw (transposed_if-signature (transposes_one computes desc) a) refl
+transposed-signature desc (OfTwo computes a b) = rw (transposed_if-signature desc.transpose_first a, transposed_if-signature desc.transpose_second b) refl
 
 -- ---- write-back
 
@@ -267,14 +267,14 @@ result-within out op accepted old inputs =
     let sig_out = renamed_out signature_of out in
     let sig = renamed_operation signature_of op in
     let plan = plan_in c out.desc sig in
-    let moved = turned turned_object out.desc op in
+    let moved = transposed transposed_object out.desc op in
     let shapes = accepted-shapes sig_out sig accepted in
     let same = same_shape-rows plan.shape out.c.shape shapes.0 in
     let fit : IsFit (plan_of c (renamed_operation signature_of moved)) =
-    rw (turned-signature out.desc op) (accepted-kinds sig_out sig accepted, shapes.1, accepted-inside sig_out sig accepted) in
-    let inside = operation-within c moved fit (turned-within out.desc op inputs) in
+    rw (transposed-signature out.desc op) (accepted-kinds sig_out sig accepted, shapes.1, accepted-inside sig_out sig accepted) in
+    let inside = operation-within c moved fit (transposed-within out.desc op inputs) in
     let inside' : IsWithin (rows_of out.c.shape) (cols_of out.c.shape) (operation c moved) =
-    rw (← same.0, ← same.1) (rw (turned-signature out.desc op) at inside) in
+    rw (← same.0, ← same.1) (rw (transposed-signature out.desc op) at inside) in
     let values = cast_content plan.domain out.c.domain (operation c moved) in
     let is_written = is_written_by out.c.shape op in
     masked-within out (landed out is_written values) (rows_of out.c.shape) (cols_of out.c.shape) old
@@ -291,7 +291,7 @@ result-words out op accepted old =
     let sig_out = renamed_out signature_of out in
     let sig = renamed_operation signature_of op in
     let plan = plan_in c out.desc sig in
-    let moved = turned turned_object out.desc op in
+    let moved = transposed transposed_object out.desc op in
     let accumulates_in = accumulator_gives out.c.domain out.accum (accepted-accumulator sig_out sig accepted) in
     let values = cast_content plan.domain out.c.domain (operation c moved) in
     let is_written = is_written_by out.c.shape op in

@@ -23,10 +23,10 @@ had_memory-right (x ∷ xs) ys h = had_memory-right xs ys (All-tail IsNoWant x (
 pub run-at_once : (number : ℕ) (before : State) (readings : List (Reading File)) (answers : List Answer) → IsRun number before readings answers → HadMemory answers → answers ≡ answers_from number before.environment readings
 unfolding IsRun answers_from
 run-at_once number before [] answers none had = none
-run-at_once number before (reading ∷ readings) answers (said, after, later, turned, run, split) had =
+run-at_once number before (reading ∷ readings) answers (said, after, later, transposed, run, split) had =
     let had_all : HadMemory (said ++ later) = rw split at had in
     let rest : later ≡ answers_from (number + 1) after.environment readings = run-at_once (number + 1) after readings later run (had_memory-right said later had_all) in
-    elim turned [
+    elim transposed [
       | inl done ↦ split ∙ rw (rest, done.0, ap (λ (s : State). s.environment) done.1) refl
       | inr refused ↦
           let told : HadMemory (out_of_memory number ∷ later) = rw refused.1 at had_all in

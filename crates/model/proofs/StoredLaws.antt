@@ -19,7 +19,7 @@ use Rattle.algebra.specs.declared.kinds.MonoidKind.{MonoidKind}
 use Rattle.algebra.specs.declared.operator_names.IndexName.{IndexName}
 use Rattle.algebra.specs.declared.operator_names.MonoidName.{MonoidName}
 use Rattle.algebra.specs.declared.operator_names.OpName.{OpName}
-use Rattle.algebra.specs.declared.operator_names.RingName.{RingName}
+use Rattle.algebra.specs.declared.operator_names.SemiringName.{SemiringName}
 use Rattle.algebra.specs.Functions.{function_domain, function_of, takes}
 use Rattle.algebra.specs.IndexOperators.{index_answer_domain, index_eval_of, passes, takes_index}
 use Rattle.algebra.specs.Monoids.{identity_of, sum_of}
@@ -30,9 +30,9 @@ use Rattle.model.specs.declared.call.Form.{Form}
 use Rattle.model.specs.declared.call.Form.TheVariants.{MatrixMatrix, MatrixVector, VectorMatrix}
 use Rattle.model.specs.ElementWise.{applied, eval_cast, intersection, kept_where, of_both, of_either, passes_cast, union}
 use Rattle.model.specs.Entries.{below}
-use Rattle.model.specs.Object.{AreWordsOf, Content, Object, cast_content, cols_of, in_domain, rows_of, turned_content}
+use Rattle.model.specs.Object.{AreWordsOf, Content, Object, cast_content, cols_of, in_domain, rows_of, transposed_content}
 use Rattle.model.specs.Operations.{multiplied}
-use Rattle.model.specs.Product.{product, product_of, sum_of as ring_sum_of}
+use Rattle.model.specs.Product.{product, product_of, sum_of as semiring_sum_of}
 use Rattle.model.specs.Reductions.{all_words, row_words, sum_in}
 use Rattle.model.proofs.ObjectLaws.{cast_content-words}
 
@@ -146,28 +146,28 @@ selected-stored op s a h words i j =
 
 -- ---- products
 
-product_of-stored : (ring : RingName) (from other : Domain) (x y : Option ℕ) → are_compatible from ring.domain ≡ true → are_compatible other ring.domain ≡ true
-    → MayBeOf from x → MayBeOf other y → product_of ring (option_map (cast_of from ring.domain) x) (option_map (cast_of other ring.domain) y) ≡ product_of ring x y
-product_of-stored ring from other None y h g p q = refl
-product_of-stored ring from other (Some x) None h g p q = refl
-product_of-stored ring from other (Some x) (Some y) h g p q =
-    let op : OpName = record { kind = ring.multiply; domain = ring.domain } in
+product_of-stored : (semiring : SemiringName) (from other : Domain) (x y : Option ℕ) → are_compatible from semiring.domain ≡ true → are_compatible other semiring.domain ≡ true
+    → MayBeOf from x → MayBeOf other y → product_of semiring (option_map (cast_of from semiring.domain) x) (option_map (cast_of other semiring.domain) y) ≡ product_of semiring x y
+product_of-stored semiring from other None y h g p q = refl
+product_of-stored semiring from other (Some x) None h g p q = refl
+product_of-stored semiring from other (Some x) (Some y) h g p q =
+    let op : OpName = record { kind = semiring.multiply; domain = semiring.domain } in
     ap Some (eval-stored op from other x y h g (p x refl) (q y refl))
 
-product-stored : (ring : RingName) (n : ℕ) (from other : Domain) (a b : Content) → are_compatible from ring.domain ≡ true → are_compatible other ring.domain ≡ true
+product-stored : (semiring : SemiringName) (n : ℕ) (from other : Domain) (a b : Content) → are_compatible from semiring.domain ≡ true → are_compatible other semiring.domain ≡ true
     → AreWordsOf from a → AreWordsOf other b → (i j : ℕ)
-    → product ring n (cast_content from ring.domain a) (cast_content other ring.domain b) i j ≡ product ring n a b i j
+    → product semiring n (cast_content from semiring.domain a) (cast_content other semiring.domain b) i j ≡ product semiring n a b i j
 unfolding product
-product-stored ring n from other a b h g first second i j =
-    λ t. ring_sum_of ring (filter_map (λ k. product_of-stored ring from other (a i k) (b k j) h g (first i k) (second k j) t) (below n))
+product-stored semiring n from other a b h g first second i j =
+    λ t. semiring_sum_of semiring (filter_map (λ k. product_of-stored semiring from other (a i k) (b k j) h g (first i k) (second k j) t) (below n))
 
-pub multiplied-stored : (form : Form) (ring : RingName) (n : ℕ) (a b : Object) → are_compatible a.domain ring.domain ≡ true → are_compatible b.domain ring.domain ≡ true
+pub multiplied-stored : (form : Form) (semiring : SemiringName) (n : ℕ) (a b : Object) → are_compatible a.domain semiring.domain ≡ true → are_compatible b.domain semiring.domain ≡ true
     → AreWordsOf a.domain a.content → AreWordsOf b.domain b.content → (i j : ℕ)
-    → multiplied form ring n (in_domain ring.domain a) (in_domain ring.domain b) i j ≡ multiplied form ring n a.content b.content i j
-multiplied-stored MatrixMatrix ring n a b h g first second i j = product-stored ring n a.domain b.domain a.content b.content h g first second i j
-multiplied-stored MatrixVector ring n a b h g first second i j = product-stored ring n a.domain b.domain a.content b.content h g first second i j
-multiplied-stored VectorMatrix ring n a b h g first second i j =
-    product-stored ring n a.domain b.domain (turned_content a.content) b.content h g (λ i j. first j i) second j i
+    → multiplied form semiring n (in_domain semiring.domain a) (in_domain semiring.domain b) i j ≡ multiplied form semiring n a.content b.content i j
+multiplied-stored MatrixMatrix semiring n a b h g first second i j = product-stored semiring n a.domain b.domain a.content b.content h g first second i j
+multiplied-stored MatrixVector semiring n a b h g first second i j = product-stored semiring n a.domain b.domain a.content b.content h g first second i j
+multiplied-stored VectorMatrix semiring n a b h g first second i j =
+    product-stored semiring n a.domain b.domain (transposed_content a.content) b.content h g (λ i j. first j i) second j i
 
 -- ---- sums
 

@@ -24,9 +24,9 @@ use Rattle.model.specs.declared.status.Status.TheVariants as status
 use Rattle.model.specs.Builds.{are_inside, are_of_kind, are_single, are_values_of}
 use Rattle.model.specs.Entries.{entries_of}
 use Rattle.model.specs.Object.{Object, col_of, cols_of, empty_object, is_inside, is_of_kind, row_of, rows_of, same_kind}
-use Rattle.model.specs.Object.{same_shape, signature_of, turned_signature}
+use Rattle.model.specs.Object.{same_shape, signature_of, transposed_signature}
 use Rattle.model.specs.Renamed.{objects_of, renamed}
-use Rattle.model.specs.Table.{filled_by, is_offered, plan_of, turned}
+use Rattle.model.specs.Table.{filled_by, is_offered, plan_of, transposed}
 
 -- the order of the checks; that a line is no call is found before them
 abbrev pub order : List Status
@@ -79,9 +79,9 @@ is_implemented out operation =
     is_offered operation && nat_le (filled_by out.c.shape operation) MOST_FILLED
     && option_map_or (accumulates out.c.domain) out.accum true
 
--- what an operation says of its output and its inputs, which are turned first
+-- what an operation says of its output and its inputs, which are transposed first
 abbrev pub plan_in : Signature → Desc → Operation Signature → Plan
-plan_in c desc operation = plan_of c (turned turned_signature desc operation)
+plan_in c desc operation = plan_of c (transposed transposed_signature desc operation)
 
 -- which tests an operation fails
 abbrev pub operation_fails : Out Signature → Operation Signature → Status → Bool

@@ -12,7 +12,7 @@ use Rattle.algebra.specs.declared.functions.FunctionName.TheVariants as function
 use Rattle.algebra.specs.declared.operator_names.IndexName.{IndexName}
 use Rattle.algebra.specs.declared.operator_names.MonoidName.{MonoidName}
 use Rattle.algebra.specs.declared.operator_names.OpName.{OpName}
-use Rattle.algebra.specs.declared.operator_names.RingName.{RingName}
+use Rattle.algebra.specs.declared.operator_names.SemiringName.{SemiringName}
 use Rattle.algebra.specs.declared.operator_names.UnaryName.{UnaryName}
 use Rattle.algebra.specs.IndexOperators.{is_by_position}
 use Rattle.algebra.specs.Value.{is_built_in}
@@ -161,8 +161,8 @@ unfoldable pub index_name_of : List ℕ → Option IndexName
 index_name_of word = option_map_or Some (by_position_of word) (by_value_of word)
 
 -- the names of a monoid, an operator and a domain
-unfoldable pub ring_name_of : List ℕ → Option RingName
-ring_name_of word =
+unfoldable pub semiring_name_of : List ℕ → Option SemiringName
+semiring_name_of word =
     let parts = parts_of word in
     if length parts == 3
     then (monoid_from_name (nth_word parts 0) >>= λ add. binary_from_name (nth_word parts 1) >>= λ multiply.
@@ -316,7 +316,13 @@ build_of words = if not (nat_le 3 (length words)) then None else
 -- ---- operations: C MASK ACCUM .. DESC
 
 abbrev pub no_flags : Desc
-no_flags = record { replace = false; structure = false; complement = false; turn_first = false; turn_second = false }
+no_flags = record {
+  replace = false;
+  structure = false;
+  complement = false;
+  transpose_first = false;
+  transpose_second = false;
+}
 
 -- one flag more, which wasn't there
 unfoldable pub flag_added : Desc → List ℕ → Option Desc
@@ -324,9 +330,10 @@ flag_added desc word =
     if bytes_eq word (codes "R") then (if desc.replace then None else Some (record desc { replace = true }))
     else if bytes_eq word (codes "S") then (if desc.structure then None else Some (record desc { structure = true }))
     else if bytes_eq word (codes "C") then (if desc.complement then None else Some (record desc { complement = true }))
-    else if bytes_eq word (codes "T0") then (if desc.turn_first then None else Some (record desc { turn_first = true }))
+    else if bytes_eq word (codes "T0")
+    then (if desc.transpose_first then None else Some (record desc { transpose_first = true }))
     else if bytes_eq word (codes "T1")
-    then (if desc.turn_second then None else Some (record desc { turn_second = true }))
+    then (if desc.transpose_second then None else Some (record desc { transpose_second = true }))
     else None
 
 abbrev pub flags_added : Desc → List (List ℕ) → Option Desc
@@ -345,12 +352,12 @@ out_of_words words = if not (nat_le 5 (length words)) then None else
     desc_of (nth_word words (length words - 1)) >>= λ desc.
     Some (record { c = c; mask = mask; accum = accum; desc = desc }))
 
--- RING A B
+-- SEMIRING A B
 unfoldable pub multiply_of : Form → List (List ℕ) → Option (Operation Name)
 multiply_of form words =
     if length words == 8
-    then (ring_name_of (nth_word words 4) >>= λ ring. name_of (nth_word words 5) >>= λ a.
-    name_of (nth_word words 6) >>= λ b. Some (OfTwo (Multiply form ring) a b))
+    then (semiring_name_of (nth_word words 4) >>= λ semiring. name_of (nth_word words 5) >>= λ a.
+    name_of (nth_word words 6) >>= λ b. Some (OfTwo (Multiply form semiring) a b))
     else None
 
 -- OP A B

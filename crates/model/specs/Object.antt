@@ -36,9 +36,9 @@ same_shape (One m) (One n) = m == n
 same_shape (Two m n) (Two k l) = (m == k) && (n == l)
 same_shape _ _ = false
 
-abbrev pub turned_shape : Shape → Shape
-turned_shape (Two m n) = Two n m
-turned_shape (One n) = One n
+abbrev pub transposed_shape : Shape → Shape
+transposed_shape (Two m n) = Two n m
+transposed_shape (One n) = One n
 
 -- ---- positions
 
@@ -90,8 +90,8 @@ without_entry c row col = λ i j. if (i == row) && (j == col) then None else c i
 abbrev pub cast_content : Domain → Domain → Content → Content
 cast_content from to c = λ i j. option_map (cast_of from to) (c i j)
 
-abbrev pub turned_content : Content → Content
-turned_content c = λ i j. c j i
+abbrev pub transposed_content : Content → Content
+transposed_content c = λ i j. c j i
 
 -- a map that has nothing outside a shape of so many rows and columns
 abbrev pub IsWithin : ℕ → ℕ → Content → Type 0
@@ -121,14 +121,14 @@ abbrev pub empty_object : Domain → Shape → Object
 empty_object domain shape = record { domain = domain; shape = shape; content = no_content }
 
 -- the transpose of a matrix, and a vector as it is (GrB_TRAN)
-abbrev pub turned_signature : Signature → Signature
-turned_signature s = record { domain = s.domain; shape = turned_shape s.shape }
+abbrev pub transposed_signature : Signature → Signature
+transposed_signature s = record { domain = s.domain; shape = transposed_shape s.shape }
 
-abbrev pub turned_object : Object → Object
-turned_object o = record {
+abbrev pub transposed_object : Object → Object
+transposed_object o = record {
   domain = o.domain;
-  shape = turned_shape o.shape;
-  content = if is_matrix o.shape then turned_content o.content else o.content;
+  shape = transposed_shape o.shape;
+  content = if is_matrix o.shape then transposed_content o.content else o.content;
 }
 
 -- an object's values in another domain

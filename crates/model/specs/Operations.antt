@@ -1,7 +1,7 @@
 -- What each operation computes of its inputs, before it is accumulated and written back.
 use Rattle.std.specs.Prelude.{ℕ, Bool, true}
 use Rattle.algebra.specs.declared.operator_names.OpName.{OpName}
-use Rattle.algebra.specs.declared.operator_names.RingName.{RingName}
+use Rattle.algebra.specs.declared.operator_names.SemiringName.{SemiringName}
 use Rattle.algebra.specs.Functions.{function_domain}
 use Rattle.algebra.specs.Value.{word_of}
 use Rattle.model.specs.declared.call.Form.{Form}
@@ -17,7 +17,7 @@ use Rattle.model.specs.declared.call.TwoInputs.TheVariants.{Combine, Multiply}
 use Rattle.model.specs.declared.shape.Shape.{Shape}
 use Rattle.model.specs.declared.shape.Signature.{Signature}
 use Rattle.model.specs.ElementWise.{applied, intersection, selected, union}
-use Rattle.model.specs.Object.{Content, Object, cols_of, in_domain, rows_of, turned_content}
+use Rattle.model.specs.Object.{Content, Object, cols_of, in_domain, rows_of, transposed_content}
 use Rattle.model.specs.Product.{product}
 use Rattle.model.specs.Reductions.{row_sums}
 use Rattle.model.specs.Regions.{cols_in, extracted, filled, is_listed, placed, rows_in}
@@ -25,10 +25,10 @@ use Rattle.model.specs.Table.{inner_size}
 
 -- The product of two factors of a form, over at most n terms. A vector is a column; as the first factor it is a
 -- row, and so is the product, which is a column again.
-abbrev pub multiplied : Form → RingName → ℕ → Content → Content → Content
-multiplied MatrixMatrix ring n a b = product ring n a b
-multiplied MatrixVector ring n a b = product ring n a b
-multiplied VectorMatrix ring n a b = turned_content (product ring n (turned_content a) b)
+abbrev pub multiplied : Form → SemiringName → ℕ → Content → Content → Content
+multiplied MatrixMatrix semiring n a b = product semiring n a b
+multiplied MatrixVector semiring n a b = product semiring n a b
+multiplied VectorMatrix semiring n a b = transposed_content (product semiring n (transposed_content a) b)
 
 abbrev pub combined : Positions → OpName → Object → Object → Content
 combined Union op a b = union op a b
@@ -39,15 +39,15 @@ abbrev pub computed_of_one : Shape → OneInput → Object → Content
 computed_of_one shape (Apply function) a = applied function (in_domain (function_domain function) a)
 computed_of_one shape (Select op scalar) a = selected op scalar a
 computed_of_one shape (ReduceRows monoid) a = row_sums monoid (cols_of a.shape) (in_domain monoid.domain a)
-computed_of_one shape Transpose a = turned_content a.content
+computed_of_one shape Transpose a = transposed_content a.content
 computed_of_one shape (Extract region) a =
     extracted (rows_of a.shape) (cols_of a.shape) (rows_in region) (cols_in region) a.content
 computed_of_one shape (Assign region) a =
     placed (rows_of shape) (cols_of shape) (rows_in region) (cols_in region) a.content
 
 abbrev pub computed_of_two : TwoInputs → Object → Object → Content
-computed_of_two (Multiply form ring) a b =
-    multiplied form ring (inner_size form a.shape) (in_domain ring.domain a) (in_domain ring.domain b)
+computed_of_two (Multiply form semiring) a b =
+    multiplied form semiring (inner_size form a.shape) (in_domain semiring.domain a) (in_domain semiring.domain b)
 computed_of_two (Combine positions op) a b = combined positions op a b
 
 -- in the domain that the table gives, of an output of a domain and a shape

@@ -21,7 +21,7 @@ use Rattle.model.specs.declared.shape.Shape.{Shape}
 use Rattle.model.specs.declared.shape.Shape.TheVariants.{One, Two}
 use Rattle.model.specs.declared.shape.Signature.{Signature}
 use Rattle.model.specs.Indices.{count_of}
-use Rattle.model.specs.Object.{cols_of, is_matrix, rows_of, same_kind, same_shape, turned_shape}
+use Rattle.model.specs.Object.{cols_of, is_matrix, rows_of, same_kind, same_shape, transposed_shape}
 use Rattle.model.specs.Regions.{cols_in, has_no_repeat, is_region_of, lies_inside, rows_in, shape_in}
 
 -- whether factors are of the kinds that a product's form says
@@ -76,7 +76,7 @@ plan_of_one c Transpose a = record {
   fits = true;
   inside = true;
   values = true;
-  shape = turned_shape a.shape;
+  shape = transposed_shape a.shape;
   domain = a.domain;
 }
 plan_of_one c (Extract region) a = record {
@@ -100,14 +100,14 @@ plan_of_one c (Assign region) a = record {
 
 -- ..and of its two inputs
 abbrev pub plan_of_two : TwoInputs → Signature → Signature → Plan
-plan_of_two (Multiply form ring) a b = record {
+plan_of_two (Multiply form semiring) a b = record {
   kinds = are_factors form a.shape b.shape;
-  compatible = are_compatible a.domain ring.domain && are_compatible b.domain ring.domain;
+  compatible = are_compatible a.domain semiring.domain && are_compatible b.domain semiring.domain;
   fits = inner_size form a.shape == rows_of b.shape;
   inside = true;
   values = true;
   shape = product_shape form a.shape b.shape;
-  domain = answer_domain ring.multiply ring.domain;
+  domain = answer_domain semiring.multiply semiring.domain;
 }
 plan_of_two (Combine positions op) a b = record {
   kinds = same_kind a.shape b.shape;
@@ -150,7 +150,7 @@ offers_one (ReduceRows monoid) = offers (combines_by monoid.kind) monoid.domain
 offers_one _ = true
 
 abbrev pub offers_two : TwoInputs → Bool
-offers_two (Multiply form ring) = offers_semiring ring.add ring.multiply ring.domain
+offers_two (Multiply form semiring) = offers_semiring semiring.add semiring.multiply semiring.domain
 offers_two (Combine positions op) = offers op.kind op.domain
 
 abbrev pub is_offered : {K : Type 0} → Operation K → Bool
@@ -160,17 +160,17 @@ is_offered (OfTwo computes a b) = offers_two computes
 
 -- ---- transposed inputs (GrB_INP0, GrB_INP1)
 
-abbrev pub turned_if : {K : Type 0} → (K → K) → Bool → K → K
-turned_if turn flag a = if flag then turn a else a
+abbrev pub transposed_if : {K : Type 0} → (K → K) → Bool → K → K
+transposed_if transpose flag a = if flag then transpose a else a
 
--- the flag that turns the one input; where the first operand is a plain value, it is the second operand
-abbrev pub turns_one : OneInput → Desc → Bool
-turns_one (Apply (First op value)) desc = desc.turn_second
-turns_one _ desc = desc.turn_first
+-- the flag that transposes the one input; where the first operand is a plain value, it is the second operand
+abbrev pub transposes_one : OneInput → Desc → Bool
+transposes_one (Apply (First op value)) desc = desc.transpose_second
+transposes_one _ desc = desc.transpose_first
 
--- an operation whose inputs are turned as the flags say
-abbrev pub turned : {K : Type 0} → (K → K) → Desc → Operation K → Operation K
-turned turn desc (Fill value region) = Fill value region
-turned turn desc (OfOne computes a) = OfOne computes (turned_if turn (turns_one computes desc) a)
-turned turn desc (OfTwo computes a b) =
-    OfTwo computes (turned_if turn desc.turn_first a) (turned_if turn desc.turn_second b)
+-- an operation whose inputs are transposed as the flags say
+abbrev pub transposed : {K : Type 0} → (K → K) → Desc → Operation K → Operation K
+transposed transpose desc (Fill value region) = Fill value region
+transposed transpose desc (OfOne computes a) = OfOne computes (transposed_if transpose (transposes_one computes desc) a)
+transposed transpose desc (OfTwo computes a b) =
+    OfTwo computes (transposed_if transpose desc.transpose_first a) (transposed_if transpose desc.transpose_second b)

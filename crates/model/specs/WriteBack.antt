@@ -13,11 +13,11 @@ use Rattle.model.specs.declared.call.Operation.{Operation}
 use Rattle.model.specs.declared.call.Out.{Out}
 use Rattle.model.specs.Builds.{built}
 use Rattle.model.specs.Fault.{plan_in}
-use Rattle.model.specs.Object.{Content, Object, cast_content, col_of, no_content, row_of, signature_of, turned_object}
-use Rattle.model.specs.Object.{with_entry, without_entry}
+use Rattle.model.specs.Object.{Content, Object, cast_content, col_of, no_content, row_of, signature_of}
+use Rattle.model.specs.Object.{transposed_object, with_entry, without_entry}
 use Rattle.model.specs.Operations.{is_written_by, operation}
 use Rattle.model.specs.Renamed.{renamed_operation}
-use Rattle.model.specs.Table.{turned}
+use Rattle.model.specs.Table.{transposed}
 
 -- ---- the mask set
 
@@ -61,7 +61,7 @@ unfoldable pub result_of : Out Object → Operation Object → Content
 result_of out inputs =
     let c = signature_of out.c in
     let plan = plan_in c out.desc (renamed_operation signature_of inputs) in
-    let values = cast_content plan.domain c.domain (operation c (turned turned_object out.desc inputs)) in
+    let values = cast_content plan.domain c.domain (operation c (transposed transposed_object out.desc inputs)) in
     masked out (landed out (is_written_by c.shape inputs) values)
 
 -- what a call leaves in the object into which it writes

@@ -1,7 +1,7 @@
 //! The calls, generic in how they name objects.
 
 use crate::{IndexList, Place, Shape, TupleList};
-use algebra::{Domain, FunctionName, IndexName, MonoidName, OpName, RingName};
+use algebra::{Domain, FunctionName, IndexName, MonoidName, OpName, SemiringName};
 
 /// The flags of a descriptor (`GrB_Descriptor`).
 #[derive(Clone, Copy)]
@@ -13,9 +13,9 @@ pub struct Desc {
     /// `GrB_COMP`: the positions outside the mask are meant.
     pub complement: bool,
     /// `GrB_INP0` is `GrB_TRAN`: the first input is transposed.
-    pub turn_first: bool,
+    pub transpose_first: bool,
     /// `GrB_INP1` is `GrB_TRAN`: the second input is transposed.
-    pub turn_second: bool,
+    pub transpose_second: bool,
 }
 
 /// Where an operation's values go: the output, the mask and the accumulator, where there are any, and
@@ -74,16 +74,16 @@ pub enum OneInput {
 
 impl OneInput {
     ghost use Rattle.std.specs.Prelude.{◌≡◌};
-    ghost use Rattle.model.specs.Table.{turns_one};
+    ghost use Rattle.model.specs.Table.{transposes_one};
 
-    /// Whether a descriptor's flags turn the input; where the first operand is a plain value, the input is
+    /// Whether a descriptor's flags transpose the input; where the first operand is a plain value, the input is
     /// the second.
-    pub fn is_turned(&self, desc: Desc) -> bool
-        ensures { result ≡ turns_one self.now desc }
+    pub fn is_transposed(&self, desc: Desc) -> bool
+        ensures { result ≡ transposes_one self.now desc }
     {
         match self {
-            OneInput::Apply(FunctionName::First { .. }) => desc.turn_second,
-            _ => desc.turn_first,
+            OneInput::Apply(FunctionName::First { .. }) => desc.transpose_second,
+            _ => desc.transpose_first,
         }
     }
 }
@@ -92,7 +92,7 @@ impl OneInput {
 #[derive(Clone, Copy)]
 pub enum TwoInputs {
     /// The product of two factors over a semiring.
-    Multiply { form: Form, ring: RingName },
+    Multiply { form: Form, semiring: SemiringName },
     /// An operator's answers, position by position.
     Combine { positions: Positions, op: OpName },
 }

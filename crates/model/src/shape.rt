@@ -3,7 +3,7 @@ ghost use Rattle.std.specs.Prelude.{◌≡◌};
 ghost use Rattle.model.specs.Fault.{are_dimensions, is_dimension};
 ghost use Rattle.model.specs.Object.{cols_of, is_inside, is_matrix, is_of_kind, row_of, col_of, rows_of, same_kind};
 ghost use Rattle.model.specs.Object.{same_length};
-ghost use Rattle.model.specs.Object.{same_shape, turned_shape};
+ghost use Rattle.model.specs.Object.{same_shape, transposed_shape};
 
 use crate::limits::GREATEST_DIMENSION;
 use algebra::Domain;
@@ -65,8 +65,8 @@ impl Shape {
     }
 
     /// The shape of the transpose; a vector's is its own.
-    pub const fn turned(self) -> Shape
-        ensures { result ≡ turned_shape self }
+    pub const fn transposed(self) -> Shape
+        ensures { result ≡ transposed_shape self }
     {
         match self {
             Shape::One(size) => Shape::One(size),

@@ -12,8 +12,8 @@ use Rattle.algebra.specs.declared.operator_names.OpName.{OpName}
 use Rattle.model.specs.Builds.{gathered, joined, joined_all, words_at}
 use Rattle.model.specs.declared.entry.Entry.{Entry}
 use Rattle.model.specs.Entries.{InOrder, Precedes, entry_at, word_at}
-use Rattle.store.specs.Stored.{AreIn, along, turned}
-use Rattle.store.proofs.Contents.{turned_twice, word_at-turned}
+use Rattle.store.specs.Stored.{AreIn, along, transposed}
+use Rattle.store.proofs.Contents.{transposed_twice, word_at-transposed}
 use Rattle.store.proofs.Order.{all_from_map, all_pairs_cons, all_pairs_head, all_pairs_nil, all_pairs_tail}
 use Rattle.patch.specs.Runs.{IsNotBehind, runs_from, runs_of}
 
@@ -123,26 +123,26 @@ runs_of-all P joins (e ∷ es) h = runs_from-all P joins e es h
 
 -- ---- entries as they lie
 
-words_at-turned : (es : List Entry) (i j : ℕ) → words_at (turned es) i j ≡ words_at es j i
-words_at-turned [] i j = refl
-words_at-turned (e ∷ es) i j =
-    let rest = words_at-turned es i j in
+words_at-transposed : (es : List Entry) (i j : ℕ) → words_at (transposed es) i j ≡ words_at es j i
+words_at-transposed [] i j = refl
+words_at-transposed (e ∷ es) i j =
+    let rest = words_at-transposed es i j in
     elim (cases_Bool (eqb j e.row && eqb i e.col)) [
       | inl at ↦
-          let turned_at : (eqb i e.col && eqb j e.row) ≡ true = grind (arith, nat_tests) in
-          rw (at, turned_at) (ap (λ ws. e.word ∷ ws) rest)
+          let transposed_at : (eqb i e.col && eqb j e.row) ≡ true = grind (arith, nat_tests) in
+          rw (at, transposed_at) (ap (λ ws. e.word ∷ ws) rest)
       | inr away ↦
           let turned_away : (eqb i e.col && eqb j e.row) ≡ false = grind (arith, nat_tests) in
           rw (away, turned_away) rest
     ]
 
-gathered-turned : (joins : Option OpName) (es : List Entry) (i j : ℕ) → gathered joins (turned es) i j ≡ gathered joins es j i
-gathered-turned joins es i j = ap (joined_all joins) (words_at-turned es i j)
+gathered-transposed : (joins : Option OpName) (es : List Entry) (i j : ℕ) → gathered joins (transposed es) i j ≡ gathered joins es j i
+gathered-transposed joins es i j = ap (joined_all joins) (words_at-transposed es i j)
 
 pub along-words : (joins : Option OpName) (cols : ℕ) (es : List Entry) → AllPairs IsNotBehind es → (i j : ℕ) → word_at (along cols (runs_of joins es)) i j ≡ gathered joins (along cols es) i j
 along-words joins cols es order i j =
     elim (cases_Bool (eqb cols 1)) [
-      | inl one ↦ rw one (word_at-turned (runs_of joins es) i j ∙ runs_of-words joins es j i order ∙ sym (gathered-turned joins es i j))
+      | inl one ↦ rw one (word_at-transposed (runs_of joins es) i j ∙ runs_of-words joins es j i order ∙ sym (gathered-transposed joins es i j))
       | inr many ↦ rw many (runs_of-words joins es i j order)
     ]
 
@@ -152,7 +152,7 @@ along-inside joins first past cols es h =
     let turn : Entry → Entry = λ e. entry_at e.col e.row e.word in
     elim (cases_Bool (eqb cols 1)) [
       | inl one ↦
-          let inside : AreIn first past cols (turned es) = rw one at h in
+          let inside : AreIn first past cols (transposed es) = rw one at h in
           rw one (All-map (λ e. P e.row e.col) turn (runs_of joins es) (runs_of-all (λ i j. P j i) joins es (all_from_map (λ e. P e.row e.col) turn es inside)))
       | inr many ↦
           let inside : AreIn first past cols es = rw many at h in
@@ -161,19 +161,19 @@ along-inside joins first past cols es h =
 
 pub along_twice : (cols : ℕ) (es : List Entry) → along cols (along cols es) ≡ es
 along_twice cols es =
-    elim (cases_Bool (eqb cols 1)) [ inl one ↦ rw one (turned_twice es) | inr many ↦ rw many refl ]
+    elim (cases_Bool (eqb cols 1)) [ inl one ↦ rw one (transposed_twice es) | inr many ↦ rw many refl ]
 
-turned_behind : (e f : Entry) → IsNotBehind e f → e.col < 1 → f.col < 1 → IsNotBehind (entry_at e.col e.row e.word) (entry_at f.col f.row f.word)
-turned_behind e f (inl before) one other = inr (omega arith, omega arith)
-turned_behind e f (inr before) one other = inr (omega arith, omega (arith, before.0))
+transposed_behind : (e f : Entry) → IsNotBehind e f → e.col < 1 → f.col < 1 → IsNotBehind (entry_at e.col e.row e.word) (entry_at f.col f.row f.word)
+transposed_behind e f (inl before) one other = inr (omega arith, omega arith)
+transposed_behind e f (inr before) one other = inr (omega arith, omega (arith, before.0))
 
-turned_order : (es : List Entry) → AllPairs IsNotBehind es → All (λ e. e.col < 1) es → AllPairs IsNotBehind (turned es)
-turned_order [] order h = all_pairs_nil IsNotBehind
-turned_order (e ∷ es) order h =
+transposed_order : (es : List Entry) → AllPairs IsNotBehind es → All (λ e. e.col < 1) es → AllPairs IsNotBehind (transposed es)
+transposed_order [] order h = all_pairs_nil IsNotBehind
+transposed_order (e ∷ es) order h =
     let turn : Entry → Entry = λ e. entry_at e.col e.row e.word in
-    let rest = turned_order es (all_pairs_tail IsNotBehind e es order) (All-tail (λ e. e.col < 1) e es h) in
-    let behind : All (λ f. IsNotBehind (turn e) (turn f)) es = λ k d within. turned_behind e (get_or es k d) (all_pairs_head IsNotBehind e es order k d within) (All-head (λ e. e.col < 1) e es h) (All-tail (λ e. e.col < 1) e es h k d within) in
-    all_pairs_cons IsNotBehind (turn e) (turned es) (All-map (IsNotBehind (turn e)) turn es behind) rest
+    let rest = transposed_order es (all_pairs_tail IsNotBehind e es order) (All-tail (λ e. e.col < 1) e es h) in
+    let behind : All (λ f. IsNotBehind (turn e) (turn f)) es = λ k d within. transposed_behind e (get_or es k d) (all_pairs_head IsNotBehind e es order k d within) (All-head (λ e. e.col < 1) e es h) (All-tail (λ e. e.col < 1) e es h k d within) in
+    all_pairs_cons IsNotBehind (turn e) (transposed es) (All-map (IsNotBehind (turn e)) turn es behind) rest
 
 -- entries in order are so as they lie
 pub along_order : (first past cols : ℕ) (es : List Entry) → AllPairs IsNotBehind es → AreIn first past cols es → AllPairs IsNotBehind (along cols es)
@@ -181,7 +181,7 @@ along_order first past cols es order inside =
     elim (cases_Bool (eqb cols 1)) [
       | inl one ↦
           let column : All (λ e. e.col < 1) es = All-weaker (λ e. ((first ≤ e.row) × (e.row < past)) × (e.col < cols)) (λ e. e.col < 1) (λ e p. (let q = p.1 in grind (arith, nat_tests))) es inside in
-          rw one (turned_order es order column)
+          rw one (transposed_order es order column)
       | inr many ↦ rw many order
     ]
 

@@ -1,6 +1,6 @@
 //! Entries as they lie in a store.
 ghost use Rattle.std.specs.Prelude.{◌≡◌};
-ghost use Rattle.store.specs.Stored.{along, turned};
+ghost use Rattle.store.specs.Stored.{along, transposed};
 
 use model::Entry;
 
@@ -10,14 +10,14 @@ pub(crate) fn lay_along(mut entries: Vec<Entry>, cols: u64) -> Vec<Entry>
     ensures { result.items ≡ along cols entries.items }
 {
     if cols == 1 {
-        turn(&mut entries);
+        transpose(&mut entries);
     }
     entries
 }
 
 /// Exchanges the rows and columns of entries.
-fn turn(entries: &mut [Entry])
-    ensures { entries.new ≡ turned entries.old }
+fn transpose(entries: &mut [Entry])
+    ensures { entries.new ≡ transposed entries.old }
 {
     for entry in entries.iter_mut() {
         *entry = Entry {

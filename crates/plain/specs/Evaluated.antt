@@ -13,11 +13,11 @@ use Rattle.model.specs.declared.shape.Signature.{Signature}
 use Rattle.model.specs.declared.entry.Entry.{Entry}
 use Rattle.model.specs.Entries.{word_at}
 use Rattle.model.specs.Fault.{plan_in}
-use Rattle.model.specs.Object.{Content, Object, cast_content, cols_of, rows_of, signature_of, turned_content}
-use Rattle.model.specs.Object.{turned_object}
+use Rattle.model.specs.Object.{Content, Object, cast_content, cols_of, rows_of, signature_of, transposed_content}
+use Rattle.model.specs.Object.{transposed_object}
 use Rattle.model.specs.Operations.{is_written_by, operation as computed}
 use Rattle.model.specs.Renamed.{renamed_operation, renamed_out}
-use Rattle.model.specs.Table.{is_offered, turned, turned_if}
+use Rattle.model.specs.Table.{is_offered, transposed, transposed_if}
 use Rattle.model.specs.WriteBack.{landed, result_of}
 use Rattle.plain.specs.declared.found.Found.{Found}
 use Rattle.plain.specs.declared.found.Found.TheVariants as found
@@ -72,7 +72,7 @@ landed_in out operation =
     let c = signature_of (out_of out).c in
     let plan = plan_in c out.desc (known_operation operation) in
     let values = cast_content plan.domain c.domain
-    (computed c (turned turned_object out.desc (operation_of operation))) in
+    (computed c (transposed transposed_object out.desc (operation_of operation))) in
     landed (out_of out) (is_written_by c.shape (operation_of operation)) values
 
 -- whether there are the operators that an operation and its accumulator name
@@ -84,7 +84,7 @@ are_operators out operation = is_offered operation && accumulator_offered out.ac
 
 -- an input as it is read
 abbrev pub input_of : Input → Object
-input_of input = turned_if turned_object input.is_turned (object_of input.object.now)
+input_of input = transposed_if transposed_object input.is_transposed (object_of input.object.now)
 
 -- a sum, where there is one, and one more term, where there is one
 abbrev pub added : (ℕ → ℕ → ℕ) → Option ℕ → Option ℕ → Option ℕ
@@ -96,7 +96,7 @@ added add (Some sum) (Some term) = Some (add sum term)
 abbrev pub first_factor : Form → Content → Content
 first_factor MatrixMatrix c = c
 first_factor MatrixVector c = c
-first_factor VectorMatrix c = turned_content c
+first_factor VectorMatrix c = transposed_content c
 
 -- a position of a product: where that is a row, it is held as a column
 abbrev pub place_in : Form → ℕ → ℕ → ℕ × ℕ

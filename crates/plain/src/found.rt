@@ -63,7 +63,7 @@ const fn offers_two(computes: TwoInputs) -> bool
     ensures { result ≡ offers_two computes }
 {
     match computes {
-        TwoInputs::Multiply { ring, .. } => ring.is_offered(),
+        TwoInputs::Multiply { semiring, .. } => semiring.is_offered(),
         TwoInputs::Combine { op, .. } => op.is_offered(),
     }
 }

@@ -1,8 +1,8 @@
 //! The inputs of operations, as they are read.
 ghost use Rattle.std.specs.Prelude.{◌≡◌};
 ghost use Rattle.algebra.specs.Value.{cast_of};
-ghost use Rattle.model.specs.Object.{in_domain, signature_of, turned_object};
-ghost use Rattle.model.specs.Table.{turned_if};
+ghost use Rattle.model.specs.Object.{in_domain, signature_of, transposed_object};
+ghost use Rattle.model.specs.Table.{transposed_if};
 ghost use Rattle.plain.specs.Evaluated.{input_of, object_of};
 
 use crate::objects::PlainObject;
@@ -13,7 +13,7 @@ use model::{Shape, Signature};
 #[derive(Clone, Copy)]
 pub struct Input<'a> {
     pub object: &'a PlainObject,
-    pub is_turned: bool,
+    pub is_transposed: bool,
 }
 
 impl Input<'_> {
@@ -21,8 +21,8 @@ impl Input<'_> {
     pub fn shape(self) -> Shape
         ensures { result ≡ (input_of self.entry).shape }
     {
-        if self.is_turned {
-            self.object.shape.turned()
+        if self.is_transposed {
+            self.object.shape.transposed()
         } else {
             self.object.shape
         }
@@ -42,7 +42,7 @@ impl Input<'_> {
     pub fn word(self, row: u64, col: u64) -> Option<u64>
         ensures { result ≡ (input_of self.entry).content row col }
     {
-        if self.is_turned && self.object.shape.is_matrix() {
+        if self.is_transposed && self.object.shape.is_matrix() {
             self.object.word(col, row)
         } else {
             self.object.word(row, col)
@@ -66,8 +66,11 @@ impl Input<'_> {
 }
 
 /// An input that is read transposed, if its flag says so.
-pub const fn read(is_turned: bool, object: &PlainObject) -> Input<'_>
-    ensures { input_of result ≡ turned_if turned_object is_turned (object_of object.now) }
+pub const fn read(is_transposed: bool, object: &PlainObject) -> Input<'_>
+    ensures { input_of result ≡ transposed_if transposed_object is_transposed (object_of object.now) }
 {
-    Input { object, is_turned }
+    Input {
+        object,
+        is_transposed,
+    }
 }

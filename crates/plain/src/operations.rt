@@ -5,11 +5,11 @@ ghost use Rattle.algebra.specs.IndexOperators.{offers_index};
 ghost use Rattle.algebra.specs.Operators.{offers};
 ghost use Rattle.algebra.specs.Value.{word_of};
 ghost use Rattle.model.specs.ElementWise.{applied, selected};
-ghost use Rattle.model.specs.Object.{cols_of, in_domain, rows_of, turned_object};
+ghost use Rattle.model.specs.Object.{cols_of, in_domain, rows_of, transposed_object};
 ghost use Rattle.model.specs.Operations.{combined, computed_of_one, computed_of_two, is_written_by};
 ghost use Rattle.model.specs.Operations.{operation as computed};
 ghost use Rattle.model.specs.Regions.{cols_in, filled, rows_in};
-ghost use Rattle.model.specs.Table.{is_offered, offers_one, offers_two, turned};
+ghost use Rattle.model.specs.Table.{is_offered, offers_one, offers_two, transposed};
 ghost use Rattle.plain.specs.Evaluated.{input_of, operation_of};
 
 use crate::found::Found;
@@ -20,23 +20,23 @@ use crate::sums::row_sum;
 use algebra::{FunctionName, IndexName, OpName};
 use model::{Desc, OneInput, Positions, Region, Shape, Signature, TwoInputs};
 
-/// What an operation computes at a position of its inputs, turned as the descriptor says.
+/// What an operation computes at a position of its inputs, transposed as the descriptor says.
 #[tactic(auto, unfolding(model::specs::Operations::operation))]
 pub fn value_at(c: Signature, desc: Desc, operation: Found<'_>, row: u64, col: u64) -> Option<u64>
     requires { is_offered (operation_of operation) ≡ true }
-    ensures { result ≡ computed c (turned turned_object desc (operation_of operation.entry)) row col }
+    ensures { result ≡ computed c (transposed transposed_object desc (operation_of operation.entry)) row col }
 {
     match operation {
         Found::Fill { value, region } => {
             filled(c.shape, region, c.domain.wrapped(value), row, col)
         }
         Found::OfOne { computes, a } => {
-            let a = read(computes.is_turned(desc), a);
+            let a = read(computes.is_transposed(desc), a);
             one_at(c.shape, computes, a, row, col)
         }
         Found::OfTwo { computes, a, b } => {
-            let a = read(desc.turn_first, a);
-            let b = read(desc.turn_second, b);
+            let a = read(desc.transpose_first, a);
+            let b = read(desc.transpose_second, b);
             two_at(computes, a, b, row, col)
         }
     }
@@ -94,11 +94,11 @@ fn two_at(computes: TwoInputs, a: Input, b: Input, row: u64, col: u64) -> Option
     ensures { result ≡ computed_of_two computes (input_of a.entry) (input_of b.entry) row col }
 {
     match computes {
-        TwoInputs::Multiply { form, ring } => {
-            let Some(ring) = ring.resolve() else {
+        TwoInputs::Multiply { form, semiring } => {
+            let Some(semiring) = semiring.resolve() else {
                 unreachable!()
             };
-            product(form, ring, a, b, row, col)
+            product(form, semiring, a, b, row, col)
         }
         TwoInputs::Combine { positions, op } => combined(positions, op, a, b, row, col),
     }

@@ -1,6 +1,6 @@
 //! Products, one position at a time.
 ghost use Rattle.std.specs.Prelude.{◌≡◌};
-ghost use Rattle.algebra.specs.OperatorNames.{ring_named};
+ghost use Rattle.algebra.specs.OperatorNames.{semiring_named};
 ghost use Rattle.model.specs.Object.{in_domain};
 ghost use Rattle.model.specs.Operations.{multiplied};
 ghost use Rattle.model.specs.Product.{product_of};
@@ -45,19 +45,26 @@ pub const fn product_shape(form: Form, first: Shape, second: Shape) -> Shape
 }
 
 /// The sum of the products at a position, in the domain of the semiring's sums.
-pub fn product(form: Form, ring: Semiring, a: Input, b: Input, row: u64, col: u64) -> Option<u64>
-    ensures { let ring = ring_named ring in
-        result ≡ multiplied form ring (inner_size form (input_of a.entry).shape)
-        (in_domain ring.domain (input_of a.entry)) (in_domain ring.domain (input_of b.entry)) row col }
+pub fn product(
+    form: Form,
+    semiring: Semiring,
+    a: Input,
+    b: Input,
+    row: u64,
+    col: u64,
+) -> Option<u64>
+    ensures { let semiring = semiring_named semiring in
+        result ≡ multiplied form semiring (inner_size form (input_of a.entry).shape)
+        (in_domain semiring.domain (input_of a.entry)) (in_domain semiring.domain (input_of b.entry)) row col }
 {
-    let domain = ring.multiply.domain;
+    let domain = semiring.multiply.domain;
     let terms = inner_size(form, a.shape());
     let (row, col) = place_in(form, row, col);
     let mut sum = None;
     for k in 0..terms {
         let x = first_word(form, domain, a, row, k);
         let y = b.word_in(domain, k, col);
-        sum = plus(ring.add, sum, times(ring, x, y));
+        sum = plus(semiring.add, sum, times(semiring, x, y));
     }
     sum
 }
@@ -82,11 +89,11 @@ fn first_word(form: Form, domain: Domain, a: Input, row: u64, col: u64) -> Optio
 }
 
 /// A word times a word, where both are there.
-const fn times(ring: Semiring, x: Option<u64>, y: Option<u64>) -> Option<u64>
-    ensures { result ≡ product_of (ring_named ring) x y }
+const fn times(semiring: Semiring, x: Option<u64>, y: Option<u64>) -> Option<u64>
+    ensures { result ≡ product_of (semiring_named semiring) x y }
 {
     match (x, y) {
-        (Some(x), Some(y)) => Some(ring.multiply.eval(x, y)),
+        (Some(x), Some(y)) => Some(semiring.multiply.eval(x, y)),
         _ => None,
     }
 }

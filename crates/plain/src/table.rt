@@ -13,19 +13,19 @@ use crate::regions::{has_no_repeat, is_region_of, lies_inside, shape_in};
 use algebra::compatible;
 use model::{Desc, OneInput, Plan, Region, Shape, Signature, TwoInputs};
 
-/// What the table says of an operation on its output and its inputs, turned as the descriptor says.
+/// What the table says of an operation on its output and its inputs, transposed as the descriptor says.
 pub fn plan(c: Signature, desc: Desc, operation: Found<'_>) -> Plan
     ensures { result ≡ plan_in c desc (renamed_operation signature_of (operation_of operation.entry)) }
 {
     match operation {
         Found::Fill { value, region } => plan_of_fill(c, value, region),
         Found::OfOne { computes, a } => {
-            let a = read(computes.is_turned(desc), a);
+            let a = read(computes.is_transposed(desc), a);
             plan_of_one(c, computes, a.signature())
         }
         Found::OfTwo { computes, a, b } => {
-            let a = read(desc.turn_first, a);
-            let b = read(desc.turn_second, b);
+            let a = read(desc.transpose_first, a);
+            let b = read(desc.transpose_second, b);
             plan_of_two(computes, a.signature(), b.signature())
         }
     }
@@ -92,7 +92,7 @@ fn plan_of_one(c: Signature, computes: &OneInput, a: Signature) -> Plan
         },
         OneInput::Transpose => Plan {
             kinds: a.shape.is_matrix(),
-            shape: a.shape.turned(),
+            shape: a.shape.transposed(),
             ..undemanding(a)
         },
         OneInput::Extract(region) => plan_of_extract(region, a),
@@ -129,12 +129,13 @@ fn plan_of_two(computes: TwoInputs, a: Signature, b: Signature) -> Plan
     ensures { result ≡ plan_of_two computes a b }
 {
     match computes {
-        TwoInputs::Multiply { form, ring } => Plan {
+        TwoInputs::Multiply { form, semiring } => Plan {
             kinds: are_factors(form, a.shape, b.shape),
-            compatible: compatible(a.domain, ring.domain) && compatible(b.domain, ring.domain),
+            compatible: compatible(a.domain, semiring.domain)
+                && compatible(b.domain, semiring.domain),
             fits: inner_size(form, a.shape) == b.shape.rows(),
             shape: product_shape(form, a.shape, b.shape),
-            domain: ring.answer(),
+            domain: semiring.answer(),
             ..undemanding(a)
         },
         TwoInputs::Combine { op, .. } => Plan {

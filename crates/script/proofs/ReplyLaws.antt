@@ -18,7 +18,7 @@ use Rattle.model.specs.Run.{with_object, Environment, data_lines_of, effect, obj
 use Rattle.model.specs.Text.{canonical_lines}
 use Rattle.model.proofs.RenamedLaws.{renamed_twice}
 use Rattle.script.proofs.NameLaws.{AreDistinct, data_renamed, effect-unmade, fault-along, fault-missing, left_renamed, names_renamed, on_objects-along, place-along, put_by, put_renamed, put_to, there_renamed}
-use Rattle.script.specs.declared.names.Names.{Names}
+use Rattle.script.specs.declared.environment.Environment.{Environment as Objects}
 use Rattle.script.specs.Named.{Asks, HasLines, environment_in, changes_names, number_in, reply_lines, through}
 use Rattle.script.specs.Replied.{IsReplied}
 use Rattle.session.specs.declared.reply.Reply.{Reply}
@@ -161,7 +161,7 @@ made_after-most old (Ok x) (Operate out operation) = omega arith
 
 -- ---- together
 
-pub replied : (old new : Names) (call : Call Name Name) (r : Call Obj Name) (result : Result Reply Status) → made_in old.session < 2 ^ 64 - 1 → changes_names call ≡ false
+pub replied : (old new : Objects) (call : Call Name Name) (r : Call Obj Name) (result : Result Reply Status) → made_in old.session < 2 ^ 64 - 1 → changes_names call ≡ false
     → AreDistinct (number_in old) → new.numbers ≡ old.numbers → renamed Some (λ n. n) r ≡ renamed (number_in old) (λ n. n) call
     → IsPerformed old.session new.session (numbered old.session r) result
     → IfOk result (Answers (environment_of old.session) (numbered old.session r)) → IsReplied old new call result
@@ -205,13 +205,13 @@ stays_there number session new call (Ok reply) known there done name object is =
 stays_there number session new call (Err s) known there done name object is =
     ap (λ (env : Environment Obj). is_some (env.find_object object)) done.kept ∙ there name object is
 
-pub refused : (old new : Names) (call : Call Name Name) (s : Status) → fault_of (environment_in old).count (seen (environment_in old) call) ≡ Some s
+pub refused : (old new : Objects) (call : Call Name Name) (s : Status) → fault_of (environment_in old).count (seen (environment_in old) call) ≡ Some s
     → new ≡ old → IsReplied old new call (Err s)
 refused old new call s fault same = record {
   status = inr fault;
   effect = tt;
   kept = ap environment_in same;
-  made = rw (ap (λ (n : Names). made_in n.session) same) (omega arith);
+  made = rw (ap (λ (n : Objects). made_in n.session) same) (omega arith);
   lines = tt;
   asks = tt;
   reads = tt;
@@ -231,7 +231,7 @@ named_again {X = X} now number call r e =
 numbered_again : {X : Type 0} (now : X → Name) (session : Session) (r : Call Obj X) → numbered session (renamed (λ o. o) now r) ≡ numbered session r
 numbered_again now session r = renamed_twice (λ (o : Obj). o) (λ (o : Obj). o) now (λ (n : Name). record { 0 = session.next }) r
 
-pub replied_named : {X : Type 0} (now : X → Name) (old new : Names) (call : Call X X) (r : Call Obj X) (result : Result Reply Status) → made_in old.session < 2 ^ 64 - 1 → changes_names call ≡ false
+pub replied_named : {X : Type 0} (now : X → Name) (old new : Objects) (call : Call X X) (r : Call Obj X) (result : Result Reply Status) → made_in old.session < 2 ^ 64 - 1 → changes_names call ≡ false
     → AreDistinct (number_in old) → new.numbers ≡ old.numbers → renamed Some (λ x. x) r ≡ renamed (λ x. number_in old (now x)) (λ x. x) call
     → IsPerformed old.session new.session (numbered old.session r) result
     → IfOk result (Answers (environment_of old.session) (numbered old.session r)) → IsReplied old new (renamed now now call) result
@@ -245,7 +245,7 @@ pub known_named : {X : Type 0} (now : X → Name) (number : Name → Option Obj)
 known_named now number session call r known e =
     sym (ap changes_names (numbered_again now session r)) ∙ known_along number session (renamed now now call) (renamed (λ o. o) now r) (names_renamed now now call ∙ known) (named_again now number call r e)
 
-pub missing_named : {X : Type 0} (now : X → Name) (names : Names) (call : Call X X) → changes_names call ≡ false → are_there (renamed (λ x. number_in names (now x)) (λ x. x) call) ≡ false
+pub missing_named : {X : Type 0} (now : X → Name) (names : Objects) (call : Call X X) → changes_names call ≡ false → are_there (renamed (λ x. number_in names (now x)) (λ x. x) call) ≡ false
     → IsReplied names names (renamed now now call) (Err status.UninitializedObject)
 missing_named {X = X} now names call known missing =
     let number = number_in names in

@@ -37,12 +37,12 @@ pub under_way-turn : (sources : Sources) (script rest others line : List ℕ) (b
     → IsUnderWay sources script rest before number old new
     → IsUnderWay sources script others after (number + 1) old (new ++ text)
 unfolding IsRun readings_in readings_of
-under_way-turn sources script rest others line before after number old new text first (said, turned, texts) way = record {
+under_way-turn sources script rest others line before after number old new text first (said, transposed, texts) way = record {
   done = way.done ++ with_file sources (reading_of line) ∷ [];
   answers = way.answers ++ said;
   split = way.split ∙ ap (λ ls. way.done ++ map (with_file sources) (map reading_of ls)) first ∙ sym (append_assoc way.done (with_file sources (reading_of line) ∷ []) (readings_in sources others));
   written = rw (way.written, texts, flat_map-append answer_text way.answers said) (append_assoc old (flat_map answer_text way.answers) (flat_map answer_text said));
-  goes_on = λ lines more h. rw (append_assoc, append_assoc) (way.goes_on (with_file sources (reading_of line) ∷ lines) (said ++ more) (said, after, more, turned, h, refl));
+  goes_on = λ lines more h. rw (append_assoc, append_assoc) (way.goes_on (with_file sources (reading_of line) ∷ lines) (said ++ more) (said, after, more, transposed, h, refl));
 }
 
 -- the lines that are answered are a run of their own

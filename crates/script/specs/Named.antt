@@ -13,20 +13,20 @@ use Rattle.model.specs.Text.{canonical_lines}
 use Rattle.session.specs.declared.reply.Reply.{Reply}
 use Rattle.session.specs.declared.reply.Reply.TheVariants as reply
 use Rattle.session.specs.Performed.{environment_of}
-use Rattle.script.specs.declared.names.Names.{Names}
+use Rattle.script.specs.declared.environment.Environment.{Environment as Objects}
 
 -- the number of a name
-abbrev pub number_in : Names → Name → Option Obj
+abbrev pub number_in : Objects → Name → Option Obj
 number_in names name = get_by_text names.numbers name
 
 -- the objects by their names, of numbers and the objects by these
 abbrev pub through : (Name → Option Obj) → Environment Obj → Environment Name
 through number env = record { find_object = λ name. option_and_then env.find_object (number name); count = env.count }
 
-abbrev pub environment_in : Names → Environment Name
+abbrev pub environment_in : Objects → Environment Name
 environment_in names = through (number_in names) (environment_of names.session)
 
-abbrev pub state_in : Names → State
+abbrev pub state_in : Objects → State
 state_in names = record { environment = environment_in names }
 
 -- the call gives a name to a new object, or takes one away

@@ -9,13 +9,13 @@ use Rattle.model.specs.Grammar.{Name}
 use Rattle.model.specs.Run as run
 use Rattle.model.specs.Run.{data_lines_of, on_objects, seen}
 use Rattle.model.specs.Text.{ended}
-use Rattle.script.specs.declared.names.Names.{Names}
+use Rattle.script.specs.declared.environment.Environment.{Environment as Objects}
 use Rattle.script.specs.Named.{Asks, HasLines, environment_in, reply_lines}
 use Rattle.session.specs.declared.reply.Reply.{Reply}
 use Rattle.session.specs.Performed.{Ends, environment_of, made_in}
 
 -- the call was done: how it ended, what it left, and that what it answers are the call's data lines
-pub record IsReplied (old new : Names) (call : Call Name Name) (result : Result Reply Status) : Type 0 where
+pub record IsReplied (old new : Objects) (call : Call Name Name) (result : Result Reply Status) : Type 0 where
   pub status : Ends (fault_of (environment_in old).count (seen (environment_in old) call)) result
   pub effect : OnOk result (environment_in new ≡ run.effect bytes_eq (environment_in old) call)
   pub kept : OnErr result (environment_in new ≡ environment_in old)
@@ -26,7 +26,7 @@ pub record IsReplied (old new : Names) (call : Call Name Name) (result : Result 
   pub reads : IfOk result (λ reply. HasLines reply → environment_in new ≡ environment_in old)
 
 -- the same of a call whose data lines stand behind a text
-pub record IsAnswered (old new : Names) (call : Call Name Name) (before after : List ℕ)
+pub record IsAnswered (old new : Objects) (call : Call Name Name) (before after : List ℕ)
     (result : Result (Unit {0}) Status) : Type 0 where
   pub status : Ends (fault_of (environment_in old).count (seen (environment_in old) call)) result
   pub effect : OnOk result (environment_in new ≡ run.effect bytes_eq (environment_in old) call)

@@ -1,8 +1,8 @@
 //! Scripts of calls: from the bytes of a script to the bytes of its answers.
 #![tactic(auto)]
 
+mod environment;
 mod loading;
-mod names;
 mod replies;
 mod resolving;
 mod running;

@@ -7,7 +7,7 @@ ghost use Rattle.model.specs.MatrixMarket.{matrix_in};
 ghost use Rattle.model.specs.Run.{loaded};
 ghost use Rattle.session.specs.Performed.{Ends, made_in};
 
-use crate::names::{Names, put};
+use crate::environment::{Environment, put};
 use crate::sources::Sources;
 use algebra::Domain;
 use lines::Load;
@@ -16,7 +16,7 @@ use model::Status;
 use std::alloc::Global;
 use store::Tuples;
 
-impl Names {
+impl Environment {
     ghost use Rattle.script.specs.Named.{environment_in};
 
     /// Makes a matrix of what a file holds, under a new name. An error leaves the objects as they were; where there was

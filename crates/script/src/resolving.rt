@@ -4,12 +4,12 @@ ghost use Rattle.model.specs.Fault.{are_there};
 ghost use Rattle.model.specs.Renamed.{inputs_of, outputs_of, renamed, renamed_operation, renamed_out};
 ghost use Rattle.calls.specs.Checks.{IsMissing};
 
-use crate::names::Names;
+use crate::environment::Environment;
 use algebra::{Domain, MonoidName, OpName};
 use model::{Call, Operation, Out, Place, Shape, TupleList};
 use session::Obj;
 
-impl Names {
+impl Environment {
     ghost use Rattle.script.specs.Named.{number_in};
 
     /// The object of a name.

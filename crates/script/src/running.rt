@@ -9,7 +9,7 @@ ghost use Rattle.script.specs.Named.{state_in};
 ghost use Rattle.script.specs.Turns.{Says};
 ghost use Rattle.session.specs.Performed.{made_in};
 
-use crate::names::Names;
+use crate::environment::Environment;
 use crate::sources::Sources;
 use crate::text;
 use lines::{Line, LineFault, first_line, parse_line};
@@ -38,14 +38,14 @@ pub fn run<S: Sources>(
     ensures err { OnErr result ((n : ℕ)
         × Ran (take n (readings_in (S.held sources.now) script.now)) out.old.items out.new.items) }
 {
-    let mut names = Names::new(alloc);
+    let mut environment = Environment::new(alloc);
     let mut text = Vec::with_capacity(alloc, STATUS_LINE)?;
     let mut rest = script;
     let mut number = 1;
     while !rest.is_empty() {
         let (line, others) = first_line(rest);
         text.clear();
-        answer_line(alloc, sources, &mut names, number, line, &mut text)?;
+        answer_line(alloc, sources, &mut environment, number, line, &mut text)?;
         out.extend_from_slice(&text)?;
         rest = others;
         number += 1;
@@ -57,22 +57,22 @@ pub fn run<S: Sources>(
 fn answer_line<S: Sources>(
     alloc: Global,
     sources: &S,
-    names: &mut Names,
+    environment: &mut Environment,
     number: u64,
     line: &[u8],
     text: &mut Vec<u8>,
 ) -> Result<(), AllocError>
     requires empty { text.old.items ≡ [] }
-    requires made { made_in names.old.session < 2 ^ 64 - 1 }
-    ensures says { OnOk result (Says number (state_in names.old)
-        (with_file (S.held sources.now) (reading_of line.now)) text.new.items (state_in names.new)) }
-    ensures made { made_in names.new.session ≤ made_in names.old.session + 1 }
+    requires made { made_in environment.old.session < 2 ^ 64 - 1 }
+    ensures says { OnOk result (Says number (state_in environment.old)
+        (with_file (S.held sources.now) (reading_of line.now)) text.new.items (state_in environment.new)) }
+    ensures made { made_in environment.new.session ≤ made_in environment.old.session + 1 }
 {
     match parse_line(alloc, line) {
         Ok(Line::Silent) => Ok(()),
         Ok(Line::Call(call)) => {
             text::write_status(text, number, Status::Ok)?;
-            match names.perform(call, text) {
+            match environment.perform(call, text) {
                 Ok(()) => Ok(()),
                 Err(status) => {
                     text.clear();
@@ -80,7 +80,7 @@ fn answer_line<S: Sources>(
                 }
             }
         }
-        Ok(Line::Load(load)) => match names.load(sources, load) {
+        Ok(Line::Load(load)) => match environment.load(sources, load) {
             Ok(()) => text::write_status(text, number, Status::Ok),
             Err(status) => text::write_status(text, number, status),
         },

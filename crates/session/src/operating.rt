@@ -7,7 +7,7 @@ ghost use Rattle.model.specs.Fault.{early_fault};
 ghost use Rattle.session.specs.Results.{IsEvaluated, IsLeft, IsStoreOf};
 
 use crate::sessions::Session;
-use algebra::{FunctionName, IndexName, MonoidName, OpName, RingName};
+use algebra::{FunctionName, IndexName, MonoidName, OpName, SemiringName};
 use calls::{
     Call, Checked, Form, Obj, OneInput, Operation, Out, Positions, Recipe, Region, Roles,
     TwoInputs, by_role,
@@ -21,30 +21,48 @@ impl Session {
     ghost use Rattle.session.specs.Performed.{known_in, made_in};
 
     /// Multiplies two matrices over a semiring into a third (`GrB_mxm`).
-    pub fn mxm(&mut self, out: &Out<Obj>, ring: RingName, a: Obj, b: Obj) -> Result<(), Status>
+    pub fn mxm(
+        &mut self,
+        out: &Out<Obj>,
+        semiring: SemiringName,
+        a: Obj,
+        b: Obj,
+    ) -> Result<(), Status>
         ensures { IsPerformed self.old self.new (Call.Operate out.now
-            (Operation.OfTwo (TwoInputs.Multiply Form.MatrixMatrix ring) a b)) result }
+            (Operation.OfTwo (TwoInputs.Multiply Form.MatrixMatrix semiring) a b)) result }
     {
         let form = Form::MatrixMatrix;
-        self.of_two(out, TwoInputs::Multiply { form, ring }, a, b)
+        self.of_two(out, TwoInputs::Multiply { form, semiring }, a, b)
     }
 
     /// Multiplies a matrix and a vector over a semiring into a vector (`GrB_mxv`).
-    pub fn mxv(&mut self, out: &Out<Obj>, ring: RingName, a: Obj, u: Obj) -> Result<(), Status>
+    pub fn mxv(
+        &mut self,
+        out: &Out<Obj>,
+        semiring: SemiringName,
+        a: Obj,
+        u: Obj,
+    ) -> Result<(), Status>
         ensures { IsPerformed self.old self.new (Call.Operate out.now
-            (Operation.OfTwo (TwoInputs.Multiply Form.MatrixVector ring) a u)) result }
+            (Operation.OfTwo (TwoInputs.Multiply Form.MatrixVector semiring) a u)) result }
     {
         let form = Form::MatrixVector;
-        self.of_two(out, TwoInputs::Multiply { form, ring }, a, u)
+        self.of_two(out, TwoInputs::Multiply { form, semiring }, a, u)
     }
 
     /// Multiplies a vector and a matrix over a semiring into a vector (`GrB_vxm`).
-    pub fn vxm(&mut self, out: &Out<Obj>, ring: RingName, u: Obj, a: Obj) -> Result<(), Status>
+    pub fn vxm(
+        &mut self,
+        out: &Out<Obj>,
+        semiring: SemiringName,
+        u: Obj,
+        a: Obj,
+    ) -> Result<(), Status>
         ensures { IsPerformed self.old self.new (Call.Operate out.now
-            (Operation.OfTwo (TwoInputs.Multiply Form.VectorMatrix ring) u a)) result }
+            (Operation.OfTwo (TwoInputs.Multiply Form.VectorMatrix semiring) u a)) result }
     {
         let form = Form::VectorMatrix;
-        self.of_two(out, TwoInputs::Multiply { form, ring }, u, a)
+        self.of_two(out, TwoInputs::Multiply { form, semiring }, u, a)
     }
 
     /// An operator's answers where either of two inputs has a value, of one alone its own value

@@ -13,9 +13,9 @@ use Rattle.model.specs.Regions.{filled}
 use Rattle.store.specs.declared.lists.FiberLists.{FiberLists}
 use Rattle.store.specs.Fibers.{entries_along}
 use Rattle.store.specs.declared.lists.FiberEnd.{FiberEnd}
-use Rattle.store.specs.Stored.{AreIn, turned}
+use Rattle.store.specs.Stored.{AreIn, transposed}
 use Rattle.store.proofs.CloseLaws.{close_fiber, closed}
-use Rattle.store.proofs.Contents.{no_entries, word_at-turned}
+use Rattle.store.proofs.Contents.{no_entries, word_at-transposed}
 use Rattle.store.proofs.FlatLaws.{all_cols, all_rows, flat_none}
 use Rattle.store.proofs.PartLaws.{none_there}
 use Rattle.shapes.specs.Lists.{AreOnce, IsFilledColumn, has_index, spread}
@@ -146,7 +146,7 @@ column_filled rows word old new rises ends inner words put =
       entries = rw (new_ends, new_inner, new_words) (fiber.entries ∙ ap (λ es. es ++ entries_along 0 rows ws) (no_entries 0 [] [] [] refl));
     }
 
-pub column_inside : (first past word : ℕ) (rows : List ℕ) → All (λ x. (first ≤ x) × (x < past)) rows → AreIn first past 1 (turned (entries_along 0 rows (replicate (length rows) word)))
+pub column_inside : (first past word : ℕ) (rows : List ℕ) → All (λ x. (first ≤ x) × (x < past)) rows → AreIn first past 1 (transposed (entries_along 0 rows (replicate (length rows) word)))
 column_inside first past word rows inside =
     All-map (λ (e : Entry). ((first ≤ e.row) × (e.row < past)) × (e.col < 1)) (λ (e : Entry). entry_at e.col e.row e.word) (entries_along 0 rows (replicate (length rows) word))
     (All-weaker (λ (e : Entry). (e.row ≡ 0) × ((first ≤ e.col) × (e.col < past))) (λ (e : Entry). ((first ≤ e.col) × (e.col < past)) × (e.row < 1)) (λ e p. let zero_is = p.0 in (p.1, omega arith)) (entries_along 0 rows (replicate (length rows) word))
@@ -155,10 +155,10 @@ column_inside first past word rows inside =
 one_column_has : (cols : List ℕ) → length cols ≡ 1 → All (λ x. x < 1) cols → has_index cols 0 ≡ true
 one_column_has cols one below = let zero_is : get_or cols 0 0 ≡ 0 = let less = below 0 0 (omega arith) in omega arith in rw zero_is at (has_at cols 0 (omega arith))
 
-pub column_words : (rows cols : List ℕ) (word i j : ℕ) → length cols ≡ 1 → All (λ x. x < 1) cols → word_at (turned (entries_along 0 rows (replicate (length rows) word))) i j ≡ spread rows cols word i j
+pub column_words : (rows cols : List ℕ) (word i j : ℕ) → length cols ≡ 1 → All (λ x. x < 1) cols → word_at (transposed (entries_along 0 rows (replicate (length rows) word))) i j ≡ spread rows cols word i j
 column_words rows cols word i j one below =
     let es = entries_along 0 rows (replicate (length rows) word) in
-    word_at-turned es i j ∙ elim (cases_eq j 0) [
+    word_at-transposed es i j ∙ elim (cases_eq j 0) [
       | inl first ↦ rw first (row_of_word 0 i word rows ∙ rw (one_column_has cols one below) (ap (λ b. cond b (Some word) None) (sym (and_true (has_index rows i)))))
       | inr other ↦
           none_there j i es (All-weaker (λ (e : Entry). e.row ≡ 0) (λ (e : Entry). j ≢ e.row) (λ e p q. other (q ∙ p)) es (all_rows 0 rows (replicate (length rows) word)))

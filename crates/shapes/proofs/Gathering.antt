@@ -6,9 +6,9 @@ use Rattle.std.proofs.lemmas.List.Elements.{All-cons, All-head, All-map, All-nil
 use Rattle.model.specs.declared.entry.Entry.{Entry}
 use Rattle.model.specs.Builds.{gathered, joined_all, words_at}
 use Rattle.model.specs.Entries.{InOrder, entry_at, word_at}
-use Rattle.model.specs.Object.{Content, turned_content}
-use Rattle.store.specs.Stored.{turned}
-use Rattle.store.proofs.Contents.{word_at-turned}
+use Rattle.model.specs.Object.{Content, transposed_content}
+use Rattle.store.specs.Stored.{transposed}
+use Rattle.store.proofs.Contents.{word_at-transposed}
 use Rattle.store.proofs.Positions.{word_at-found}
 
 -- each entry is one of a map
@@ -54,8 +54,8 @@ gathered_is c i j es are whole = joined_words c i j es (words_at es i j) refl ar
 pub order_of : (es : List Entry) → InOrder es → AreOf (word_at es) es
 order_of es order = λ k d within. sym (word_at-found (get_or es k d).row (get_or es k d).col es k d order within (refl, refl))
 
--- what is gathered of the turned entries of a map
-pub gathered_turned : (c : Content) (es : List Entry) → AreOf c es → ((i j : ℕ) → word_at es i j ≡ c i j) → (i j : ℕ) → gathered None (turned es) i j ≡ turned_content c i j
-gathered_turned c es are is i j =
-    gathered_is (turned_content c) i j (turned es) (All-map (λ e. turned_content c e.row e.col ≡ Some e.word) (λ e. entry_at e.col e.row e.word) es are)
-    (λ none. sym (is j i) ∙ sym (word_at-turned es i j) ∙ none)
+-- what is gathered of the transposed entries of a map
+pub gathered_transposed : (c : Content) (es : List Entry) → AreOf c es → ((i j : ℕ) → word_at es i j ≡ c i j) → (i j : ℕ) → gathered None (transposed es) i j ≡ transposed_content c i j
+gathered_transposed c es are is i j =
+    gathered_is (transposed_content c) i j (transposed es) (All-map (λ e. transposed_content c e.row e.col ≡ Some e.word) (λ e. entry_at e.col e.row e.word) es are)
+    (λ none. sym (is j i) ∙ sym (word_at-transposed es i j) ∙ none)

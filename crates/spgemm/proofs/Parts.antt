@@ -9,7 +9,7 @@ use Rattle.masks.specs.Keeps.{lets_word}
 use Rattle.model.specs.declared.entry.Entry.{Entry}
 use Rattle.model.specs.declared.memory.NoMemory.{NoMemory}
 use Rattle.model.specs.Entries.{word_at}
-use Rattle.model.specs.Object.{turned_content}
+use Rattle.model.specs.Object.{transposed_content}
 use Rattle.store.specs.declared.lists.FiberLists.{FiberLists}
 use Rattle.store.specs.Stored.{Stored, content_of}
 use Rattle.store.proofs.Positions.{filter_whole}
@@ -50,9 +50,9 @@ kept_inside keeps op row a left is =
 pub part_all : (r : Result (Unit {0}) NoMemory) (mask : MaskView) (op : BinaryOp) (index first past : ℕ) (terms : List Term) (old new : FiberLists) → mask.complement ≡ true
     → OnOk r (HasRow op index (kept_terms (keeps_among mask first past [] index) terms) old new) → OnOk r (HasRow op index (kept_terms (keeps_down everywhere first past) terms) old new)
 unfolding word_at
-part_all (Err e) mask op index first past terms old new turned here = tt
-part_all (Ok u) mask op index first past terms old new turned here =
-    subst (λ ts. HasRow op index ts old new) (filter_agree (λ t. keeps_among mask first past [] index t.col) (λ t. keeps_down everywhere first past t.col) (λ t. rw turned refl) terms) here
+part_all (Err e) mask op index first past terms old new transposed here = tt
+part_all (Ok u) mask op index first past terms old new transposed here =
+    subst (λ ts. HasRow op index ts old new) (filter_agree (λ t. keeps_among mask first past [] index t.col) (λ t. keeps_down everywhere first past t.col) (λ t. rw transposed refl) terms) here
 
 in_part : (inside test same : Bool) → (inside ≡ true → test ≡ same) → (inside && test) ≡ (inside && same)
 in_part true test same h = h refl
@@ -67,7 +67,7 @@ part_kept (Ok u) mask store op index first past entries terms old new zero_is le
     subst (λ ts. HasRow op index ts old new)
     (filter_agree (λ t. keeps_among mask first past entries index t.col) (λ t. keeps_down (lets_by mask store) first past t.col)
     (λ t. in_part (in_range first past t.col) (lets_word mask (word_at entries index t.col)) (lets_by mask store t.col 0) (λ inside.
-    let found = rw end at (columns_words (turned_content (content_of store)) 0 t.col (past - first) first) in
+    let found = rw end at (columns_words (transposed_content (content_of store)) 0 t.col (past - first) first) in
     let word : word_at entries index t.col ≡ content_of store t.col 0 = ap (λ es. word_at es index t.col) is ∙ ap (λ i. word_at (entries_of_column (content_of store) first past) i t.col) zero_is ∙ found ∙ rw inside refl in
     rw word refl)) terms) here
 

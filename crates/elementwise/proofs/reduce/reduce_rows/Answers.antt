@@ -7,7 +7,7 @@ use Rattle.algebra.specs.Operators.{combines_by, eval_of}
 use Rattle.algebra.specs.Monoids.{identity_of}
 use Rattle.model.specs.declared.entry.Entry.{Entry}
 use Rattle.model.specs.Entries.{IsInside, entries_between, word_at}
-use Rattle.store.specs.Stored.{AreIn, along, content_of, turned}
+use Rattle.store.specs.Stored.{AreIn, along, content_of, transposed}
 use Rattle.store.proofs.Contents.{by_rows}
 use Rattle.store.proofs.RowEntries.{entries_between-inside}
 use Rattle.elementwise.proofs.MappedLaws.{along-words, mapped-in, word_at-mapped}
@@ -27,8 +27,8 @@ of_fibers-requires-clause-inside c =
     let es = c.fibers_in-fibers.result.entries in
     let one : a.cols ≡ 1 = sym c.cols.ensures ∙ c.if-cols-eq1.true in
     let f = eval_of c.args.monoid.op.kind c.args.monoid.op.domain c.identity-value.result in
-    let inside : AreIn c.args.range.start c.args.range.end 1 (turned es) = rw one at (in_range (search rules)) in
-    rw (c.in_ok-lists.ensures.entries, along-words 1 f es) (mapped-in (λ _ _. f) c.args.range.start c.args.range.end 1 (turned es) inside)
+    let inside : AreIn c.args.range.start c.args.range.end 1 (transposed es) = rw one at (in_range (search rules)) in
+    rw (c.in_ok-lists.ensures.entries, along-words 1 f es) (mapped-in (λ _ _. f) c.args.range.start c.args.range.end 1 (transposed es) inside)
 
 pub returns-then-cols-eq1-clause-words : goal.returns-then-cols-eq1-clause-words
 returns-then-cols-eq1-clause-words c i j low high =
@@ -38,10 +38,10 @@ returns-then-cols-eq1-clause-words c i j low high =
     let one : a.cols ≡ 1 = sym c.cols.ensures ∙ c.if-cols-eq1.true in
     let f = eval_of monoid.op.kind monoid.op.domain c.identity-value.result in
     let f_is : f ≡ eval_of (combines_by monoid.kind) monoid.op.domain (identity_of monoid.kind monoid.op.domain) = rw (c.identity-value.ensures, monoid.combines) refl in
-    let inside : IsInside a.rows 1 (turned es) = rw one at c.fibers_in-fibers.ensures.inside in
-    let words : (k : ℕ) → word_at (turned es) i k ≡ content_of a i k = λ k. rw one at (c.fibers_in-fibers.ensures.words i k low high) in
+    let inside : IsInside a.rows 1 (transposed es) = rw one at c.fibers_in-fibers.ensures.inside in
+    let words : (k : ℕ) → word_at (transposed es) i k ≡ content_of a i k = λ k. rw one at (c.fibers_in-fibers.ensures.words i k low high) in
     ap (λ (es : List Entry). word_at es i j) (c.of_fibers.ensures.entries ∙ ap (along 1) c.in_ok-lists.ensures.entries ∙ along-words 1 f es)
-    ∙ word_at-mapped (λ _ _. f) (turned es) i j ∙ ap (λ f. option_map f (word_at (turned es) i j)) f_is
+    ∙ word_at-mapped (λ _ _. f) (transposed es) i j ∙ ap (λ f. option_map f (word_at (transposed es) i j)) f_is
     ∙ rw one (column_sum_is monoid a.rows (content_of a) i j es inside words)
 
 pub of_fibers-requires-2-clause-inside : goal.of_fibers-requires-2-clause-inside

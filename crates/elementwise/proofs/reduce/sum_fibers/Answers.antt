@@ -5,7 +5,7 @@ use Rattle.std.proofs.lemmas.List.Elements.{All-nil}
 use Rattle.model.specs.declared.entry.Entry.{Entry}
 use Rattle.model.specs.Entries.{word_at}
 use Rattle.store.specs.Fibers.{entries_in}
-use Rattle.store.specs.Stored.{turned}
+use Rattle.store.specs.Stored.{transposed}
 use Rattle.store.proofs.Contents.{no_entries}
 use Rattle.store.proofs.FlatLaws.{flat_none}
 use Rattle.store.proofs.Walks.{no_lines}
@@ -30,7 +30,7 @@ returns-then-is_empty-clause-sums c i j =
     let none : length f.inner.now ≡ 0 = grind (arith, nat_tests) in
     let nothing : Option ℕ = None in
     let is : row_sum c.args.monoid i c.args.fibers.now.entries ≡ nothing = ap (row_sum c.args.monoid i) (c.flat-flat.ensures.entries ∙ no_lines f.from (f.head ∷ f.others.now) f.inner.now f.words.now none) in
-    ap (λ es. word_at (turned es) i j) (none_made (search rules)) ∙ rw is (elim (eqb j 0) as (λ b. nothing ≡ cond b nothing nothing) [ true ↦ refl | false ↦ refl ])
+    ap (λ es. word_at (transposed es) i j) (none_made (search rules)) ∙ rw is (elim (eqb j 0) as (λ b. nothing ≡ cond b nothing nothing) [ true ↦ refl | false ↦ refl ])
 
 made : (c : In_ok-close) → IsSumColumn c.args.monoid c.args.fibers.now.entries c.close.new.self.ends.items c.close.new.self.inner.items c.close.new.self.words.items
 made c =

@@ -24,17 +24,17 @@ known_positions recipe positions known op is same = is ∙ ap (λ (p : Positions
 pub multiplied_rows-requires-clause-factors : goal.multiplied_rows-requires-clause-factors
 multiplied_rows-requires-clause-factors c =
     let stored : Role → Stored = λ role. (role_of c.args.stores.now role).now in
-    (factors-fit c.args.recipe.now stored c.requires.inputs c.in-Multiply.form c.in-Multiply.ring c.in-Multiply.is).factors
+    (factors-fit c.args.recipe.now stored c.requires.inputs c.in-Multiply.form c.in-Multiply.semiring c.in-Multiply.is).factors
 
 pub multiplied_rows-requires-clause-rows : goal.multiplied_rows-requires-clause-rows
 multiplied_rows-requires-clause-rows c =
     let stored : Role → Stored = λ role. (role_of c.args.stores.now role).now in
-    rw (factors-fit c.args.recipe.now stored c.requires.inputs c.in-Multiply.form c.in-Multiply.ring c.in-Multiply.is).rows c.requires.rows
+    rw (factors-fit c.args.recipe.now stored c.requires.inputs c.in-Multiply.form c.in-Multiply.semiring c.in-Multiply.is).rows c.requires.rows
 
 pub multiplied_rows-requires-clause-mask : goal.multiplied_rows-requires-clause-mask
 multiplied_rows-requires-clause-mask c =
     let stored : Role → Stored = λ role. (role_of c.args.stores.now role).now in
-    let fit = factors-fit c.args.recipe.now stored c.requires.inputs c.in-Multiply.form c.in-Multiply.ring c.in-Multiply.is in
+    let fit = factors-fit c.args.recipe.now stored c.requires.inputs c.in-Multiply.form c.in-Multiply.semiring c.in-Multiply.is in
     rw (fit.rows, fit.cols) c.requires.mask
 
 pub union_rows-requires-clause-cols : goal.union_rows-requires-clause-cols
@@ -50,11 +50,11 @@ returns-in-Multiply c =
     let recipe = c.args.recipe.now in
     let stored : Role → Stored = λ role. (role_of c.args.stores.now role).now in
     let form = c.in-Multiply.form in
-    let ring = c.in-Multiply.ring in
-    let fit = factors-fit recipe stored c.requires.inputs form ring c.in-Multiply.is in
+    let semiring = c.in-Multiply.semiring in
+    let fit = factors-fit recipe stored c.requires.inputs form semiring c.in-Multiply.is in
     IfOk-weaker c.multiplied_rows.result _ _
     (λ block rows. agrees-masked c.args.mask c.args.range.start c.args.range.end _ _ _ (computed recipe (object_in recipe stored)) block fit.cols
-    (product-computed recipe stored c.requires.inputs form ring c.in-Multiply.is) rows)
+    (product-computed recipe stored c.requires.inputs form semiring c.in-Multiply.is) rows)
     c.multiplied_rows.ensures
 
 pub returns-in-Union : goal.returns-in-Union

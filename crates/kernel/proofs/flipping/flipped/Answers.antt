@@ -9,8 +9,8 @@ use Rattle.kernel.proofs.flipping.flipped.Goals as goal
 pub invariant_of-result : goal.invariant_of-result
 invariant_of-result c =
     let recipe = c.args.recipe.now in
-    let op = called (Multiply c.in_ok-form.form c.in_ok-ring.ring) in
-    let is : flipped_product recipe.step recipe.out.desc ≡ Some op = rw (c.in-Multiply.is, ← c.in_ok-form.ensures, ← c.in_ok-ring.ensures) refl in
+    let op = called (Multiply c.in_ok-form.form c.in_ok-semiring.semiring) in
+    let is : flipped_product recipe.step recipe.out.desc ≡ Some op = rw (c.in-Multiply.is, ← c.in_ok-form.ensures, ← c.in_ok-semiring.ensures) refl in
     record {
       own = recipe.own;
       masked = recipe.masked;

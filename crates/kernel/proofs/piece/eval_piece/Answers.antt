@@ -1,4 +1,4 @@
--- A recipe means the same of exchanged factors, and of inputs that are turned.
+-- A recipe means the same of exchanged factors, and of inputs that are transposed.
 use Rattle.std.proofs.Common.{◌≡◌, ◌∙◌, Bor, ap}
 use Rattle.std.proofs.lemmas.Result.{IfOk-weaker}
 use Rattle.calls.specs.declared.role.Role.{Role}

@@ -2,7 +2,7 @@ use Rattle.std.proofs.Common.{length, rules, ◌≡◌, ◌∙◌, ◌<◌, ◌�
 use Rattle.std.proofs.lemmas.List.Elements.{All-weaker}
 use Rattle.model.specs.Entries.{word_at}
 use Rattle.model.specs.Regions.{filled}
-use Rattle.store.specs.Stored.{turned}
+use Rattle.store.specs.Stored.{transposed}
 use Rattle.shapes.specs.Lists.{spread}
 use Rattle.shapes.specs.Rows.{IsMade}
 use Rattle.shapes.proofs.FillLaws.{column_inside, column_words, nothing, no_col_filled, no_row_filled, spread_is}
@@ -66,5 +66,5 @@ returns-then-len-eq1-clause-words c i j low high =
     let is = rw list at c.in_ok-lists.ensures.entries in
     let one : length col_list ≡ 1 = search rules in
     let below = All-weaker (λ x. (0 ≤ x) × (x < c.args.shape.1)) (λ x. x < 1) (λ x p. let less = p.1 in omega (arith, c.if-shape-eq1.true)) col_list cols.part.inside in
-    ap (λ es. word_at es i j) (c.of_fibers.ensures.entries ∙ ap turned is) ∙ column_words row_list col_list c.args.word i j one below
+    ap (λ es. word_at es i j) (c.of_fibers.ensures.entries ∙ ap transposed is) ∙ column_words row_list col_list c.args.word i j one below
     ∙ spread_is c.args.shape.0 c.args.shape.1 c.args.range.start c.args.range.end c.args.word c.args.rows.now c.args.cols.now row_list col_list c.requires.end c.requires.cols rows cols i j low high

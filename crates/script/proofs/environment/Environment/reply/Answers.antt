@@ -1,0 +1,23 @@
+-- The session does the call on the numbers that the names stand for.
+use Rattle.std.proofs.Common.{refl}
+use Rattle.script.specs.Named.{number_in}
+use Rattle.script.proofs.ReplyLaws.{known_named, missing_named, replied_named, stays_there}
+use Rattle.session.specs.Performed.{numbered}
+use Rattle.script.proofs.environment.Environment.reply.Goals as goal
+
+pub returns-in_default : goal.returns-in_default
+returns-in_default c = missing_named (λ name. name.now) c.args.self.now c.args.call c.requires.known c.in_default.ensures
+
+pub invariant_of-self : goal.invariant_of-self
+invariant_of-self c =
+    let names = c.args.self.now in
+    record {
+      distinct = names.distinct;
+      there = stays_there (number_in names) names.session c.perform.new.self (numbered names.session c.in-Some.call) c.perform.result
+          (known_named (λ name. name.now) (number_in names) names.session c.args.call c.in-Some.call c.requires.known c.in-Some.ensures) names.there c.perform.ensures.performed;
+    }
+
+pub returns : goal.returns
+returns c =
+    replied_named (λ name. name.now) c.args.self.now _ c.args.call c.in-Some.call c.perform.result c.requires.made c.requires.known c.args.self.now.distinct refl c.in-Some.ensures
+    c.perform.ensures.performed c.perform.ensures.answer

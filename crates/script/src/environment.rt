@@ -1,0 +1,174 @@
+//! The objects of a run by their names.
+ghost use Rattle.std.specs.Prelude.{◌≡◌, ◌<◌, ◌≤◌, ◌+◌, ◌-◌, ◌^◌, ◌++◌, ℕ, List, IfErr, OnErr, OnOk};
+ghost use Rattle.std.specs.Prelude.{Some, false, if◌then◌else◌, is_some, true};
+ghost use Rattle.std.specs.List.{flat_map};
+ghost use Rattle.std.specs.BTreeMap.{get_by_text};
+ghost use Rattle.std.specs.Str.{bytes_eq};
+ghost use Rattle.std.specs.String.{string_bytes};
+ghost use Rattle.calls.specs.declared.obj.Obj.{Obj as Object};
+ghost use Rattle.model.specs.Fault.{fault_of};
+ghost use Rattle.model.specs.Renamed.{renamed};
+ghost use Rattle.model.specs.Run.{data_lines_of, effect, no_objects, on_objects, seen, without_object};
+ghost use Rattle.model.specs.Text.{ended};
+ghost use Rattle.session.specs.Performed.{Ends, environment_of, made_in};
+ghost use Rattle.session.specs.Tables.{same_object};
+
+use crate::replies::write_reply;
+use algebra::Domain;
+use model::{Call, Shape, Status};
+use session::{Obj, Reply, Session};
+use std::alloc::Global;
+use std::collections::BTreeMap;
+
+/// The objects of a run: their names, and the session that holds them by number.
+#[derive(Drop)]
+pub struct Environment {
+    pub(crate) alloc: Global,
+    pub numbers: BTreeMap<String, Obj>,
+    pub session: Session,
+    ghost distinct: { (a b : List ℕ) (object : Object) → get_by_text numbers a ≡ Some object
+        → get_by_text numbers b ≡ Some object → a ≡ b },
+    ghost there: { (name : List ℕ) (object : Object) → get_by_text numbers name ≡ Some object
+        → is_some ((environment_of session).find_object object) ≡ true },
+}
+
+impl Environment {
+    ghost use Rattle.script.specs.Named.{environment_in, changes_names};
+    ghost use Rattle.script.specs.Replied.{IsAnswered, IsReplied};
+
+    /// No objects. It takes no memory.
+    pub fn new(alloc: Global) -> Environment
+        ensures environment { environment_in result ≡ no_objects }
+        ensures made { made_in result.session ≡ 0 }
+    {
+        Environment {
+            alloc,
+            numbers: BTreeMap::new(alloc),
+            session: Session::new(alloc),
+        }
+    }
+
+    /// Does a call, and writes the data lines of its answer. An error leaves the objects as they were;
+    /// what it leaves at the text's end is no answer.
+    #[tactic(auto, unfolding(model::specs::Run::data_lines_of))]
+    pub fn perform(&mut self, call: Call<&str, &str>, text: &mut Vec<u8>) -> Result<(), Status>
+        requires { made_in self.old.session < 2 ^ 64 - 1 }
+        ensures { IsAnswered self.old self.new (renamed (λ name. name.now) (λ name. name.now) call.entry)
+            text.old.items text.new.items result }
+    {
+        match call {
+            Call::Create {
+                name,
+                domain,
+                shape,
+            } => self.create(name, domain, shape),
+            Call::Dup { name, object } => self.dup(name, object),
+            Call::Free { object } => self.free(object),
+            call => self.perform_known(call, text),
+        }
+    }
+
+    /// Does a call on objects that are there, and writes the data lines of its answer.
+    fn perform_known(&mut self, call: Call<&str, &str>, text: &mut Vec<u8>) -> Result<(), Status>
+        requires made { made_in self.old.session < 2 ^ 64 - 1 }
+        requires known { changes_names call ≡ false }
+        ensures { IsAnswered self.old self.new (renamed (λ name. name.now) (λ name. name.now) call.entry)
+            text.old.items text.new.items result }
+    {
+        let reply = self.reply(call)?;
+        write_reply(&mut self.session, reply, text)?;
+        Ok(())
+    }
+
+    /// Does a call on objects that are there, and gives what it answers.
+    fn reply(&mut self, call: Call<&str, &str>) -> Result<Reply, Status>
+        requires made { made_in self.old.session < 2 ^ 64 - 1 }
+        requires known { changes_names call ≡ false }
+        ensures { IsReplied self.old self.new (renamed (λ name. name.now) (λ name. name.now) call.entry) result }
+    {
+        let Some(call) = self.resolved(call) else {
+            return Err(Status::UninitializedObject);
+        };
+        self.session.perform(call)
+    }
+
+    /// Makes an object under a new name.
+    fn create(&mut self, name: &str, domain: Domain, shape: Shape) -> Result<(), Status>
+        requires { made_in self.old.session < 2 ^ 64 - 1 }
+        ensures status { Ends (fault_of (environment_in self.old).count
+            (seen (environment_in self.old) (Call.Create name.now domain shape))) result }
+        ensures effect { OnOk result (environment_in self.new
+            ≡ effect bytes_eq (environment_in self.old) (Call.Create name.now domain shape)) }
+        ensures kept { OnErr result (environment_in self.new ≡ environment_in self.old) }
+        ensures made { made_in self.new.session ≤ made_in self.old.session + 1 }
+    {
+        if self.numbers.contains_key(name) {
+            return Err(Status::NameTaken);
+        }
+        let name = String::from_str(self.alloc, name)?;
+        let object = self.session.create(domain, shape)?;
+        put(&mut self.numbers, &mut self.session, name, object)?;
+        Ok(())
+    }
+
+    /// Makes an object under a new name, with the domain, the shape and the entries of another.
+    fn dup(&mut self, name: &str, object: &str) -> Result<(), Status>
+        requires { made_in self.old.session < 2 ^ 64 - 1 }
+        ensures status { Ends (fault_of (environment_in self.old).count
+            (seen (environment_in self.old) (Call.Dup name.now object.now))) result }
+        ensures effect { OnOk result (environment_in self.new
+            ≡ effect bytes_eq (environment_in self.old) (Call.Dup name.now object.now)) }
+        ensures kept { OnErr result (environment_in self.new ≡ environment_in self.old) }
+        ensures made { made_in self.new.session ≤ made_in self.old.session + 1 }
+    {
+        if self.number(name).is_some() {
+            return Err(Status::NameTaken);
+        }
+        let Some(object) = self.number(object) else {
+            return Err(Status::UninitializedObject);
+        };
+        let name = String::from_str(self.alloc, name)?;
+        let made = self.session.dup(object)?;
+        put(&mut self.numbers, &mut self.session, name, made)?;
+        Ok(())
+    }
+
+    /// Frees the object of a name, which then stands for none.
+    fn free(&mut self, name: &str) -> Result<(), Status>
+        ensures status { Ends (fault_of (environment_in self.old).count
+            (seen (environment_in self.old) (Call.Free name.now))) result }
+        ensures effect { OnOk result (environment_in self.new
+            ≡ effect bytes_eq (environment_in self.old) (Call.Free name.now)) }
+        ensures kept { OnErr result (environment_in self.new ≡ environment_in self.old) }
+        ensures made { made_in self.new.session ≤ made_in self.old.session + 1 }
+    {
+        let Some(object) = self.numbers.remove(name) else {
+            return Err(Status::UninitializedObject);
+        };
+        self.session.free(object)
+    }
+}
+
+/// Has a name stand for an object that a session just made. Without room for the name the object goes again.
+pub(crate) fn put(
+    numbers: &mut BTreeMap<String, Obj>,
+    session: &mut Session,
+    name: String,
+    object: Obj,
+) -> Result<(), Status>
+    requires { is_some ((environment_of session.old).find_object object) ≡ true }
+    ensures named { OnOk result ((n : List ℕ) → get_by_text numbers.new n
+        ≡ (if bytes_eq (string_bytes name) n then Some object else get_by_text numbers.old n)) }
+    ensures made { OnOk result (session.new ≡ session.old) }
+    ensures kept { OnErr result ((n : List ℕ) → get_by_text numbers.new n ≡ get_by_text numbers.old n) }
+    ensures gone { OnErr result (environment_of session.new
+        ≡ without_object same_object (environment_of session.old) object) }
+    ensures count { made_in session.new ≡ made_in session.old }
+    ensures err { IfErr result (λ status. status ≡ Status.OutOfMemory) }
+{
+    if let Err(_) = numbers.insert(name, object) {
+        let _ = session.free(object);
+        return Err(Status::OutOfMemory);
+    }
+    Ok(())
+}

@@ -1,7 +1,0 @@
-use Rattle.std.proofs.Common.{◌≡◌, ◌++◌, take}
-use Rattle.store.specs.Fibers.{entries_along}
-use Rattle.store.specs.Stored.{turned}
-use Rattle.shapes.proofs.transposing.append_turned.Given as goal
-
-abbrev pub invariant-loop-k : goal.invariant-loop-k
-invariant-loop-k l = l.entries.items ≡ l.fn.entries.items ++ take l.k (turned (entries_along l.row.index l.row.cols.now l.row.words.now))
