@@ -1,27 +1,29 @@
 -- What the head of a file says by its banner and its size line.
-use Rattle.std.proofs.Common.{◌≡◌, ℕ, ◌^◌, ◌≤◌, ◌==◌, nat_lt, Bool, true, false, cond, List, [], ◌∷◌, length, Option, None, Some, Result, Ok, Err, refl, ap, sym, ◌∙◌, map, filter, arith, inl, inr}
+use Rattle.std.proofs.Common.{◌≡◌, ℕ, suc, ◌^◌, ◌≤◌, ◌==◌, nat_lt, Bool, true, false, cond, List, [], ◌∷◌, length, Option, None, Some, Result, Ok, Err, refl, ap, sym, ◌∙◌, map, arith, inl, inr}
 use Rattle.std.specs.Option.{option_map_or}
 use Rattle.std.proofs.lemmas.Bool.{cases_lt}
 use Rattle.std.proofs.lemmas.Bool.Decides.{nat_tests}
+use Rattle.std.proofs.lemmas.List.{length-map}
 use Rattle.algebra.specs.declared.domain.Domain.{Domain}
 use Rattle.model.specs.declared.market.Field.{Field}
 use Rattle.model.specs.declared.market.Heading.{Heading}
-use Rattle.model.specs.declared.market.MmFault.{MmFault}
-use Rattle.model.specs.declared.market.MmFault.TheVariants as fault
+use Rattle.model.specs.declared.market.Misread.{Misread}
+use Rattle.model.specs.declared.market.Mistake.{Mistake}
+use Rattle.model.specs.declared.market.Mistake.TheVariants as mistake
 use Rattle.model.specs.declared.market.Symmetry.{Symmetry}
 use Rattle.model.specs.Fault.{is_dimension}
 use Rattle.model.specs.Grammar.{◌>>=◌, digits_value, lines_of, nth_word, where_it, words_of}
-use Rattle.model.specs.MatrixMarket.{Line, Matrix, are_digits, digits_of, has_fitting_shape, heading_of, is_banner, is_told, kind_of, matrix_behind, matrix_in, matrix_in_lines, matrix_listed}
+use Rattle.model.specs.MatrixMarket.{Line, Matrix, are_digits, digits_of, has_fitting_shape, heading_of, ToldLine, is_banner, kind_of, matrix_behind, matrix_in, matrix_in_lines, matrix_listed}
 use Rattle.mmio.proofs.DigitLaws.{in_64_bits-none, in_64_bits-some}
 use Rattle.mmio.proofs.ListingLaws.{no_text}
 use Rattle.mmio.specs.Fronts.{LeadsWithNumber, in_64_bits}
 use Rattle.mmio.specs.Heads.{heading_by, kind_announced}
-use Rattle.mmio.specs.Listing.{told_in}
+use Rattle.mmio.specs.Listing.{fault_in, located, told_in}
 
 -- ---- the banner
 
 -- a banner has five words
-pub kind_announced-count : (domain : Domain) (words : Line) → (length words == 5) ≡ false → Err fault.Banner ≡ kind_announced domain words
+pub kind_announced-count : (domain : Domain) (words : Line) → (length words == 5) ≡ false → Err mistake.Banner ≡ kind_announced domain words
 unfolding is_banner
 kind_announced-count domain words count = rw count refl
 
@@ -119,46 +121,70 @@ heading_of-numbers words rest last behind rows cols entries first second third k
 
 -- ---- both
 
-pub matrix_in-empty : (domain : Domain) (bytes : List ℕ) → length bytes ≡ 0 → matrix_in domain bytes ≡ Err fault.Banner
+pub matrix_in-empty : (domain : Domain) (bytes : List ℕ) → length bytes ≡ 0 → matrix_in domain bytes ≡ Err (fault_in bytes (record { left = 0; mistake = mistake.Banner }))
 unfolding matrix_in matrix_in_lines lines_of
 matrix_in-empty domain bytes none = rw (no_text bytes none) refl
 
-fault_announced : (t : Bool) (kind : Option (Field × Symmetry)) (go_on : Field × Symmetry → Result Matrix MmFault) (f : MmFault)
-    → Err f ≡ cond t (option_map_or Ok kind (Err fault.Unsupported)) (Err fault.Banner) → cond t (option_map_or go_on kind (Err fault.Unsupported)) (Err fault.Banner) ≡ Err f
-fault_announced true (Some kind) go_on f is = absurd (cc)
-fault_announced true None go_on f is = cc
-fault_announced false kind go_on f is = cc
+abbrev wrong_at : ℕ → Mistake → Result Matrix Misread
+wrong_at left m = Err (record { left = left; mistake = m })
 
-kind_then : (t : Bool) (announced : Option (Field × Symmetry)) (go_on : Field × Symmetry → Result Matrix MmFault) (kind : Field × Symmetry)
-    → Ok kind ≡ cond t (option_map_or Ok announced (Err fault.Unsupported)) (Err fault.Banner) → cond t (option_map_or go_on announced (Err fault.Unsupported)) (Err fault.Banner) ≡ go_on kind
-kind_then true (Some other) go_on kind is = let same : other ≡ kind = cc in ap go_on same
-kind_then true None go_on kind is = absurd (cc)
-kind_then false announced go_on kind is = absurd (cc)
+mistake_announced : (t : Bool) (kind : Option (Field × Symmetry)) (go_on : Field × Symmetry → Result Matrix Misread) (left : ℕ) (m : Mistake)
+    → Err m ≡ cond t (option_map_or Ok kind (Err mistake.Unsupported)) (Err mistake.Banner)
+    → cond t (option_map_or go_on kind (wrong_at left mistake.Unsupported)) (wrong_at left mistake.Banner) ≡ wrong_at left m
+mistake_announced true (Some kind) go_on left m is = absurd (cc)
+mistake_announced true None go_on left m is = cc
+mistake_announced false kind go_on left m is = cc
 
--- a fault of the first line is the first one
-pub matrix_in-no_banner : (domain : Domain) (bytes line rest : List ℕ) (f : MmFault) → lines_of bytes ≡ line ∷ lines_of rest → Err f ≡ kind_announced domain (words_of line) → matrix_in domain bytes ≡ Err f
+kind_then : (t : Bool) (announced : Option (Field × Symmetry)) (go_on : Field × Symmetry → Result Matrix Misread) (left : ℕ) (kind : Field × Symmetry)
+    → Ok kind ≡ cond t (option_map_or Ok announced (Err mistake.Unsupported)) (Err mistake.Banner)
+    → cond t (option_map_or go_on announced (wrong_at left mistake.Unsupported)) (wrong_at left mistake.Banner) ≡ go_on kind
+kind_then true (Some other) go_on left kind is = let same : other ≡ kind = cc in ap go_on same
+kind_then true None go_on left kind is = absurd (cc)
+kind_then false announced go_on left kind is = absurd (cc)
+
+first_kind : (domain : Domain) (line rest : List ℕ) → matrix_in_lines domain (map words_of (line ∷ lines_of rest))
+    ≡ cond (is_banner (words_of line)) (option_map_or (λ kind. matrix_behind domain kind (told_in rest)) (kind_of domain (words_of line)) (wrong_at (suc (length (map words_of (lines_of rest)))) mistake.Unsupported))
+    (wrong_at (suc (length (map words_of (lines_of rest)))) mistake.Banner)
+unfolding matrix_in_lines told_in
+first_kind domain line rest = refl
+
+-- a mistake of the first line is the first one
+pub matrix_in-no_banner : (domain : Domain) (bytes line rest : List ℕ) (m : Mistake) → lines_of bytes ≡ line ∷ lines_of rest → Err m ≡ kind_announced domain (words_of line)
+    → matrix_in domain bytes ≡ Err (fault_in bytes (record { left = suc (length (lines_of rest)); mistake = m }))
 unfolding matrix_in matrix_in_lines
-matrix_in-no_banner domain bytes line rest f cut announced =
-    ap (λ lines. matrix_in_lines domain (map words_of lines)) cut
-    ∙ fault_announced (is_banner (words_of line)) (kind_of domain (words_of line)) (λ kind. matrix_behind domain kind (filter is_told (map words_of (lines_of rest)))) f announced
+matrix_in-no_banner domain bytes line rest m cut announced =
+    let left = suc (length (map words_of (lines_of rest))) in
+    let first = mistake_announced (is_banner (words_of line)) (kind_of domain (words_of line)) (λ kind. matrix_behind domain kind (told_in rest)) left m announced in
+    ap (λ lines. located bytes (matrix_in_lines domain (map words_of lines))) cut
+    ∙ ap (located bytes) (first_kind domain line rest)
+    ∙ ap (located bytes) first
+    ∙ ap (λ n. Err (fault_in bytes (record { left = suc n; mistake = m }))) (length-map (lines_of rest) words_of)
 
 -- else the lines behind it say what the matrix is
 pub matrix_in-behind : (domain : Domain) (bytes line rest : List ℕ) (kind : Field × Symmetry) → lines_of bytes ≡ line ∷ lines_of rest → Ok kind ≡ kind_announced domain (words_of line)
-    → matrix_in domain bytes ≡ matrix_behind domain kind (told_in rest)
-unfolding matrix_in matrix_in_lines told_in
+    → matrix_in domain bytes ≡ located bytes (matrix_behind domain kind (told_in rest))
+unfolding matrix_in matrix_in_lines
 matrix_in-behind domain bytes line rest kind cut announced =
-    ap (λ lines. matrix_in_lines domain (map words_of lines)) cut
-    ∙ kind_then (is_banner (words_of line)) (kind_of domain (words_of line)) (λ kind. matrix_behind domain kind (filter is_told (map words_of (lines_of rest)))) kind announced
+    let left = suc (length (map words_of (lines_of rest))) in
+    ap (λ lines. located bytes (matrix_in_lines domain (map words_of lines))) cut
+    ∙ ap (located bytes) (first_kind domain line rest)
+    ∙ ap (located bytes) (kind_then (is_banner (words_of line)) (kind_of domain (words_of line)) (λ kind. matrix_behind domain kind (told_in rest)) left kind announced)
 
-pub matrix_behind-none : (domain : Domain) (kind : Field × Symmetry) (lines : List Line) → lines ≡ [] → matrix_behind domain kind lines ≡ Err fault.SizeLine
+pub matrix_behind-none : (domain : Domain) (kind : Field × Symmetry) (lines : List ToldLine) → lines ≡ [] → matrix_behind domain kind lines ≡ wrong_at 0 mistake.SizeLine
 unfolding matrix_behind
 matrix_behind-none domain kind lines none = rw none refl
 
-pub matrix_behind-no_size : (domain : Domain) (kind : Field × Symmetry) (lines more : List Line) (size : Line) → lines ≡ size ∷ more → None ≡ heading_of kind size → matrix_behind domain kind lines ≡ Err fault.SizeLine
+pub matrix_behind-no_size : (domain : Domain) (kind : Field × Symmetry) (lines more : List ToldLine) (size : ToldLine) → lines ≡ size ∷ more → None ≡ heading_of kind size.words
+    → matrix_behind domain kind lines ≡ wrong_at size.left mistake.SizeLine
 unfolding matrix_behind
 matrix_behind-no_size domain kind lines more size is none = rw (is, ← none) refl
 
-pub matrix_behind-size : (domain : Domain) (kind : Field × Symmetry) (lines more : List Line) (size : Line) (h : Heading) → lines ≡ size ∷ more → Some h ≡ heading_of kind size
-    → matrix_behind domain kind lines ≡ cond (has_fitting_shape h) (matrix_listed domain h more) (Err fault.NotSquare)
+pub matrix_behind-not_square : (domain : Domain) (kind : Field × Symmetry) (lines more : List ToldLine) (size : ToldLine) (h : Heading) → lines ≡ size ∷ more → Some h ≡ heading_of kind size.words
+    → has_fitting_shape h ≡ false → matrix_behind domain kind lines ≡ wrong_at size.left mistake.NotSquare
 unfolding matrix_behind
-matrix_behind-size domain kind lines more size h is some = rw (is, ← some) refl
+matrix_behind-not_square domain kind lines more size h is some other = rw (is, ← some, other) refl
+
+pub matrix_behind-size : (domain : Domain) (kind : Field × Symmetry) (lines more : List ToldLine) (size : ToldLine) (h : Heading) → lines ≡ size ∷ more → Some h ≡ heading_of kind size.words
+    → has_fitting_shape h ≡ true → matrix_behind domain kind lines ≡ matrix_listed domain h more
+unfolding matrix_behind
+matrix_behind-size domain kind lines more size h is some fits = rw (is, ← some, fits) refl

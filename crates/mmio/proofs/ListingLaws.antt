@@ -1,18 +1,19 @@
 -- The lines of a text that say something, one by one; and what they list one by one against what they list all in all.
-use Rattle.std.proofs.Common.{◌≡◌, ℕ, zero, suc, ◌-◌, ◌==◌, Bool, true, false, cond, List, [], ◌∷◌, ◌++◌, length, take, Result, Ok, Err, refl, ap, sym, ◌∙◌, map, filter, arith, nat_lt, append_assoc}
+use Rattle.std.proofs.Common.{◌≡◌, ℕ, zero, suc, ◌-◌, ◌==◌, true, false, cond, List, [], ◌∷◌, ◌++◌, drop, length, take, Option, Result, Ok, Err, refl, ap, sym, ◌∙◌, map, arith, nat_lt, append_assoc}
 use Rattle.std.proofs.lemmas.Bool.Decides.{nat_tests}
-use Rattle.std.proofs.lemmas.List.{append-nil}
+use Rattle.std.proofs.lemmas.List.{append-nil, length-map}
 use Rattle.std.specs.List.{cons_option, filter_map, flat_map, slice_get}
-use Rattle.std.specs.Option.{option_map_or}
+use Rattle.std.specs.Option.{option_map, option_map_or}
 use Rattle.std.specs.Result.{result_err, result_ok}
 use Rattle.algebra.specs.declared.domain.Domain.{Domain}
 use Rattle.model.specs.declared.entry.Entry.{Entry}
 use Rattle.model.specs.declared.market.Heading.{Heading}
-use Rattle.model.specs.declared.market.MmFault.{MmFault}
-use Rattle.model.specs.declared.market.MmFault.TheVariants as fault
+use Rattle.model.specs.declared.market.Misread.{Misread}
+use Rattle.model.specs.declared.market.Mistake.{Mistake}
+use Rattle.model.specs.declared.market.Mistake.TheVariants as mistake
 use Rattle.model.specs.Grammar.{lines_of, words_of}
-use Rattle.model.specs.MatrixMarket.{Line, Matrix, entries_said, entry_said, faults_of, is_told, matrix_listed, with_mirror}
-use Rattle.mmio.specs.Listing.{listed_from, matrix_of, told_in, with_entry}
+use Rattle.model.specs.MatrixMarket.{Line, Matrix, ToldLine, entries_said, entry_said, faults_of, is_told, matrix_listed, misread, told_lines, with_mirror}
+use Rattle.mmio.specs.Listing.{listed_from, matrix_of, placed, told_in, with_entry}
 
 -- ---- lines that say something
 
@@ -22,90 +23,101 @@ no_text (b ∷ bs) none = absurd (omega arith)
 
 -- an empty text has no lines
 pub told_in-none : (text : List ℕ) → length text ≡ 0 → told_in text ≡ []
-unfolding told_in lines_of
+unfolding told_in told_lines lines_of
 told_in-none text none = rw (no_text text none) refl
 
-kept : {X : Type 0} (p : X → Bool) (x : X) (xs : List X) → p x ≡ true → filter p (x ∷ xs) ≡ x ∷ filter p xs
-kept p x xs passes = rw passes refl
-
-left_out : {X : Type 0} (p : X → Bool) (x : X) (xs : List X) → p x ≡ false → filter p (x ∷ xs) ≡ filter p xs
-left_out p x xs fails = rw fails refl
+pub lines_of-none : (text : List ℕ) → length text ≡ 0 → length (lines_of text) ≡ 0
+unfolding lines_of
+lines_of-none text none = rw (no_text text none) refl
 
 -- a line that says something is the first one; it may be shown without the blanks in front of it
-pub told_in-told : (text line rest shown : List ℕ) → lines_of text ≡ line ∷ lines_of rest → words_of shown ≡ words_of line → is_told (words_of shown) ≡ true → told_in text ≡ words_of shown ∷ told_in rest
-unfolding told_in
+pub told_in-told : (text line rest shown : List ℕ) → lines_of text ≡ line ∷ lines_of rest → words_of shown ≡ words_of line → is_told (words_of shown) ≡ true → told_in text ≡ record { left = suc (length (lines_of rest)); words = words_of shown } ∷ told_in rest
+unfolding told_in told_lines
 told_in-told text line rest shown cut same told =
-    ap (λ lines. filter is_told (map words_of lines)) cut
-    ∙ kept is_told (words_of line) (map words_of (lines_of rest)) (ap is_told (sym same) ∙ told)
-    ∙ ap (λ words. words ∷ filter is_told (map words_of (lines_of rest))) (sym same)
+    let passes : is_told (words_of line) ≡ true = ap is_told (sym same) ∙ told in
+    rw (cut, passes, same, length-map (lines_of rest) words_of) refl
 
 pub told_in-silent : (text line rest shown : List ℕ) → lines_of text ≡ line ∷ lines_of rest → words_of shown ≡ words_of line → is_told (words_of shown) ≡ false → told_in text ≡ told_in rest
-unfolding told_in
+unfolding told_in told_lines
 told_in-silent text line rest shown cut same silent =
-    ap (λ lines. filter is_told (map words_of lines)) cut
-    ∙ left_out is_told (words_of line) (map words_of (lines_of rest)) (ap is_told (sym same) ∙ silent)
+    let fails : is_told (words_of line) ≡ false = ap is_told (sym same) ∙ silent in
+    rw (cut, fails) refl
 
 -- ---- one line more
 
-pub listed_from-end : (domain : Domain) (h : Heading) (left : ℕ) (listed : List Entry) (lines : List Line) → lines ≡ [] → listed_from domain h left listed lines ≡ cond (left == 0) (Ok listed) (Err fault.TooFew)
+pub listed_from-end : (domain : Domain) (h : Heading) (left : ℕ) (listed : List Entry) (lines : List ToldLine) → lines ≡ [] → listed_from domain h left listed lines ≡ cond (left == 0) (Ok listed) (Err (record { left = 0; mistake = mistake.TooFew }))
 unfolding listed_from
 listed_from-end domain h left listed lines none = rw none refl
 
-pub listed_from-line : (domain : Domain) (h : Heading) (left : ℕ) (listed : List Entry) (lines more : List Line) (line : Line) → lines ≡ line ∷ more
-    → listed_from domain h left listed lines ≡ cond (left == 0) (Err fault.TooMany) (with_entry (entry_said domain h line) (λ e. listed_from domain h (left - 1) (listed ++ with_mirror h.symmetry e) more))
+pub listed_from-line : (domain : Domain) (h : Heading) (left : ℕ) (listed : List Entry) (lines more : List ToldLine) (line : ToldLine) → lines ≡ line ∷ more
+    → listed_from domain h left listed lines ≡ cond (left == 0) (Err (misread mistake.TooMany line)) (with_entry (placed line (entry_said domain h line.words)) (λ e. listed_from domain h (left - 1) (listed ++ with_mirror h.symmetry e) more))
 unfolding listed_from
 listed_from-line domain h left listed lines more line is = rw is refl
 
+-- what is wrong with the end, with a line too many, and with a line
+pub listed_from-few : (domain : Domain) (h : Heading) (left : ℕ) (listed : List Entry) (lines : List ToldLine) → lines ≡ [] → (left == 0) ≡ false
+    → listed_from domain h left listed lines ≡ Err (record { left = 0; mistake = mistake.TooFew })
+listed_from-few domain h left listed lines none some = rw (listed_from-end domain h left listed lines none, some) refl
+
+pub listed_from-many : (domain : Domain) (h : Heading) (left : ℕ) (listed : List Entry) (lines more : List ToldLine) (line : ToldLine) → lines ≡ line ∷ more → (left == 0) ≡ true
+    → listed_from domain h left listed lines ≡ Err (misread mistake.TooMany line)
+listed_from-many domain h left listed lines more line is none = rw (listed_from-line domain h left listed lines more line is, none) refl
+
+pub listed_from-wrong : (domain : Domain) (h : Heading) (left : ℕ) (listed : List Entry) (lines more : List ToldLine) (line : ToldLine) (m : Mistake) → lines ≡ line ∷ more → (left == 0) ≡ false
+    → Err m ≡ entry_said domain h line.words → listed_from domain h left listed lines ≡ Err (misread m line)
+listed_from-wrong domain h left listed lines more line m is some wrong = rw (listed_from-line domain h left listed lines more line is, some, ← wrong) refl
+
 -- ---- all lines
 
--- what is wrong with so many lines and their number
-abbrev faults_from : Domain → Heading → ℕ → List Line → List MmFault
-faults_from domain h n lines =
-    filter_map (λ line. result_err (entry_said domain h line)) (take n lines)
-    ++ (cond (nat_lt n (length lines)) (fault.TooMany ∷ []) [])
-    ++ (cond (nat_lt (length lines) n) (fault.TooFew ∷ []) [])
+abbrev words_in : List ToldLine → List Line
+words_in lines = map (λ line. line.words) lines
 
-abbrev as_matrix : Domain → Heading → ℕ → List Entry → List Line → Result Matrix MmFault
+abbrev mistake_in : Domain → Heading → ToldLine → Option Misread
+mistake_in domain h line = option_map (λ wrong. misread wrong line) (result_err (entry_said domain h line.words))
+
+abbrev few : ℕ → List ToldLine → List Misread
+few n lines = cond (nat_lt (length lines) n) (record { left = 0; mistake = mistake.TooFew } ∷ []) []
+
+-- what is wrong with so many lines and their number
+abbrev faults_from : Domain → Heading → ℕ → List ToldLine → List Misread
+faults_from domain h n lines =
+    filter_map (mistake_in domain h) (take n lines) ++ map (misread mistake.TooMany) (take 1 (drop n lines)) ++ few n lines
+
+abbrev as_matrix : Domain → Heading → ℕ → List Entry → List ToldLine → Result Matrix Misread
 as_matrix domain h n listed lines = option_map_or Err
     (slice_get (faults_from domain h n lines) 0)
-    (Ok (record { rows = h.rows; cols = h.cols; entries = listed ++ entries_said domain h lines }))
+    (Ok (record { rows = h.rows; cols = h.cols; entries = listed ++ entries_said domain h (words_in lines) }))
 
 -- the first of them is that of the first line, if that has one
-next_line : (h : Heading) (listed others : List Entry) (said : Result Entry MmFault) (faults many few : List MmFault) (go_on : Entry → Result (List Entry) MmFault)
+next_line : (h : Heading) (listed others : List Entry) (line : ToldLine) (said : Result Entry Mistake) (faults many few : List Misread) (go_on : Entry → Result (List Entry) Misread)
     → ((e : Entry) → option_map_or Err (slice_get (faults ++ many ++ few) 0) (Ok (record { rows = h.rows; cols = h.cols; entries = (listed ++ with_mirror h.symmetry e) ++ flat_map (with_mirror h.symmetry) others })) ≡ matrix_of h (go_on e))
-    → option_map_or Err (slice_get (cons_option (result_err said) faults ++ many ++ few) 0)
-    (Ok (record { rows = h.rows; cols = h.cols; entries = listed ++ flat_map (with_mirror h.symmetry) (cons_option (result_ok said) others) })) ≡ matrix_of h (with_entry said go_on)
-next_line h listed others (Err f) faults many few go_on rest = refl
-next_line h listed others (Ok e) faults many few go_on rest =
+    → option_map_or Err (slice_get (cons_option (option_map (λ wrong. misread wrong line) (result_err said)) faults ++ many ++ few) 0)
+    (Ok (record { rows = h.rows; cols = h.cols; entries = listed ++ flat_map (with_mirror h.symmetry) (cons_option (result_ok said) others) })) ≡ matrix_of h (with_entry (placed line said) go_on)
+next_line h listed others line (Err f) faults many few go_on rest = refl
+next_line h listed others line (Ok e) faults many few go_on rest =
     ap (λ entries. option_map_or Err (slice_get (faults ++ many ++ few) 0) (Ok (record { rows = h.rows; cols = h.cols; entries = entries })))
     (sym (append_assoc listed (with_mirror h.symmetry e) (flat_map (with_mirror h.symmetry) others)))
     ∙ rest e
 
-listing : (domain : Domain) (h : Heading) (n : ℕ) (listed : List Entry) (lines : List Line) → as_matrix domain h n listed lines ≡ matrix_of h (listed_from domain h n listed lines)
+listing : (domain : Domain) (h : Heading) (n : ℕ) (listed : List Entry) (lines : List ToldLine) → as_matrix domain h n listed lines ≡ matrix_of h (listed_from domain h n listed lines)
 unfolding listed_from
 listing domain h zero listed [] = ap (λ entries. Ok (record { rows = h.rows; cols = h.cols; entries = entries })) (append-nil listed)
 listing domain h (suc n) listed [] =
-    let many : nat_lt (suc n) 0 ≡ false = grind (arith, nat_tests) in
-    let few : nat_lt 0 (suc n) ≡ true = grind (arith, nat_tests) in
+    let short : nat_lt 0 (suc n) ≡ true = grind (arith, nat_tests) in
     let some : (suc n == 0) ≡ false = grind (arith, nat_tests) in
-    rw (many, few, some) refl
-listing domain h zero listed (line ∷ lines) =
-    let many : nat_lt 0 (suc (length lines)) ≡ true = grind (arith, nat_tests) in
-    rw many refl
+    rw (short, some) refl
+listing domain h zero listed (line ∷ lines) = refl
 listing domain h (suc n) listed (line ∷ lines) =
-    let many : nat_lt (suc n) (suc (length lines)) ≡ nat_lt n (length lines) = grind (arith, nat_tests) in
-    let few : nat_lt (suc (length lines)) (suc n) ≡ nat_lt (length lines) n = grind (arith, nat_tests) in
+    let short : nat_lt (suc (length lines)) (suc n) ≡ nat_lt (length lines) n = grind (arith, nat_tests) in
     let some : (suc n == 0) ≡ false = grind (arith, nat_tests) in
     let less : suc n - 1 ≡ n = omega arith in
-    rw (many, few, some, less)
-    (next_line h listed (filter_map (λ line. result_ok (entry_said domain h line)) lines) (entry_said domain h line)
-    (filter_map (λ line. result_err (entry_said domain h line)) (take n lines))
-    (cond (nat_lt n (length lines)) (fault.TooMany ∷ []) [])
-    (cond (nat_lt (length lines) n) (fault.TooFew ∷ []) [])
+    rw (short, some, less)
+    (next_line h listed (filter_map (λ line. result_ok (entry_said domain h line)) (words_in lines)) line (entry_said domain h line.words)
+    (filter_map (mistake_in domain h) (take n lines)) (map (misread mistake.TooMany) (take 1 (drop n lines))) (few n lines)
     (λ e. listed_from domain h n (listed ++ with_mirror h.symmetry e) lines)
     (λ e. listing domain h n (listed ++ with_mirror h.symmetry e) lines))
 
 -- the matrix of lines is what they list one by one
-pub matrix_listed-is : (domain : Domain) (h : Heading) (lines : List Line) → matrix_listed domain h lines ≡ matrix_of h (listed_from domain h h.entries [] lines)
+pub matrix_listed-is : (domain : Domain) (h : Heading) (lines : List ToldLine) → matrix_listed domain h lines ≡ matrix_of h (listed_from domain h h.entries [] lines)
 unfolding matrix_listed faults_of
 matrix_listed-is domain h lines = listing domain h h.entries [] lines

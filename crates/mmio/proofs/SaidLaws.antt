@@ -9,7 +9,7 @@ use Rattle.algebra.specs.declared.domain.Domain.TheVariants.{Bool as Boolean, In
 use Rattle.model.specs.declared.market.Field.{Field}
 use Rattle.model.specs.declared.market.Field.TheVariants.{Pattern, Integer}
 use Rattle.model.specs.declared.market.Heading.{Heading}
-use Rattle.model.specs.declared.market.MmFault.TheVariants as fault
+use Rattle.model.specs.declared.market.Mistake.TheVariants as mistake
 use Rattle.model.specs.Entries.{entry_at}
 use Rattle.model.specs.Grammar.{◌>>=◌, digits_value, nth_word, where_it}
 use Rattle.model.specs.MatrixMarket.{Line, are_digits, entry_said, is_of_64_bits, is_position, value_said, whole_of, words_for}
@@ -30,12 +30,12 @@ third_fails true false x y = refl
 third_fails false b x y = refl
 
 -- an entry line begins with digits
-pub entry_said-no_row : (domain : Domain) (h : Heading) (words : Line) → are_digits (nth_word words 0) ≡ false → Err fault.Entry ≡ entry_said domain h words
+pub entry_said-no_row : (domain : Domain) (h : Heading) (words : Line) → are_digits (nth_word words 0) ≡ false → Err mistake.Entry ≡ entry_said domain h words
 unfolding entry_said
 entry_said-no_row domain h words none = sym (rw none (second_fails _ _ _ _))
 
 -- ..and then others
-pub entry_said-no_col : (domain : Domain) (h : Heading) (words : Line) (row : Option ℕ) (rest : Line) → LeadsWithNumber words row rest → are_digits (nth_word rest 0) ≡ false → Err fault.Entry ≡ entry_said domain h words
+pub entry_said-no_col : (domain : Domain) (h : Heading) (words : Line) (row : Option ℕ) (rest : Line) → LeadsWithNumber words row rest → are_digits (nth_word rest 0) ≡ false → Err mistake.Entry ≡ entry_said domain h words
 unfolding entry_said
 entry_said-no_col domain h [] row rest leads none = let e = leads.parts in absurd (cc)
 entry_said-no_col domain h (i ∷ words) row rest leads none =
@@ -98,15 +98,15 @@ value_behind-is domain Integer i j words =
     ∙ ap (λ value. cond (length (i ∷ j ∷ words) == 3) (Some value) None) (words_in_domain domain (whole_of (nth_word words 0)))
 
 by_parts : (domain : Domain) (i j : ℕ) (complete inside : Bool) (value : Option ℤ)
-    → cond (not (complete && true && true)) (Err fault.Entry) (cond (not inside) (Err fault.Index) (option_map_or (λ z. Ok (entry_at (i - 1) (j - 1) (word_of domain z))) value (Err fault.Value)))
-    ≡ option_map_or (entry_by (cond inside (Some (i - 1, j - 1)) None)) (cond complete (Some (option_map (word_of domain) value)) None) (Err fault.Entry)
+    → cond (not (complete && true && true)) (Err mistake.Entry) (cond (not inside) (Err mistake.Index) (option_map_or (λ z. Ok (entry_at (i - 1) (j - 1) (word_of domain z))) value (Err mistake.Value)))
+    ≡ option_map_or (entry_by (cond inside (Some (i - 1, j - 1)) None)) (cond complete (Some (option_map (word_of domain) value)) None) (Err mistake.Entry)
 by_parts domain i j false inside value = refl
 by_parts domain i j true false value = refl
 by_parts domain i j true true None = refl
 by_parts domain i j true true (Some z) = refl
 
 entry_said-is : (domain : Domain) (h : Heading) (i j : List ℕ) (words : Line) → h.rows < 2 ^ 64 → h.cols < 2 ^ 64 → are_digits i ≡ true → are_digits j ≡ true
-    → entry_said domain h (i ∷ j ∷ words) ≡ option_map_or (entry_by (position_in h (in_64_bits (digits_value i)) (in_64_bits (digits_value j)))) (value_behind domain h.field words) (Err fault.Entry)
+    → entry_said domain h (i ∷ j ∷ words) ≡ option_map_or (entry_by (position_in h (in_64_bits (digits_value i)) (in_64_bits (digits_value j)))) (value_behind domain h.field words) (Err mistake.Entry)
 unfolding entry_said
 entry_said-is domain h i j words rows cols row col =
     rw (row, col, position_in-is h (digits_value i) (digits_value j) rows cols, value_behind-is domain h.field i j words)
@@ -115,10 +115,10 @@ entry_said-is domain h i j words rows cols row col =
 -- an entry line that begins with two numbers says an entry by these and what stands behind them
 pub entry_said-parts : (domain : Domain) (h : Heading) (words behind rest : Line) (row col : Option ℕ) → h.rows < 2 ^ 64 → h.cols < 2 ^ 64
     → LeadsWithNumber words row behind → LeadsWithNumber behind col rest
-    → entry_said domain h words ≡ option_map_or (entry_by (position_in h row col)) (value_behind domain h.field rest) (Err fault.Entry)
+    → entry_said domain h words ≡ option_map_or (entry_by (position_in h row col)) (value_behind domain h.field rest) (Err mistake.Entry)
 entry_said-parts domain h words behind rest row col rows cols first second =
     let e = first.parts in let f = second.parts in
     let same : words ≡ nth_word words 0 ∷ nth_word behind 0 ∷ rest = e ∙ ap (λ rest. nth_word words 0 ∷ rest) f in
     ap (entry_said domain h) same ∙ entry_said-is domain h (nth_word words 0) (nth_word behind 0) rest rows cols first.digits second.digits
-    ∙ ap (λ row. option_map_or (entry_by (position_in h row (in_64_bits (digits_value (nth_word behind 0))))) (value_behind domain h.field rest) (Err fault.Entry)) (sym first.value)
-    ∙ ap (λ col. option_map_or (entry_by (position_in h row col)) (value_behind domain h.field rest) (Err fault.Entry)) (sym second.value)
+    ∙ ap (λ row. option_map_or (entry_by (position_in h row (in_64_bits (digits_value (nth_word behind 0))))) (value_behind domain h.field rest) (Err mistake.Entry)) (sym first.value)
+    ∙ ap (λ col. option_map_or (entry_by (position_in h row col)) (value_behind domain h.field rest) (Err mistake.Entry)) (sym second.value)

@@ -168,7 +168,7 @@ says_value domain h text second third digits rest row col magnitude residue minu
     let told = told_in-told text line rest line cut refl (rw words (digits_told a i.are)) in
     let parts = entry_said-parts domain h (a ∷ b ∷ c ∷ []) (b ∷ c ∷ []) (c ∷ []) (Some row) (Some col) rows cols (leads a (b ∷ c ∷ []) row i.are i.value) (leads b (c ∷ []) col j.are j.value) in
     record {
-      line = a ∷ b ∷ c ∷ [];
+      words = a ∷ b ∷ c ∷ [];
       told = rw words at told;
       is = sym (parts ∙ rw (inside, field, v.value, ← value) refl);
     }
@@ -187,7 +187,7 @@ says_position domain h text second rest row col rows cols field i j inside =
     let told = told_in-told text line rest line cut refl (rw words (digits_told a i.are)) in
     let parts = entry_said-parts domain h (a ∷ b ∷ []) (b ∷ []) [] (Some row) (Some col) rows cols (leads a (b ∷ []) row i.are i.value) (leads b [] col j.are j.value) in
     record {
-      line = a ∷ b ∷ [];
+      words = a ∷ b ∷ [];
       told = rw words at told;
       is = sym (parts ∙ rw (inside, field) refl);
     }

@@ -4,8 +4,8 @@ use Rattle.std.specs.Option.{option_map_or}
 use Rattle.algebra.specs.declared.domain.Domain.{Domain}
 use Rattle.model.specs.declared.market.Field.{Field}
 use Rattle.model.specs.declared.market.Heading.{Heading}
-use Rattle.model.specs.declared.market.MmFault.{MmFault}
-use Rattle.model.specs.declared.market.MmFault.TheVariants as fault
+use Rattle.model.specs.declared.market.Mistake.{Mistake}
+use Rattle.model.specs.declared.market.Mistake.TheVariants as mistake
 use Rattle.model.specs.declared.market.Symmetry.{Symmetry}
 use Rattle.model.specs.Fault.{is_dimension}
 use Rattle.model.specs.Grammar.{◌>>=◌, where_it}
@@ -17,9 +17,9 @@ abbrev pub words_in : Banner → Line
 words_in b = b.format.now ∷ b.object.now ∷ b.layout.now ∷ b.field.now ∷ b.symmetry.now ∷ []
 
 -- the kind of file that a line announces
-abbrev pub kind_announced : Domain → Line → Result (Field × Symmetry) MmFault
+abbrev pub kind_announced : Domain → Line → Result (Field × Symmetry) Mistake
 kind_announced domain words =
-    if is_banner words then option_map_or Ok (kind_of domain words) (Err fault.Unsupported) else Err fault.Banner
+    if is_banner words then option_map_or Ok (kind_of domain words) (Err mistake.Unsupported) else Err mistake.Banner
 
 -- a heading of three numbers, where each is in its range; None stands for 2 ^ 64 or more
 abbrev pub heading_by : Field × Symmetry → Option ℕ → Option ℕ → Option ℕ → Option Heading

@@ -9,8 +9,8 @@ use Rattle.model.specs.declared.entry.Entry.{Entry}
 use Rattle.model.specs.declared.market.Field.{Field}
 use Rattle.model.specs.declared.market.Field.TheVariants as field
 use Rattle.model.specs.declared.market.Heading.{Heading}
-use Rattle.model.specs.declared.market.MmFault.{MmFault}
-use Rattle.model.specs.declared.market.MmFault.TheVariants as fault
+use Rattle.model.specs.declared.market.Mistake.{Mistake}
+use Rattle.model.specs.declared.market.Mistake.TheVariants as mistake
 use Rattle.model.specs.Entries.{entry_at}
 use Rattle.model.specs.Grammar.{◌>>=◌, nth_word, where_it}
 use Rattle.model.specs.MatrixMarket.{Line, is_of_64_bits, is_position, whole_of}
@@ -55,7 +55,7 @@ position_in h (Some i) (Some j) = if is_position h i j then Some (i - 1, j - 1) 
 position_in h _ _ = None
 
 -- an entry of a position and a value, by the order of faults
-abbrev pub entry_by : Option (ℕ × ℕ) → Option ℕ → Result Entry MmFault
-entry_by None value = Err fault.Index
-entry_by (Some position) None = Err fault.Value
+abbrev pub entry_by : Option (ℕ × ℕ) → Option ℕ → Result Entry Mistake
+entry_by None value = Err mistake.Index
+entry_by (Some position) None = Err mistake.Value
 entry_by (Some position) (Some word) = Ok (entry_at position.0 position.1 word)

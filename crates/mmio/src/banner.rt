@@ -7,7 +7,7 @@ ghost use Rattle.mmio.specs.Heads.{kind_announced, words_in};
 
 use crate::fronts::{first_word, is_empty};
 use algebra::Domain;
-use model::{Field, MmFault, Symmetry};
+use model::{Field, Mistake, Symmetry};
 
 /// The words of a first line that has five.
 #[derive(Clone, Copy)]
@@ -20,16 +20,16 @@ struct Banner<'a> {
 }
 
 /// What the first line of a file announces, of what can be read into a domain.
-pub fn announced(domain: Domain, line: &[u8]) -> Result<(Field, Symmetry), MmFault>
+pub fn announced(domain: Domain, line: &[u8]) -> Result<(Field, Symmetry), Mistake>
     ensures { result ≡ kind_announced domain (words_of line.now) }
 {
     let Some(banner) = five_words(line) else {
-        return Err(MmFault::Banner);
+        return Err(Mistake::Banner);
     };
     if !is_banner(&banner) {
-        return Err(MmFault::Banner);
+        return Err(Mistake::Banner);
     }
-    kind_of(domain, &banner).ok_or(MmFault::Unsupported)
+    kind_of(domain, &banner).ok_or(Mistake::Unsupported)
 }
 
 fn five_words(line: &[u8]) -> Option<Banner<'_>>

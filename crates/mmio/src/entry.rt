@@ -7,28 +7,28 @@ ghost use Rattle.mmio.specs.Said.{position_in};
 use crate::digits::first_number;
 use crate::values::value_behind;
 use algebra::Domain;
-use model::{Entry, Heading, MmFault, Symmetry};
+use model::{Entry, Heading, Mistake, Symmetry};
 
 /// The entry that a line says, or what is wrong with the line.
 #[inline(always)]
-pub fn entry(domain: Domain, heading: Heading, line: &[u8]) -> Result<Entry, MmFault>
+pub fn entry(domain: Domain, heading: Heading, line: &[u8]) -> Result<Entry, Mistake>
     ensures { result ≡ entry_said domain heading (words_of line.now) }
 {
     let Some((row, rest)) = first_number(line) else {
-        return Err(MmFault::Entry);
+        return Err(Mistake::Entry);
     };
     let Some((col, rest)) = first_number(rest) else {
-        return Err(MmFault::Entry);
+        return Err(Mistake::Entry);
     };
     let Some(value) = value_behind(domain, heading.field, rest) else {
-        return Err(MmFault::Entry);
+        return Err(Mistake::Entry);
     };
     let Some((row, col)) = position_in(heading, row, col) else {
-        return Err(MmFault::Index);
+        return Err(Mistake::Index);
     };
     match value {
         Some(word) => Ok(Entry { row, col, word }),
-        None => Err(MmFault::Value),
+        None => Err(Mistake::Value),
     }
 }
 

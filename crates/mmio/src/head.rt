@@ -4,35 +4,40 @@ ghost use Rattle.model.specs.Fault.{is_dimension};
 ghost use Rattle.model.specs.Grammar.{where_it, words_of};
 ghost use Rattle.model.specs.MatrixMarket.{has_fitting_shape, heading_of, matrix_in, matrix_listed};
 ghost use Rattle.mmio.specs.Heads.{IsNoSize, Sizes};
-ghost use Rattle.mmio.specs.Listing.{told_in};
+ghost use Rattle.mmio.specs.Listing.{located, told_in};
 
 use crate::banner::announced;
 use crate::digits::first_number;
+use crate::faults::{fault_at_end, fault_before};
 use crate::fronts::is_empty;
 use crate::told::first_told;
 use algebra::Domain;
 use lines::first_line;
-use model::{Field, GREATEST_DIMENSION, Heading, MmFault, Symmetry};
+use model::{Field, GREATEST_DIMENSION, Heading, Mistake, MmFault, Symmetry};
 
 /// The heading of a file and what follows it, or what is wrong before that.
 pub fn head(domain: Domain, bytes: &[u8]) -> Result<(Heading, &[u8]), MmFault>
     ensures { MatchResult result
-        (λ found. matrix_in domain bytes.now ≡ matrix_listed domain found.0 (told_in found.1.now))
+        (λ found. matrix_in domain bytes.now
+        ≡ located bytes.now (matrix_listed domain found.0 (told_in found.1.now)))
         (λ fault. matrix_in domain bytes.now ≡ Err fault) }
 {
     if bytes.is_empty() {
-        return Err(MmFault::Banner);
+        return Err(fault_at_end(bytes, Mistake::Banner));
     }
-    let (banner, rest) = first_line(bytes);
-    let kind = announced(domain, banner)?;
-    let Some((size, rest)) = first_told(rest) else {
-        return Err(MmFault::SizeLine);
+    let (banner, behind) = first_line(bytes);
+    let kind = match announced(domain, banner) {
+        Ok(kind) => kind,
+        Err(mistake) => return Err(fault_before(bytes, behind, mistake)),
+    };
+    let Some((size, rest)) = first_told(behind) else {
+        return Err(fault_at_end(bytes, Mistake::SizeLine));
     };
     let Some(heading) = heading(kind, size) else {
-        return Err(MmFault::SizeLine);
+        return Err(fault_before(bytes, rest, Mistake::SizeLine));
     };
     if !has_fitting_shape(heading) {
-        return Err(MmFault::NotSquare);
+        return Err(fault_before(bytes, rest, Mistake::NotSquare));
     }
     Ok((heading, rest))
 }

@@ -5,6 +5,7 @@ mod banner;
 mod collects;
 mod digits;
 mod entry;
+mod faults;
 mod fronts;
 mod head;
 mod listing;
@@ -15,6 +16,6 @@ mod usual;
 mod values;
 mod writing;
 
-pub use model::MmFault;
+pub use model::{Mistake, MmFault};
 pub use reading::{read, read_entries};
 pub use writing::write;

@@ -4,32 +4,35 @@ ghost use Rattle.std.specs.Prelude.{IfErr, IfOk, IfSome, MatchOption, OnOk, Err,
 ghost use Rattle.std.specs.Option.{option_to_list};
 ghost use Rattle.model.specs.declared.market.MmFault.TheVariants.{NoMemory};
 ghost use Rattle.model.specs.MatrixMarket.{with_mirror};
-ghost use Rattle.mmio.specs.Listing.{entries_listed, told_in};
+ghost use Rattle.mmio.specs.Listing.{entries_listed, located, told_in};
 ghost use Rattle.mmio.specs.Usual.{SaysFirst};
 
 use crate::collects::Collects;
 use crate::entry::entry;
+use crate::faults::{fault_at_end, fault_before};
 use crate::told::first_told;
 use crate::usual::usual_entry;
 use algebra::Domain;
-use model::{Entry, Heading, MmFault, Symmetry};
+use model::{Entry, Heading, Mistake, MmFault, Symmetry};
 use std::alloc::Global;
 
 /// Room is made at first for an entry in so many bytes of a file: few have shorter lines, lists that grow are moved,
 /// and the number of entries that is announced need not be that of the lines.
 const USUAL_LINE: usize = 8;
 
-/// The entries that a text lists under a heading, in order, with those that it leaves out; or the first
+/// The entries that the end of a file lists under a heading, in order, with those that it leaves out; or the first
 /// thing that is wrong. It stays a function of its own, so that its loop shares the registers with no other.
 #[inline(never)]
 pub fn listed_entries<C: Collects>(
     alloc: Global,
     domain: Domain,
     heading: Heading,
+    file: &[u8],
     text: &[u8],
 ) -> Result<C, MmFault>
     ensures ok { IfOk result (λ listed. entries_listed domain heading text.now ≡ Ok (C.entries_of listed)) }
-    ensures err { IfErr result (λ fault. (fault ≡ NoMemory) ⊎ (entries_listed domain heading text.now ≡ Err fault)) }
+    ensures err { IfErr result (λ fault. (fault ≡ NoMemory)
+        ⊎ (located file.now (entries_listed domain heading text.now) ≡ Err fault)) }
 {
     let room = text.len() / USUAL_LINE;
     let mut listed = C::with_capacity(alloc, room).map_err(|_| MmFault::NoMemory)?;
@@ -37,16 +40,20 @@ pub fn listed_entries<C: Collects>(
     let mut rest = text;
     while let Some((said, behind)) = first_said(domain, &heading, rest) {
         if left == 0 {
-            return Err(MmFault::TooMany);
+            return Err(fault_before(file, behind, Mistake::TooMany));
         }
-        push(&mut listed, heading.symmetry, said?)?;
+        let entry = match said {
+            Ok(entry) => entry,
+            Err(mistake) => return Err(fault_before(file, behind, mistake)),
+        };
+        push(&mut listed, heading.symmetry, entry)?;
         left -= 1;
         rest = behind;
     }
     if left == 0 {
         Ok(listed)
     } else {
-        Err(MmFault::TooFew)
+        Err(fault_at_end(file, Mistake::TooFew))
     }
 }
 
@@ -56,7 +63,7 @@ fn first_said<'a>(
     domain: Domain,
     heading: &Heading,
     text: &'a [u8],
-) -> Option<(Result<Entry, MmFault>, &'a [u8])>
+) -> Option<(Result<Entry, Mistake>, &'a [u8])>
     ensures lines { MatchOption result
         (told_in text.now ≡ [])
         (λ found. SaysFirst domain heading.now text.now found.0 found.1.now) }
@@ -75,7 +82,7 @@ fn first_of_any_form<'a>(
     domain: Domain,
     heading: &Heading,
     text: &'a [u8],
-) -> Option<(Result<Entry, MmFault>, &'a [u8])>
+) -> Option<(Result<Entry, Mistake>, &'a [u8])>
     ensures lines { MatchOption result
         (told_in text.now ≡ [])
         (λ found. SaysFirst domain heading.now text.now found.0 found.1.now) }

@@ -16,7 +16,7 @@ use store::Tuples;
 /// the file, each with the one that the file leaves out behind it. Of the format `integer` and `pattern`
 /// are read, and all symmetries but `hermitian`; values are cast to the domain.
 ///
-/// An error is the first thing that is wrong, line by line from the top, or `NoMemory`. The time is linear
+/// An error is the first thing that is wrong, line by line from the top, with its line, or `NoMemory`. The time is linear
 /// in the file, and so is the memory: what number the file announces reserves nothing.
 /// Entries that come row by row lie as the rows of a store then.
 pub fn read_entries(
@@ -58,6 +58,6 @@ fn read_as<C: Collects>(
     ensures err { IfErr result (λ fault. (fault ≡ NoMemory) ⊎ (matrix_in domain bytes.now ≡ Err fault)) }
 {
     let (heading, rest) = head(domain, bytes)?;
-    let listed = listed_entries(alloc, domain, heading, rest)?;
+    let listed = listed_entries(alloc, domain, heading, bytes, rest)?;
     Ok((heading.rows, heading.cols, listed))
 }

@@ -1,6 +1,6 @@
 //! The lines of a file that say something: neither blank nor a comment.
-ghost use Rattle.std.specs.Prelude.{◌≡◌, ◌<◌, ◌∷◌, [], IfSome, MatchOption, false, length, slice_index};
-ghost use Rattle.model.specs.Grammar.{is_blank, words_of};
+ghost use Rattle.std.specs.Prelude.{◌≡◌, ◌<◌, ◌∷◌, [], IfSome, MatchOption, false, length, slice_index, suc};
+ghost use Rattle.model.specs.Grammar.{is_blank, lines_of, words_of};
 ghost use Rattle.model.specs.MatrixMarket.{is_told};
 ghost use Rattle.mmio.specs.Listing.{told_in};
 
@@ -12,7 +12,8 @@ use lines::first_line;
 pub fn first_told(text: &[u8]) -> Option<(&[u8], &[u8])>
     ensures lines { MatchOption result
         (told_in text.now ≡ [])
-        (λ found. told_in text.now ≡ words_of found.0.now ∷ told_in found.1.now) }
+        (λ found. told_in text.now
+        ≡ record { left = suc (length (lines_of found.1.now)); words = words_of found.0.now } ∷ told_in found.1.now) }
     ensures shorter { IfSome result (λ found. length found.1.now < length text.now) }
 {
     let mut rest = text;

@@ -7,12 +7,14 @@ use Rattle.algebra.specs.declared.domain.Domain.TheVariants.{Int64}
 use Rattle.algebra.specs.Names.{domain_from_name}
 use Rattle.model.specs.declared.entry.Entry.{Entry}
 use Rattle.model.specs.declared.market.MmFault.{MmFault}
-use Rattle.model.specs.declared.market.MmFault.TheVariants as fault
+use Rattle.model.specs.declared.market.MmFault.TheVariants.{Malformed}
+use Rattle.model.specs.declared.market.Mistake.{Mistake}
+use Rattle.model.specs.declared.market.Mistake.TheVariants as mistake
 use Rattle.model.specs.Entries.{count_from, entries_of, entry_at}
 use Rattle.model.specs.Fault.{early_fault}
 use Rattle.model.specs.Grammar.{lines_of, name_of, number_of, domain_of, matrix_of, only_name_of, file_name_of, load_of, entry_call_of, call_of, command_of, reading_of, readings_of}
 use Rattle.model.specs.Loads.{Sources, load_fault, readings_in}
-use Rattle.model.specs.MatrixMarket.{Matrix, is_banner, field_of, symmetry_of, kind_of, heading_of, entry_said, faults_of, matrix_listed, matrix_behind, matrix_in_lines, matrix_in}
+use Rattle.model.specs.MatrixMarket.{Matrix, is_banner, field_of, symmetry_of, kind_of, heading_of, entry_said, faults_of, told_lines, matrix_listed, matrix_behind, matrix_in_lines, matrix_in}
 use Rattle.model.specs.Run.{effect, data_lines_of, loaded, load, step, turn, answers_from, out_of_readings, out_of}
 use Rattle.model.specs.Text.{answer_text, canonical_lines}
 
@@ -21,8 +23,8 @@ record File : Type 0 where
   text : List ℕ
   read : Result Matrix MmFault
 
-faulty : List ℕ → MmFault → File
-faulty text f = record { text = text; read = Err f }
+faulty : List ℕ → ℕ → Mistake → File
+faulty text line mistake = record { text = text; read = Err (Malformed line mistake) }
 
 -- a file of integers, with this behind its first line
 general : List ℕ → List ℕ
@@ -39,23 +41,25 @@ truncated_text = general (codes "2 2 3\n1 1 4\n2 2 5\n")
 
 hostile : List File
 hostile =
-    faulty (codes "") fault.Banner
-    ∷ faulty (codes "%%matrixmarket matrix coordinate integer general\n") fault.Banner
-    ∷ faulty (codes "%%MatrixMarket matrix coordinate real general\n") fault.Unsupported
-    ∷ faulty (general (codes "")) fault.SizeLine
-    ∷ faulty (general (codes "4294967297 1 0\n")) fault.SizeLine
-    ∷ faulty (general (codes "2 2 18446744073709551616\n")) fault.SizeLine
-    ∷ faulty (general (codes "2 2 1\n1 1\n")) fault.Entry
-    ∷ faulty (general (codes "2 2 1\n1 -1 4\n")) fault.Entry
-    ∷ faulty (general (codes "2 2 1\n0 1 1\n")) fault.Index
-    ∷ faulty (general (codes "2 2 1\n3 1 x\n")) fault.Index
-    ∷ faulty (general (codes "2 2 1\n99999999999999999999 1 1\n")) fault.Index
-    ∷ faulty (general (codes "2 2 1\n1 1 18446744073709551616\n")) fault.Value
-    ∷ faulty (general (codes "2 2 1\n1 1 -9223372036854775809\n")) fault.Value
-    ∷ faulty (general (codes "2 2 18446744073709551615\n1 1 1\n")) fault.TooFew
-    ∷ faulty (general (codes "2 2 0\n1 1 1\n")) fault.TooMany
-    ∷ faulty (codes "%%MatrixMarket matrix coordinate integer symmetric\n2 3 0\n") fault.NotSquare
-    ∷ faulty truncated_text fault.TooFew
+    faulty (codes "") 1 mistake.Banner
+    ∷ faulty (codes "%%matrixmarket matrix coordinate integer general\n") 1 mistake.Banner
+    ∷ faulty (codes "%%MatrixMarket matrix coordinate real general\n") 1 mistake.Unsupported
+    ∷ faulty (general (codes "")) 2 mistake.SizeLine
+    ∷ faulty (general (codes "4294967297 1 0\n")) 2 mistake.SizeLine
+    ∷ faulty (general (codes "2 2 18446744073709551616\n")) 2 mistake.SizeLine
+    ∷ faulty (general (codes "2 2 1\n1 1\n")) 3 mistake.Entry
+    ∷ faulty (general (codes "2 2 1\n1 -1 4\n")) 3 mistake.Entry
+    ∷ faulty (general (codes "2 2 1\n0 1 1\n")) 3 mistake.Index
+    ∷ faulty (general (codes "2 2 1\n3 1 x\n")) 3 mistake.Index
+    ∷ faulty (general (codes "2 2 1\n99999999999999999999 1 1\n")) 3 mistake.Index
+    ∷ faulty (general (codes "2 2 1\n1 1 18446744073709551616\n")) 3 mistake.Value
+    ∷ faulty (general (codes "2 2 1\n1 1 -9223372036854775809\n")) 3 mistake.Value
+    ∷ faulty (general (codes "2 2 18446744073709551615\n1 1 1\n")) 4 mistake.TooFew
+    ∷ faulty (general (codes "2 2 0\n1 1 1\n")) 3 mistake.TooMany
+    ∷ faulty (codes "%%MatrixMarket matrix coordinate integer symmetric\n2 3 0\n") 2 mistake.NotSquare
+    ∷ faulty truncated_text 5 mistake.TooFew
+    ∷ faulty (general (codes "% c\n\n2 2 2\n1 1 4\n \n% d\n1 0 5\n")) 8 mistake.Index
+    ∷ faulty (general (codes "% c\n\n2 2 1\n% d\n1 1 4\n\n1 2 5\n1 2 6\n")) 8 mistake.TooMany
     ∷ record {
       text = general (codes "2 2 1\n0000000000000000000000001 2 +7\n");
       read = matrix 2 2 (entry_at 0 1 7 ∷ []);
@@ -71,7 +75,7 @@ hostile =
     ∷ []
 
 each_file_is_read : map (λ (file : File). matrix_in Int64 file.text) hostile ≡ map (λ (file : File). file.read) hostile
-unfolding hostile faulty general matrix lenient_text truncated_text lines_of is_banner field_of symmetry_of kind_of heading_of entry_said faults_of matrix_listed matrix_behind matrix_in_lines matrix_in
+unfolding hostile faulty general matrix lenient_text truncated_text lines_of is_banner field_of symmetry_of kind_of heading_of entry_said faults_of told_lines matrix_listed matrix_behind matrix_in_lines matrix_in
 each_file_is_read = refl
 
 -- ---- scripts
@@ -102,5 +106,5 @@ abbrev worked : List Row
 worked = lenient_file ∷ truncated_file ∷ []
 
 each_writes_its_row : map (λ (row : Row). out_of worked_files row.script) worked ≡ map (λ (row : Row). row.written) worked
-unfolding lenient_file truncated_file worked_files general lenient_text truncated_text lines_of is_banner field_of symmetry_of kind_of heading_of entry_said faults_of matrix_listed matrix_behind matrix_in_lines matrix_in digits domain_from_name count_from entries_of early_fault name_of number_of domain_of matrix_of only_name_of file_name_of load_of entry_call_of call_of command_of reading_of readings_of readings_in load_fault effect data_lines_of loaded load step turn answers_from out_of_readings out_of answer_text canonical_lines
+unfolding lenient_file truncated_file worked_files general lenient_text truncated_text lines_of is_banner field_of symmetry_of kind_of heading_of entry_said faults_of told_lines matrix_listed matrix_behind matrix_in_lines matrix_in digits domain_from_name count_from entries_of early_fault name_of number_of domain_of matrix_of only_name_of file_name_of load_of entry_call_of call_of command_of reading_of readings_of readings_in load_fault effect data_lines_of loaded load step turn answers_from out_of_readings out_of answer_text canonical_lines
 each_writes_its_row = refl

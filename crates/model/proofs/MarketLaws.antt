@@ -1,13 +1,13 @@
 -- What a Matrix Market text stands for: the relation and the function agree, and the matrix lies inside its
 -- dimensions, with words of the domain. So it makes an object.
-use Rattle.std.proofs.Common.{◌≡◌, ℕ, ◌-◌, ◌==◌, ◌&&◌, ◌||◌, Bool, true, false, cond, List, [], ◌∷◌, ◌++◌, map, length, take, ◌^◌, ◌<◌, Option, Some, None, Result, Ok, Err, refl, sym, ◌∙◌, ap, subst, inl, inr, arith, if◌then◌else◌}
+use Rattle.std.proofs.Common.{◌≡◌, ℕ, zero, suc, ◌-◌, ◌==◌, ◌&&◌, ◌||◌, Bool, true, false, cond, List, [], ◌∷◌, ◌++◌, map, drop, length, take, ◌^◌, ◌<◌, Option, Some, None, Result, Ok, Err, refl, sym, ◌∙◌, ap, subst, inl, inr, arith, if◌then◌else◌}
 use Rattle.std.specs.Prelude.{ℤ, nat_le, nat_lt, slice_get, filter, codes, neg_ℤ}
 use Rattle.std.specs.List.{All, cons_option, filter_map, flat_map}
-use Rattle.std.specs.Option.{option_map_or}
-use Rattle.std.specs.Result.{result_err, result_ok}
+use Rattle.std.specs.Option.{option_map, option_map_or}
+use Rattle.std.specs.Result.{result_err, result_map_both, result_ok}
 use Rattle.std.proofs.lemmas.Bool.{cases_Bool, lt-ltb}
 use Rattle.std.proofs.lemmas.Bool.Decides.{nat_tests}
-use Rattle.std.proofs.lemmas.List.{take_all}
+use Rattle.std.proofs.lemmas.List.{drop_all, length-map, take_all}
 use Rattle.std.proofs.lemmas.List.Elements.{All-append, All-cons, All-head, All-nil, All-tail, All-weaker}
 use Rattle.std.proofs.lemmas.Option.{option_and_then_some, some_pair_parts}
 use Rattle.algebra.proofs.Casts.{IsWordOf-word_of, cast_own}
@@ -17,8 +17,9 @@ use Rattle.algebra.specs.Value.{IsWordOf, is_built_in, value_of, word_of}
 use Rattle.model.specs.declared.entry.Entry.{Entry}
 use Rattle.model.specs.declared.market.Field.{Field}
 use Rattle.model.specs.declared.market.Heading.{Heading}
-use Rattle.model.specs.declared.market.MmFault.{MmFault}
-use Rattle.model.specs.declared.market.MmFault.TheVariants as fault
+use Rattle.model.specs.declared.market.Misread.{Misread}
+use Rattle.model.specs.declared.market.Mistake.{Mistake}
+use Rattle.model.specs.declared.market.Mistake.TheVariants as mistake
 use Rattle.model.specs.declared.market.Symmetry.{Symmetry}
 use Rattle.model.specs.declared.market.Symmetry.TheVariants as symmetry
 use Rattle.model.specs.declared.shape.Place.TheVariants as place
@@ -28,7 +29,7 @@ use Rattle.model.specs.Builds.{are_inside, entry_of}
 use Rattle.model.specs.Entries.{IsInside, entry_at}
 use Rattle.model.specs.Fault.{accumulates, is_dimension}
 use Rattle.model.specs.Grammar.{digits_value, lines_of, nth_word, where_it, words_of}
-use Rattle.model.specs.MatrixMarket.{Line, Matrix, StandsFor, are_digits, can_hold, digits_of, entries_said, entry_said, faults_of, field_of, has_fitting_shape, heading_of, is_banner, is_general, is_position, is_told, kind_of, matrix_behind, matrix_in, matrix_in_lines, matrix_listed, object_read, says, sum_in_file, symmetry_of, value_said, with_mirror, words_for}
+use Rattle.model.specs.MatrixMarket.{Line, Matrix, StandsFor, ToldLine, are_digits, can_hold, digits_of, entries_said, entry_said, fault_at, faults_of, field_of, has_fitting_shape, heading_of, is_banner, is_general, is_position, is_told, kind_of, matrix_behind, matrix_in, matrix_in_lines, matrix_listed, misread, object_read, says, sum_in_file, symmetry_of, told_lines, value_said, with_mirror, words_for}
 use Rattle.model.specs.Object.{IsObject}
 use Rattle.model.proofs.BuildLaws.{built-is_object}
 
@@ -44,7 +45,7 @@ where_it-some passes o x is = option_and_then_some (λ y. cond (passes y) (Some 
 
 -- ---- faults
 
-no_fault : (faults : List MmFault) (m n : Matrix) → option_map_or Err (slice_get faults 0) (Ok m) ≡ Ok n → (faults ≡ []) × (n ≡ m)
+no_fault : (faults : List Misread) (m n : Matrix) → option_map_or Err (slice_get faults 0) (Ok m) ≡ Ok n → (faults ≡ []) × (n ≡ m)
 no_fault [] m n is = (refl, cc)
 no_fault (fault ∷ faults) m n is = absurd (cc)
 
@@ -52,51 +53,80 @@ append_nil_parts : {A : Type 0} (xs ys : List A) → xs ++ ys ≡ [] → (xs ≡
 append_nil_parts [] ys is = (refl, is)
 append_nil_parts (x ∷ xs) ys is = absurd (cc)
 
-no_error : (error : Option MmFault) (errors : List MmFault) → cons_option error errors ≡ [] → (error ≡ None) × (errors ≡ [])
-no_error None errors is = (refl, is)
-no_error (Some e) errors is = absurd (cc)
+no_mistake : (line : ToldLine) (error : Option Mistake) (errors : List Misread) → cons_option (option_map (λ wrong. misread wrong line) error) errors ≡ []
+    → (error ≡ None) × (errors ≡ [])
+no_mistake line None errors is = (refl, is)
+no_mistake line (Some e) errors is = absurd (cc)
 
-nothing : (b : Bool) (f : MmFault) → cond b (f ∷ []) [] ≡ [] → b ≡ false
+none_behind : (n : ℕ) (lines : List ToldLine) → map (misread mistake.TooMany) (take 1 (drop n lines)) ≡ [] → nat_lt n (length lines) ≡ false
+none_behind n [] is = grind (arith, nat_tests)
+none_behind zero (line ∷ lines) is = absurd (cc)
+none_behind (suc n) (line ∷ lines) is = let below = none_behind n lines is in grind (arith, nat_tests)
+
+behind_none : (n : ℕ) (lines : List ToldLine) → length lines ≡ n → map (misread mistake.TooMany) (take 1 (drop n lines)) ≡ []
+behind_none n lines count = rw (drop_all n lines (omega arith)) refl
+
+nothing : (b : Bool) (f : Misread) → cond b (f ∷ []) [] ≡ [] → b ≡ false
 nothing true f is = absurd (cc)
 nothing false f is = refl
 
-no_errors_in : (domain : Domain) (h : Heading) (lines : List Line) → All (λ line. result_err (entry_said domain h line) ≡ None) lines
-    → filter_map (λ line. result_err (entry_said domain h line)) lines ≡ []
+words_in : List ToldLine → List Line
+words_in lines = map (λ (line : ToldLine). line.words) lines
+
+mistakes_in : Domain → Heading → List ToldLine → List Misread
+mistakes_in domain h lines = filter_map (λ line. option_map (λ wrong. misread wrong line) (result_err (entry_said domain h line.words))) lines
+
+no_errors_in : (domain : Domain) (h : Heading) (lines : List ToldLine) → All (λ line. result_err (entry_said domain h line) ≡ None) (words_in lines) → mistakes_in domain h lines ≡ []
+unfolding words_in mistakes_in
 no_errors_in domain h [] each = refl
 no_errors_in domain h (line ∷ lines) each =
-    let first = All-head (λ (line : Line). result_err (entry_said domain h line) ≡ None) line lines each in
-    rw first (no_errors_in domain h lines (All-tail (λ (line : Line). result_err (entry_said domain h line) ≡ None) line lines each))
+    let first = All-head (λ (line : Line). result_err (entry_said domain h line) ≡ None) line.words (words_in lines) each in
+    rw first (no_errors_in domain h lines (All-tail (λ (line : Line). result_err (entry_said domain h line) ≡ None) line.words (words_in lines) each))
 
-no_errors : (domain : Domain) (h : Heading) (lines : List Line) → filter_map (λ line. result_err (entry_said domain h line)) lines ≡ []
-    → All (λ line. result_err (entry_said domain h line) ≡ None) lines
+no_errors : (domain : Domain) (h : Heading) (lines : List ToldLine) → mistakes_in domain h lines ≡ [] → All (λ line. result_err (entry_said domain h line) ≡ None) (words_in lines)
+unfolding words_in mistakes_in
 no_errors domain h [] is = All-nil (λ (line : Line). result_err (entry_said domain h line) ≡ None)
 no_errors domain h (line ∷ lines) is =
-    let none = no_error (result_err (entry_said domain h line)) (filter_map (λ line. result_err (entry_said domain h line)) lines) is in
-    All-cons (λ (line : Line). result_err (entry_said domain h line) ≡ None) line lines none.0 (no_errors domain h lines none.1)
+    let none = no_mistake line (result_err (entry_said domain h line.words)) (mistakes_in domain h lines) is in
+    All-cons (λ (line : Line). result_err (entry_said domain h line) ≡ None) line.words (words_in lines) none.0 (no_errors domain h lines none.1)
 
-no_faults : (domain : Domain) (h : Heading) (lines : List Line) → faults_of domain h lines ≡ []
-    → (length lines ≡ h.entries) × All (λ line. result_err (entry_said domain h line) ≡ None) lines
-unfolding faults_of
+no_faults : (domain : Domain) (h : Heading) (lines : List ToldLine) → faults_of domain h lines ≡ []
+    → (length lines ≡ h.entries) × All (λ line. result_err (entry_said domain h line) ≡ None) (words_in lines)
+unfolding faults_of mistakes_in
 no_faults domain h lines is =
-    let errors = filter_map (λ (line : Line). result_err (entry_said domain h line)) (take h.entries lines) in
-    let many : List MmFault = cond (nat_lt h.entries (length lines)) (fault.TooMany ∷ []) [] in
-    let few : List MmFault = cond (nat_lt (length lines) h.entries) (fault.TooFew ∷ []) [] in
+    let errors = mistakes_in domain h (take h.entries lines) in
+    let many : List Misread = map (misread mistake.TooMany) (take 1 (drop h.entries lines)) in
+    let few : List Misread = cond (nat_lt (length lines) h.entries) (record { left = 0; mistake = mistake.TooFew } ∷ []) [] in
     let front = append_nil_parts (errors ++ many) few is in
     let parts = append_nil_parts errors many front.0 in
-    let below = nothing (nat_lt h.entries (length lines)) fault.TooMany parts.1 in
-    let above = nothing (nat_lt (length lines) h.entries) fault.TooFew front.1 in
+    let below = none_behind h.entries lines parts.1 in
+    let above = nothing (nat_lt (length lines) h.entries) _ front.1 in
     let count : length lines ≡ h.entries = grind (arith, nat_tests) in
     let all : take h.entries lines ≡ lines = take_all h.entries lines (omega arith) in
     (count, no_errors domain h lines (rw all at parts.0))
 
-faults_of-none : (domain : Domain) (h : Heading) (lines : List Line) → length lines ≡ h.entries → All (λ line. result_err (entry_said domain h line) ≡ None) lines
+faults_of-none : (domain : Domain) (h : Heading) (lines : List ToldLine) → length lines ≡ h.entries → All (λ line. result_err (entry_said domain h line) ≡ None) (words_in lines)
     → faults_of domain h lines ≡ []
-unfolding faults_of
+unfolding faults_of mistakes_in
 faults_of-none domain h lines count each =
     let all : take h.entries lines ≡ lines = take_all h.entries lines (omega arith) in
-    let below : nat_lt h.entries (length lines) ≡ false = grind (arith, nat_tests) in
     let above : nat_lt (length lines) h.entries ≡ false = grind (arith, nat_tests) in
-    rw (all, below, above, no_errors_in domain h lines each) refl
+    rw (all, above, behind_none h.entries lines count, no_errors_in domain h lines each) refl
+
+-- ---- lines that say something
+
+told_lines-words : (lines : List Line) → words_in (told_lines lines) ≡ filter is_told lines
+unfolding told_lines words_in
+told_lines-words [] = refl
+told_lines-words (line ∷ lines) = elim (cases_Bool (is_told line)) [
+  | inl told ↦ rw (told, told_lines-words lines) refl
+  | inr silent ↦ rw (silent, told_lines-words lines) refl
+]
+
+told_first : (told : List ToldLine) (size : Line) (entries : List Line) → words_in told ≡ size ∷ entries → (line : ToldLine) × (more : List ToldLine) × (told ≡ line ∷ more) × (line.words ≡ size) × (words_in more ≡ entries)
+unfolding words_in
+told_first [] size entries is = absurd (cc)
+told_first (line ∷ more) size entries is = (line, more, refl, cc, cc)
 
 -- ---- the relation and the function
 
@@ -115,59 +145,60 @@ heading_of-kind kind size h is =
     ))))
 
 -- the heading fits, and each line behind it says an entry
-listed : (domain : Domain) (h : Heading) (lines : List Line) (m : Matrix) → matrix_listed domain h lines ≡ Ok m
-    → (length lines ≡ h.entries) × All (λ line. result_err (entry_said domain h line) ≡ None) lines
-    × (m ≡ record { rows = h.rows; cols = h.cols; entries = entries_said domain h lines })
-unfolding matrix_listed
+listed : (domain : Domain) (h : Heading) (lines : List ToldLine) (m : Matrix) → matrix_listed domain h lines ≡ Ok m
+    → (length (words_in lines) ≡ h.entries) × All (λ line. result_err (entry_said domain h line) ≡ None) (words_in lines)
+    × (m ≡ record { rows = h.rows; cols = h.cols; entries = entries_said domain h (words_in lines) })
+unfolding matrix_listed words_in
 listed domain h lines m is =
-    let made : Matrix = record { rows = h.rows; cols = h.cols; entries = entries_said domain h lines } in
+    let made : Matrix = record { rows = h.rows; cols = h.cols; entries = entries_said domain h (words_in lines) } in
     let none = no_fault (faults_of domain h lines) made m is in
     let each = no_faults domain h lines none.0 in
-    (each.0, each.1, none.1)
+    (length-map lines (λ (line : ToldLine). line.words) ∙ each.0, each.1, none.1)
 
 -- what stands behind a banner of a kind
-record IsBehind (domain : Domain) (kind : Field × Symmetry) (told : List Line) (m : Matrix) : Type 0 where
-  size : Line
-  entries : List Line
+record IsBehind (domain : Domain) (kind : Field × Symmetry) (told : List ToldLine) (m : Matrix) : Type 0 where
+  size : ToldLine
+  entries : List ToldLine
   heading : Heading
   said : told ≡ size ∷ entries
-  sized : heading_of kind size ≡ Some heading
+  sized : heading_of kind size.words ≡ Some heading
   fits : has_fitting_shape heading ≡ true
   listing : matrix_listed domain heading entries ≡ Ok m
 
-behind_size : (domain : Domain) (kind : Field × Symmetry) (size : Line) (lines : List Line) (m : Matrix) (found : Option Heading) → heading_of kind size ≡ found
-    → option_map_or (λ h. cond (has_fitting_shape h) (matrix_listed domain h lines) (Err fault.NotSquare)) found (Err fault.SizeLine) ≡ Ok m
+behind_size : (domain : Domain) (kind : Field × Symmetry) (size : ToldLine) (lines : List ToldLine) (m : Matrix) (found : Option Heading) → heading_of kind size.words ≡ found
+    → option_map_or (λ h. cond (has_fitting_shape h) (matrix_listed domain h lines) (Err (misread mistake.NotSquare size))) found (Err (misread mistake.SizeLine size)) ≡ Ok m
     → IsBehind domain kind (size ∷ lines) m
 behind_size domain kind size lines m None sized is = absurd (cc)
 behind_size domain kind size lines m (Some h) sized is = elim (cases_Bool (has_fitting_shape h)) [
   | inl fits ↦ record { size = size; entries = lines; heading = h; said = refl; sized = sized; fits = fits; listing = rw fits at is }
-  | inr other ↦ let bad : Err fault.NotSquare ≡ Ok m = rw other at is in absurd (cc)
+  | inr other ↦ let bad : ◌≡◌ {A = Result Matrix Misread} (Err (misread mistake.NotSquare size)) (Ok m) = rw other at is in absurd (cc)
 ]
 
-behind : (domain : Domain) (kind : Field × Symmetry) (told : List Line) (m : Matrix) → matrix_behind domain kind told ≡ Ok m → IsBehind domain kind told m
+behind : (domain : Domain) (kind : Field × Symmetry) (told : List ToldLine) (m : Matrix) → matrix_behind domain kind told ≡ Ok m → IsBehind domain kind told m
 unfolding matrix_behind
 behind domain kind [] m is = absurd (cc)
-behind domain kind (size ∷ lines) m is = behind_size domain kind size lines m (heading_of kind size) refl is
+behind domain kind (size ∷ lines) m is = behind_size domain kind size lines m (heading_of kind size.words) refl is
 
-stands-kind : (domain : Domain) (text : List ℕ) (m : Matrix) (banner : Line) (lines : List Line) (found : Option (Field × Symmetry)) → map words_of (lines_of text) ≡ banner ∷ lines
-    → is_banner banner ≡ true → kind_of domain banner ≡ found
-    → option_map_or (λ kind. matrix_behind domain kind (filter is_told lines)) found (Err fault.Unsupported) ≡ Ok m → StandsFor domain text m
-stands-kind domain text m banner lines None cut announced known is = absurd (cc)
-stands-kind domain text m banner lines (Some kind) cut announced known is =
-    let b = behind domain kind (filter is_told lines) m is in
-    let kinds = (heading_of-kind kind b.size b.heading b.sized).0 in
+stands-kind : (domain : Domain) (text : List ℕ) (m : Matrix) (banner : Line) (lines : List Line) (found : Option (Field × Symmetry)) (unsupported : Misread)
+    → map words_of (lines_of text) ≡ banner ∷ lines → is_banner banner ≡ true → kind_of domain banner ≡ found
+    → option_map_or (λ kind. matrix_behind domain kind (told_lines lines)) found (Err unsupported) ≡ Ok m → StandsFor domain text m
+unfolding words_in
+stands-kind domain text m banner lines None unsupported cut announced known is = absurd (cc)
+stands-kind domain text m banner lines (Some kind) unsupported cut announced known is =
+    let b = behind domain kind (told_lines lines) m is in
+    let kinds = (heading_of-kind kind b.size.words b.heading b.sized).0 in
     let each = listed domain b.heading b.entries m b.listing in
     record {
       banner = banner;
-      size = b.size;
+      size = b.size.words;
       lines = lines;
-      entries = b.entries;
+      entries = words_in b.entries;
       heading = b.heading;
       cut = cut;
       announced = announced;
       kind = known ∙ ap Some kinds;
-      said = b.said;
-      sized = subst (λ k. heading_of k b.size ≡ Some b.heading) kinds b.sized;
+      said = sym (told_lines-words lines) ∙ ap words_in b.said;
+      sized = subst (λ k. heading_of k b.size.words ≡ Some b.heading) kinds b.sized;
       fits = b.fits;
       number = each.0;
       each = each.1;
@@ -178,21 +209,34 @@ stands-lines : (domain : Domain) (text : List ℕ) (m : Matrix) (all : List Line
 unfolding matrix_in_lines
 stands-lines domain text m [] cut is = absurd (cc)
 stands-lines domain text m (banner ∷ lines) cut is = elim (cases_Bool (is_banner banner)) [
-  | inl announced ↦ stands-kind domain text m banner lines (kind_of domain banner) cut announced refl (rw announced at is)
-  | inr other ↦ let bad : Err fault.Banner ≡ Ok m = rw other at is in absurd (cc)
+  | inl announced ↦ stands-kind domain text m banner lines (kind_of domain banner) _ cut announced refl (rw announced at is)
+  | inr other ↦
+      let bad : ◌≡◌ {A = Result Matrix Misread} (Err (record { left = suc (length lines); mistake = mistake.Banner })) (Ok m) = rw other at is in absurd (cc)
 ]
+
+-- a matrix that is found by numbered mistakes is found
+numbered-ok : (n : ℕ) (r : Result Matrix Misread) (m : Matrix) → result_map_both (λ m. m) (fault_at n) r ≡ Ok m → r ≡ Ok m
+numbered-ok n (Ok found) m is = cc
+numbered-ok n (Err wrong) m is = absurd (cc)
 
 -- a text of which a matrix is read stands for it
 pub matrix_in-stands : (domain : Domain) (text : List ℕ) (m : Matrix) → matrix_in domain text ≡ Ok m → StandsFor domain text m
 unfolding matrix_in
-matrix_in-stands domain text m is = stands-lines domain text m (map words_of (lines_of text)) refl is
+matrix_in-stands domain text m is =
+    stands-lines domain text m (map words_of (lines_of text)) refl (numbered-ok (length (lines_of text)) (matrix_in_lines domain (map words_of (lines_of text))) m is)
 
 -- ..and of a text that stands for a matrix it is read
 pub stands_for-matrix_in : (domain : Domain) (text : List ℕ) (m : Matrix) → StandsFor domain text m → matrix_in domain text ≡ Ok m
-unfolding matrix_in matrix_in_lines matrix_behind matrix_listed
+unfolding matrix_in matrix_in_lines matrix_behind matrix_listed words_in
 stands_for-matrix_in domain text m s =
-    let none = faults_of-none domain s.heading s.entries s.number s.each in
-    rw (s.cut, s.announced, s.kind, s.said, s.sized, s.fits, none) (ap Ok (sym s.stands))
+    let first = told_first (told_lines s.lines) s.size s.entries (told_lines-words s.lines ∙ s.said) in
+    let line = first.0 in
+    let more = first.1 in
+    let sized : heading_of (s.heading.field, s.heading.symmetry) line.words ≡ Some s.heading = rw first.3 s.sized in
+    let count : length more ≡ s.heading.entries = sym (length-map more (λ (line : ToldLine). line.words)) ∙ ap (λ (lines : List Line). length lines) first.4 ∙ s.number in
+    let each : All (λ line. result_err (entry_said domain s.heading line) ≡ None) (words_in more) = rw first.4 s.each in
+    let none = faults_of-none domain s.heading more count each in
+    rw (s.cut, s.announced, s.kind, first.2, sized, s.fits, none, first.4) (ap Ok (sym s.stands))
 
 -- ---- dimensions
 
@@ -219,7 +263,7 @@ position-bounds i j m n b is =
     (row, col)
 
 said-value : (domain : Domain) (h : Heading) (i j : ℕ) (value : Option ℤ) (e : Entry) → is_position h i j ≡ true
-    → option_map_or (λ z. Ok (entry_at (i - 1) (j - 1) (word_of domain z))) value (Err fault.Value) ≡ Ok e → IsListed domain h.rows h.cols e
+    → option_map_or (λ z. Ok (entry_at (i - 1) (j - 1) (word_of domain z))) value (Err mistake.Value) ≡ Ok e → IsListed domain h.rows h.cols e
 said-value domain h i j None e inside is = absurd (cc)
 said-value domain h i j (Some z) e inside is =
     let same : e ≡ entry_at (i - 1) (j - 1) (word_of domain z) = cc in
@@ -234,9 +278,9 @@ entry_said-listed domain h line e is =
     let j = nth_word line 1 in
     let formed = (length line == words_for h.field) && are_digits i && are_digits j in
     elim (cases_Bool formed) [
-      | inr ill ↦ let bad : Err fault.Entry ≡ Ok e = rw ill at is in absurd (cc)
+      | inr ill ↦ let bad : Err mistake.Entry ≡ Ok e = rw ill at is in absurd (cc)
       | inl well ↦ elim (cases_Bool (is_position h (digits_value i) (digits_value j))) [
-        | inr outside ↦ let bad : Err fault.Index ≡ Ok e = rw (well, outside) at is in absurd (cc)
+        | inr outside ↦ let bad : Err mistake.Index ≡ Ok e = rw (well, outside) at is in absurd (cc)
         | inl inside ↦ said-value domain h (digits_value i) (digits_value j) (value_said h.field line) e inside (rw (well, inside) at is)
       ]
     ]
@@ -271,7 +315,7 @@ entries_said-all P domain h [] each = All-nil P
 entries_said-all P domain h (line ∷ lines) each =
     let rest = entries_said-all P domain h lines each in
     let others = filter_map (λ (line : Line). result_ok (entry_said domain h line)) lines in
-    let first : (found : Result Entry MmFault) → entry_said domain h line ≡ found → All P (flat_map (with_mirror h.symmetry) (cons_option (result_ok found) others)) =
+    let first : (found : Result Entry Mistake) → entry_said domain h line ≡ found → All P (flat_map (with_mirror h.symmetry) (cons_option (result_ok found) others)) =
     λ found. elim found as (λ found. entry_said domain h line ≡ found → All P (flat_map (with_mirror h.symmetry) (cons_option (result_ok found) others))) [
       | Ok e ↦ λ is. All-append P (with_mirror h.symmetry e) (flat_map (with_mirror h.symmetry) others) (each line e is) rest
       | Err f ↦ λ is. rest

@@ -2,12 +2,12 @@
 -- for, and what is wrong with a text that stands for none. Of the format's fields `integer` and `pattern` are read, of
 -- its symmetries all but `hermitian`; that comments and blank lines may stand anywhere behind the first line, that both
 -- sides of a diagonal may be listed, and that values of one position are summed is this project's.
-use Rattle.std.specs.Prelude.{ℕ, ℤ, pos, neg_ℤ, int_le, ◌-◌, ◌^◌, ◌≡◌, ◌==◌, nat_le, nat_lt, not, Bool, true, false}
+use Rattle.std.specs.Prelude.{ℕ, suc, ℤ, pos, neg_ℤ, int_le, ◌-◌, ◌^◌, ◌≡◌, ◌==◌, nat_le, nat_lt, not, Bool, true, false}
 use Rattle.std.specs.Prelude.{◌&&◌, ◌||◌, if◌then◌else◌, List, [], ◌∷◌, ◌++◌, map, length, drop, take, slice_get}
 use Rattle.std.specs.Prelude.{slice_index, Option, Some, None, codes, filter, Result, Ok, Err}
 use Rattle.std.specs.List.{All, filter_map, flat_map, list_all, list_any}
-use Rattle.std.specs.Option.{option_map_or}
-use Rattle.std.specs.Result.{result_err, result_ok}
+use Rattle.std.specs.Option.{option_map, option_map_or}
+use Rattle.std.specs.Result.{result_err, result_map_both, result_ok}
 use Rattle.std.specs.Str.{bytes_eq, str_eq_ignore_ascii_case}
 use Rattle.algebra.specs.declared.domain.Domain.{Domain}
 use Rattle.algebra.specs.declared.domain.Domain.TheVariants.{Bool as Boolean, Int64, Uint64}
@@ -18,8 +18,11 @@ use Rattle.model.specs.declared.entry.Entry.{Entry}
 use Rattle.model.specs.declared.market.Field.{Field}
 use Rattle.model.specs.declared.market.Field.TheVariants as field
 use Rattle.model.specs.declared.market.Heading.{Heading}
+use Rattle.model.specs.declared.market.Misread.{Misread}
+use Rattle.model.specs.declared.market.Mistake.{Mistake}
+use Rattle.model.specs.declared.market.Mistake.TheVariants as mistake
 use Rattle.model.specs.declared.market.MmFault.{MmFault}
-use Rattle.model.specs.declared.market.MmFault.TheVariants as fault
+use Rattle.model.specs.declared.market.MmFault.TheVariants.{Malformed}
 use Rattle.model.specs.declared.market.Symmetry.{Symmetry}
 use Rattle.model.specs.declared.market.Symmetry.TheVariants as symmetry
 use Rattle.model.specs.declared.shape.Shape.TheVariants.{Two}
@@ -138,13 +141,13 @@ value_said field.Pattern words = Some (pos 1)
 value_said field.Integer words = where_it is_of_64_bits (whole_of (nth_word words 2))
 
 -- the entry that a line says, its value cast to a domain; or what is wrong with the line
-unfoldable pub entry_said : Domain → Heading → Line → Result Entry MmFault
+unfoldable pub entry_said : Domain → Heading → Line → Result Entry Mistake
 entry_said domain h words =
     let i = nth_word words 0 in let j = nth_word words 1 in
-    if not ((length words == words_for h.field) && are_digits i && are_digits j) then Err fault.Entry
-    else if not (is_position h (digits_value i) (digits_value j)) then Err fault.Index
+    if not ((length words == words_for h.field) && are_digits i && are_digits j) then Err mistake.Entry
+    else if not (is_position h (digits_value i) (digits_value j)) then Err mistake.Index
     else option_map_or (λ z. Ok (entry_at (digits_value i - 1) (digits_value j - 1) (word_of domain z)))
-    (value_said h.field words) (Err fault.Value)
+    (value_said h.field words) (Err mistake.Value)
 
 -- an entry, and behind it the one that the file leaves out
 abbrev pub with_mirror : Symmetry → Entry → List Entry
@@ -153,12 +156,22 @@ with_mirror symmetry.Symmetric e = e ∷ (if e.row == e.col then [] else entry_a
 with_mirror symmetry.SkewSymmetric e =
     e ∷ entry_at e.col e.row (word_of Int64 (neg_ℤ (value_of Int64 e.word))) ∷ []
 
--- what is wrong with the announced entry lines, from the top, and then with their number
-unfoldable pub faults_of : Domain → Heading → List Line → List MmFault
+-- a line that says something, and how many lines of the text are left from it on
+pub record ToldLine : Type 0 where
+  pub left : ℕ
+  pub words : Line
+
+abbrev pub misread : Mistake → ToldLine → Misread
+misread mistake line = record { left = line.left; mistake = mistake }
+
+-- what is wrong with the announced entry lines, from the top, and then with their number: a line behind them, or the
+-- end of the text before them
+unfoldable pub faults_of : Domain → Heading → List ToldLine → List Misread
 faults_of domain h lines =
-    filter_map (λ line. result_err (entry_said domain h line)) (take h.entries lines)
-    ++ (if nat_lt h.entries (length lines) then fault.TooMany ∷ [] else [])
-    ++ (if nat_lt (length lines) h.entries then fault.TooFew ∷ [] else [])
+    filter_map (λ line. option_map (λ wrong. misread wrong line) (result_err (entry_said domain h line.words)))
+    (take h.entries lines)
+    ++ map (misread mistake.TooMany) (take 1 (drop h.entries lines))
+    ++ (if nat_lt (length lines) h.entries then record { left = 0; mistake = mistake.TooFew } ∷ [] else [])
 
 -- all entries that lines say, in their order
 abbrev pub entries_said : Domain → Heading → List Line → List Entry
@@ -178,32 +191,44 @@ abbrev pub is_told : Line → Bool
 is_told [] = false
 is_told (word ∷ words) = not (slice_index word 0 == 37)
 
+-- the lines that say something
+unfoldable pub told_lines : List Line → List ToldLine
+told_lines [] = []
+told_lines (words ∷ lines) =
+    if is_told words then record { left = suc (length lines); words = words } ∷ told_lines lines else told_lines lines
+
 -- the matrix of a heading and entry lines, or the first thing that is wrong
-unfoldable pub matrix_listed : Domain → Heading → List Line → Result Matrix MmFault
+unfoldable pub matrix_listed : Domain → Heading → List ToldLine → Result Matrix Misread
 matrix_listed domain h lines = option_map_or Err
     (slice_get (faults_of domain h lines) 0)
-    (Ok (record { rows = h.rows; cols = h.cols; entries = entries_said domain h lines }))
+    (Ok (record { rows = h.rows; cols = h.cols; entries = entries_said domain h (map (λ line. line.words) lines) }))
 
 -- ..of all lines behind the first one that say something
-unfoldable pub matrix_behind : Domain → Field × Symmetry → List Line → Result Matrix MmFault
-matrix_behind domain kind [] = Err fault.SizeLine
+unfoldable pub matrix_behind : Domain → Field × Symmetry → List ToldLine → Result Matrix Misread
+matrix_behind domain kind [] = Err (record { left = 0; mistake = mistake.SizeLine })
 matrix_behind domain kind (size ∷ lines) = option_map_or
-    (λ h. if has_fitting_shape h then matrix_listed domain h lines else Err fault.NotSquare)
-    (heading_of kind size) (Err fault.SizeLine)
+    (λ h. if has_fitting_shape h then matrix_listed domain h lines else Err (misread mistake.NotSquare size))
+    (heading_of kind size.words) (Err (misread mistake.SizeLine size))
 
 -- ..of all lines
-unfoldable pub matrix_in_lines : Domain → List Line → Result Matrix MmFault
-matrix_in_lines domain [] = Err fault.Banner
+unfoldable pub matrix_in_lines : Domain → List Line → Result Matrix Misread
+matrix_in_lines domain [] = Err (record { left = 0; mistake = mistake.Banner })
 matrix_in_lines domain (banner ∷ lines) =
+    let wrong : Mistake → Result Matrix Misread = λ m. Err (record { left = suc (length lines); mistake = m }) in
     if is_banner banner
-    then option_map_or (λ kind. matrix_behind domain kind (filter is_told lines)) (kind_of domain banner)
-    (Err fault.Unsupported)
-    else Err fault.Banner
+    then option_map_or (λ kind. matrix_behind domain kind (told_lines lines)) (kind_of domain banner)
+    (wrong mistake.Unsupported)
+    else wrong mistake.Banner
+
+-- a mistake by its line, of so many
+abbrev pub fault_at : ℕ → Misread → MmFault
+fault_at lines wrong = Malformed (suc lines - wrong.left) wrong.mistake
 
 -- the matrix that a text stands for, its values cast to a domain; or else what is wrong with it, line by line from the
 -- top
 unfoldable pub matrix_in : Domain → List ℕ → Result Matrix MmFault
-matrix_in domain text = matrix_in_lines domain (map words_of (lines_of text))
+matrix_in domain text =
+    result_map_both (λ m. m) (fault_at (length (lines_of text))) (matrix_in_lines domain (map words_of (lines_of text)))
 
 -- The same as a relation: the text has a banner and a size line, and each line behind it that says something is one of
 -- as many entries as were announced.

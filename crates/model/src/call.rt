@@ -22,8 +22,11 @@ pub struct Desc {
 /// the descriptor.
 #[derive(Clone, Copy)]
 pub struct Out<K> {
+    /// The output, whose old content an accumulator and a write-back combine with.
     pub c: K,
+    /// The object that says which positions are written; none: all are.
     pub mask: Option<K>,
+    /// The operator that combines an old value and a new one; none: the new one replaces the old.
     pub accum: Option<OpName>,
     pub desc: Desc,
 }
@@ -51,7 +54,9 @@ pub enum Positions {
 /// The rows and the columns that a call names by lists: of a vector, or of a matrix.
 #[derive(Drop)]
 pub enum Region {
+    /// The indices of a vector.
     One(IndexList),
+    /// The rows and the columns of a matrix.
     Two(IndexList, IndexList),
 }
 
@@ -103,7 +108,9 @@ pub enum TwoInputs {
 pub enum Operation<K> {
     /// A value at each position of a region of the output (`GrB_assign` of a constant).
     Fill { value: i128, region: Region },
+    /// What is computed of one input.
     OfOne { computes: OneInput, a: K },
+    /// What is computed of two inputs.
     OfTwo { computes: TwoInputs, a: K, b: K },
 }
 

@@ -18,7 +18,7 @@ pub use indices::IndexList;
 pub use limits::{
     GREATEST_DIMENSION, LONGEST_FILE_NAME, LONGEST_LINE, LONGEST_NAME, MOST_FILLED, MOST_OBJECTS,
 };
-pub use market::{Field, Heading, MmFault, Symmetry};
+pub use market::{Field, Heading, Misread, Mistake, MmFault, Symmetry};
 pub use memory::NoMemory;
 pub use shape::{Place, Shape, Signature};
 pub use status::Status;

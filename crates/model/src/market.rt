@@ -4,9 +4,9 @@ ghost use Rattle.std.specs.Prelude.{◌≡◌};
 use std::alloc::{AllocError, AllocFailed};
 use thiserror::Error;
 
-/// What is wrong with a Matrix Market file, or that it couldn't be read for want of memory.
+/// What is wrong with a Matrix Market file.
 #[derive(Clone, Copy, Debug, PartialEq, Eq, Error)]
-pub enum MmFault {
+pub enum Mistake {
     /// The first line is no banner.
     #[error("not a Matrix Market file")]
     Banner,
@@ -37,6 +37,23 @@ pub enum MmFault {
     /// A symmetric or skew-symmetric matrix has other columns than rows.
     #[error("not square")]
     NotSquare,
+}
+
+/// A mistake where it is found: how many lines of the file are left from its line on. Where the file ends too early
+/// none is.
+#[derive(Clone, Copy, Debug, PartialEq, Eq)]
+pub struct Misread {
+    pub left: u64,
+    pub mistake: Mistake,
+}
+
+/// Why a Matrix Market file gives no matrix.
+#[derive(Clone, Copy, Debug, PartialEq, Eq, Error)]
+pub enum MmFault {
+    /// The file stands for none. Lines are counted from 1, all of them; where the file ends too early, it is the line
+    /// behind its last one.
+    #[error("line {line}: {mistake}")]
+    Malformed { line: u64, mistake: Mistake },
     /// A growth was refused.
     #[error("out of memory")]
     NoMemory,

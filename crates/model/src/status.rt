@@ -7,22 +7,40 @@ use std::alloc::{AllocError, AllocFailed};
 /// this project's, for its scripts).
 #[derive(Clone, Copy, Debug, PartialEq, Eq)]
 pub enum Status {
+    /// The call was accepted.
     Ok,
+    /// `get` found no entry at its place.
     NoValue,
+    /// No object has that name or number.
     UninitializedObject,
+    /// A plain value is outside its domain, a dimension outside its range, or an index or a position is
+    /// repeated that may stand once.
     InvalidValue,
+    /// A place of `set`, `remove` or `get` lies outside the shape.
     InvalidIndex,
+    /// The domains of objects and operators aren't compatible.
     DomainMismatch,
+    /// The shapes of objects don't fit one another.
     DimensionMismatch,
+    /// `build` was asked for on an object that has entries.
     OutputNotEmpty,
+    /// An operator isn't offered for its domain, or a limit of this implementation is passed.
     NotImplemented,
+    /// An index of a list lies outside the shape that it is of.
     IndexOutOfBounds,
+    /// The object's value was to be computed, and there was no memory for it.
     InvalidObject,
+    /// A growth was refused during the call, which changed nothing.
     OutOfMemory,
+    /// The line is no command.
     Syntax,
+    /// The new name stands for an object.
     NameTaken,
+    /// An object is a matrix where a vector is wanted, or the other way.
     WrongKind,
+    /// There is no file of that name, or it can't be read.
     NoFile,
+    /// The file stands for no matrix.
     BadFile,
 }
 

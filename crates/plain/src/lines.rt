@@ -1,12 +1,19 @@
 //! The lines of a file, and their words.
-ghost use Rattle.std.specs.Prelude.{◌≡◌, ◌==◌, IfOk, filter, map};
+ghost use Rattle.std.specs.Prelude.{◌≡◌, ◌==◌, ◌∷◌, ◌++◌, [], IfOk, OnOk, filter, if◌then◌else◌, map};
 ghost use Rattle.std.specs.List.{slice_split};
 ghost use Rattle.std.specs.Str.Lines.{strip_carriage_return};
 ghost use Rattle.model.specs.Grammar.{lines_of, without_empty_last, words_of};
-ghost use Rattle.model.specs.MatrixMarket.{is_told};
+ghost use Rattle.model.specs.MatrixMarket.{is_told, told_lines};
 ghost use Rattle.plain.specs.Files.{lines_in, texts_in};
 
 use std::alloc::{AllocError, Global};
+
+/// The words of a line that says something, and how many lines of the file are left from it on.
+#[derive(Drop)]
+pub struct PlainLine<'a> {
+    pub left: u64,
+    pub words: Vec<&'a [u8]>,
+}
 
 /// The lines of a text, without their line ends.
 #[tactic(auto, unfolding(model::specs::Grammar::lines_of))]
@@ -67,18 +74,34 @@ pub fn words_of(alloc: Global, line: &[u8]) -> Result<Vec<&[u8]>, AllocError>
         .collect(alloc)
 }
 
-/// The words of the lines that say something.
-pub fn told<'a>(alloc: Global, lines: &[&'a [u8]]) -> Result<Vec<Vec<&'a [u8]>>, AllocError>
-    ensures { IfOk result (λ told. lines_in told.items ≡ filter is_told (map words_of (texts_in lines.now))) }
+/// The last lines of a file that say something.
+pub fn told<'a>(alloc: Global, lines: &[&'a [u8]]) -> Result<Vec<PlainLine<'a>>, AllocError>
+    ensures { IfOk result (λ told. lines_in told.items ≡ told_lines (map words_of (texts_in lines.now))) }
 {
     let mut told = Vec::new(alloc);
+    let mut left = lines.len() as u64;
     for line in lines {
         let words = words_of(alloc, line)?;
-        if is_told(words.as_slice()) {
-            told.push(words)?;
-        }
+        push_told(&mut told, left, words)?;
+        left -= 1;
     }
     Ok(told)
+}
+
+/// Appends a line, if it says something.
+fn push_told<'a>(
+    told: &mut Vec<PlainLine<'a>>,
+    left: u64,
+    words: Vec<&'a [u8]>,
+) -> Result<(), AllocError>
+    ensures { let line = texts_in words.entry.items in
+        OnOk result (lines_in told.new.items ≡ lines_in told.old.items
+        ++ (if is_told line then record { left = left; words = line } ∷ [] else [])) }
+{
+    if is_told(words.as_slice()) {
+        told.push(PlainLine { left, words })?;
+    }
+    Ok(())
 }
 
 /// Whether there is a word, and the first one doesn't begin with `%`.

@@ -1,15 +1,18 @@
 //! The entry lines of files: what each says, and what is wrong with them.
-ghost use Rattle.std.specs.Prelude.{◌≡◌, ◌≤◌, ◌++◌, ◌∷◌, [], IfOk, OnOk, if◌then◌else◌, length, nat_lt};
+ghost use Rattle.std.specs.Prelude.{◌≡◌, ◌≤◌, ◌++◌, ◌∷◌, [], IfOk, OnOk, if◌then◌else◌, length, map, nat_lt};
+ghost use Rattle.std.specs.Prelude.{take};
 ghost use Rattle.std.specs.List.{filter_map};
+ghost use Rattle.std.specs.Option.{option_map};
 ghost use Rattle.std.specs.Result.{result_err};
 ghost use Rattle.model.specs.Entries.{entry_at};
-ghost use Rattle.model.specs.MatrixMarket.{entries_said, entry_said, faults_of, is_position, value_said, with_mirror};
-ghost use Rattle.model.specs.MatrixMarket.{words_for};
-ghost use Rattle.plain.specs.Files.{lines_in, position_said, texts_in};
+ghost use Rattle.model.specs.MatrixMarket.{entries_said, entry_said, faults_of, is_position, misread, value_said};
+ghost use Rattle.model.specs.MatrixMarket.{with_mirror, words_for};
+ghost use Rattle.plain.specs.Files.{line_of, lines_in, position_said, texts_in, words_in};
 
+use crate::lines::PlainLine;
 use crate::numbers::{digits_of, value};
 use algebra::Domain;
-use model::{Entry, Field, Heading, MmFault, Symmetry};
+use model::{Entry, Field, Heading, Misread, Mistake, Symmetry};
 use std::alloc::{AllocError, Global};
 
 /// What is wrong with the announced lines, from the top, and then with their number.
@@ -18,33 +21,48 @@ pub fn faults_of(
     alloc: Global,
     domain: Domain,
     heading: Heading,
-    lines: &[Vec<&[u8]>],
-) -> Result<Vec<MmFault>, AllocError>
+    lines: &[PlainLine<'_>],
+) -> Result<Vec<Misread>, AllocError>
     ensures { IfOk result (λ faults. faults.items ≡ faults_of domain heading (lines_in lines.now)) }
 {
     let announced = lines.len().min(heading.entries as usize);
-    let mut faults = faults_in(alloc, domain, heading, &lines[..announced])?;
-    push_fault_of_number(&mut faults, heading.entries, lines.len() as u64)?;
+    let (front, others) = lines.split_at(announced);
+    let mut faults = faults_in(alloc, domain, heading, front)?;
+    push_first(&mut faults, others)?;
+    push_too_few(&mut faults, heading.entries, lines.len() as u64)?;
     Ok(faults)
 }
 
-/// Appends what is wrong with the number of lines.
-fn push_fault_of_number(
-    faults: &mut Vec<MmFault>,
-    announced: u64,
-    found: u64,
-) -> Result<(), AllocError>
+/// Appends that there are fewer lines than announced, if there are.
+fn push_too_few(faults: &mut Vec<Misread>, announced: u64, found: u64) -> Result<(), AllocError>
     ensures { OnOk result (faults.new.items ≡ faults.old.items
-        ++ (if nat_lt announced found then MmFault.TooMany ∷ [] else [])
-        ++ (if nat_lt found announced then MmFault.TooFew ∷ [] else [])) }
+        ++ (if nat_lt found announced then record { left = 0; mistake = Mistake.TooFew } ∷ [] else [])) }
 {
-    if announced < found {
-        faults.push(MmFault::TooMany)?;
-    }
     if found < announced {
-        faults.push(MmFault::TooFew)?;
+        let mistake = Mistake::TooFew;
+        faults.push(Misread { left: 0, mistake })?;
     }
     Ok(())
+}
+
+/// Appends that the first line is too many, if there is one.
+fn push_first(faults: &mut Vec<Misread>, lines: &[PlainLine<'_>]) -> Result<(), AllocError>
+    ensures { OnOk result (faults.new.items ≡ faults.old.items
+        ++ map (misread Mistake.TooMany) (take 1 (lines_in lines.now))) }
+{
+    if let Some(line) = lines.first() {
+        faults.push(misread(Mistake::TooMany, line))?;
+    }
+    Ok(())
+}
+
+const fn misread(mistake: Mistake, line: &PlainLine<'_>) -> Misread
+    ensures { result ≡ misread mistake (line_of line.now) }
+{
+    Misread {
+        left: line.left,
+        mistake,
+    }
 }
 
 /// What is wrong with lines, from the top.
@@ -52,15 +70,16 @@ fn faults_in(
     alloc: Global,
     domain: Domain,
     heading: Heading,
-    lines: &[Vec<&[u8]>],
-) -> Result<Vec<MmFault>, AllocError>
+    lines: &[PlainLine<'_>],
+) -> Result<Vec<Misread>, AllocError>
     ensures { IfOk result (λ faults. faults.items
-        ≡ filter_map (λ line. result_err (entry_said domain heading line)) (lines_in lines.now)) }
+        ≡ filter_map (λ line. option_map (λ wrong. misread wrong line) (result_err (entry_said domain heading line.words)))
+        (lines_in lines.now)) }
 {
     let mut faults = Vec::new(alloc);
     for line in lines {
-        if let Err(fault) = entry_said(domain, heading, line.as_slice()) {
-            faults.push(fault)?;
+        if let Err(mistake) = entry_said(domain, heading, line.words.as_slice()) {
+            faults.push(misread(mistake, line))?;
         }
     }
     Ok(faults)
@@ -71,13 +90,13 @@ pub fn entries_said(
     alloc: Global,
     domain: Domain,
     heading: Heading,
-    lines: &[Vec<&[u8]>],
+    lines: &[PlainLine<'_>],
 ) -> Result<Vec<Entry>, AllocError>
-    ensures { IfOk result (λ entries. entries.items ≡ entries_said domain heading (lines_in lines.now)) }
+    ensures { IfOk result (λ entries. entries.items ≡ entries_said domain heading (map words_in lines.now)) }
 {
     let mut entries = Vec::new(alloc);
     for line in lines {
-        if let Ok(entry) = entry_said(domain, heading, line.as_slice()) {
+        if let Ok(entry) = entry_said(domain, heading, line.words.as_slice()) {
             push_with_mirror(&mut entries, heading.symmetry, entry)?;
         }
     }
@@ -86,15 +105,15 @@ pub fn entries_said(
 
 /// The entry that the words of a line say, or what is wrong with the line.
 #[tactic(auto, unfolding(model::specs::MatrixMarket::entry_said))]
-fn entry_said(domain: Domain, heading: Heading, words: &[&[u8]]) -> Result<Entry, MmFault>
+fn entry_said(domain: Domain, heading: Heading, words: &[&[u8]]) -> Result<Entry, Mistake>
     ensures { result ≡ entry_said domain heading (texts_in words.now) }
 {
     if words.len() != words_for(heading.field) {
-        return Err(MmFault::Entry);
+        return Err(Mistake::Entry);
     }
     let (row, col) = position_said(heading, words[0], words[1])?;
     let Some(value) = value_said(heading.field, words) else {
-        return Err(MmFault::Value);
+        return Err(Mistake::Value);
     };
     Ok(Entry {
         row,
@@ -105,17 +124,17 @@ fn entry_said(domain: Domain, heading: Heading, words: &[&[u8]]) -> Result<Entry
 
 /// The position that two words say, or what is wrong with them.
 #[tactic(auto, unfolding(crate::specs::Files::position_said))]
-fn position_said(heading: Heading, row: &[u8], col: &[u8]) -> Result<(u64, u64), MmFault>
+fn position_said(heading: Heading, row: &[u8], col: &[u8]) -> Result<(u64, u64), Mistake>
     ensures { result ≡ position_said heading row.now col.now }
 {
     let Some(i) = digits_of(row) else {
-        return Err(MmFault::Entry);
+        return Err(Mistake::Entry);
     };
     let Some(j) = digits_of(col) else {
-        return Err(MmFault::Entry);
+        return Err(Mistake::Entry);
     };
     if !is_position(heading, i, j) {
-        return Err(MmFault::Index);
+        return Err(Mistake::Index);
     }
     Ok(((i - 1) as u64, (j - 1) as u64))
 }

@@ -6,7 +6,7 @@ use Rattle.std.specs.Result.{result_ok}
 use Rattle.std.proofs.lemmas.List.{append-nil}
 use Rattle.model.specs.declared.entry.Entry.{Entry}
 use Rattle.model.specs.MatrixMarket.{entry_said, with_mirror}
-use Rattle.plain.specs.Files.{texts_in}
+use Rattle.plain.specs.Files.{texts_in, words_in}
 use Rattle.plain.proofs.FileLaws.{added-no_ok, added-ok, entries_said-more}
 use Rattle.plain.proofs.listed.entries_said.Goals as goal
 use Rattle.plain.proofs.listed.entries_said.Goals.{in-Ok+in_ok-push_with_mirror, in_default}
@@ -15,7 +15,7 @@ pub loop-line-preserved : goal.loop-line-preserved
 loop-line-preserved c =
     let line = c.line-item.result in
     let kind = c.args.heading.symmetry in
-    let said = entry_said c.args.domain c.args.heading (texts_in line.items) in
+    let said = entry_said c.args.domain c.args.heading (words_in line) in
     let before = c.loop-line.entries.items in
     let more = entries_said-more c.args.domain c.args.heading c.args.lines.now c.loop-line.line-index line (omega arith) c.line-item.is in
     let words = ap (λ (words : List _). entry_said c.args.domain c.args.heading (texts_in words)) c.as_slice.ensures.value in

@@ -6,7 +6,7 @@ use Rattle.std.specs.Int.{w128}
 use Rattle.std.proofs.lemmas.Int.{to_z-of_z}
 use Rattle.std.proofs.lemmas.Result.{err_from_is_err_and}
 use Rattle.model.specs.declared.market.Heading.{Heading}
-use Rattle.model.specs.declared.market.MmFault.{MmFault}
+use Rattle.model.specs.declared.market.Mistake.{Mistake}
 use Rattle.model.specs.Entries.{entry_at}
 use Rattle.model.specs.MatrixMarket.{value_said, words_for}
 use Rattle.plain.specs.Files.{position_said, texts_in}
@@ -16,7 +16,7 @@ use Rattle.plain.proofs.listed.entry_said.Goals as goal
 no_word : Bor (List ℕ)
 no_word = record { ref_ptr = (0, 0); now = [] }
 
-abbrev position : Heading → List (Bor (List ℕ)) → Result (ℕ × ℕ) MmFault
+abbrev position : Heading → List (Bor (List ℕ)) → Result (ℕ × ℕ) Mistake
 position h words = position_said h (get_or words 0 no_word).now (get_or words 1 no_word).now
 
 pub returns-in_err-row : goal.returns-in_err-row
