@@ -23,3 +23,4 @@ pub mod StoredLaws
 pub mod TextLaws
 pub mod TupleLaws
 pub mod WriteBackLaws
+pub mod WrittenLaws

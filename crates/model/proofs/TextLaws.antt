@@ -95,7 +95,7 @@ numerals = numerals_by_fold (λ ds. list_all is_digit ds ≡ true)
     (λ n ds. fold (λ n b. n * 10 + (b - 48)) n ds)
     (record { empty = λ n. refl; more = λ n c cs inside. refl })
 
-digits-whole : (digits : List ℕ) → list_all is_digit digits ≡ true → All (λ b. 48 ≤ b) digits
+pub digits-whole : (digits : List ℕ) → list_all is_digit digits ≡ true → All (λ b. 48 ≤ b) digits
 digits-whole [] is = All-nil (λ b. 48 ≤ b)
 digits-whole (b ∷ digits) is =
     let parts = and_parts (is_digit b) (list_all is_digit digits) is in

@@ -17,3 +17,4 @@ pub mod Runs
 pub mod Table
 pub mod Text
 pub mod WriteBack
+pub mod Written
