@@ -8,10 +8,13 @@ ghost use Rattle.model.specs.Renamed.{inputs_of, outputs_of, renamed_operation, 
 
 use crate::known::Known;
 use crate::obj::{Obj, Shapes};
-use crate::operation::{accumulator_serves, recipe_of};
+use crate::operation::recipe_of;
 use crate::recipe::Recipe;
 use algebra::{Domain, MonoidName, OpName, compatible};
-use model::{Call, MOST_OBJECTS, Operation, Out, Place, Shape, Signature, Status, TupleList};
+use model::{
+    Call, MOST_OBJECTS, Operation, Out, Place, Shape, Signature, Status, TupleList,
+    accumulator_serves,
+};
 
 /// What was found of an accepted call.
 #[derive(Clone, Copy)]

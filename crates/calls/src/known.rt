@@ -4,7 +4,6 @@ ghost use Rattle.calls.specs.Known.{operation_in};
 ghost use Rattle.calls.specs.Roles.{roles_of};
 ghost use Rattle.model.specs.Table.{filled_by};
 
-use crate::regions::positions_in;
 use crate::role::Roles;
 use model::{OneInput, Out, Region, Shape, Signature, TwoInputs};
 
@@ -51,7 +50,7 @@ impl<'a> Known<'a> {
         ensures { result ≡ filled_by shape (operation_in self.entry) }
     {
         match self {
-            Known::Fill { region, .. } => positions_in(shape, region),
+            Known::Fill { region, .. } => region.positions_in(shape),
             Known::OfOne { .. } | Known::OfTwo { .. } => 0,
         }
     }

@@ -7,7 +7,6 @@ mod obj;
 mod operation;
 mod plan;
 mod recipe;
-mod regions;
 mod role;
 mod step;
 

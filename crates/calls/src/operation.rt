@@ -1,64 +1,18 @@
 //! The checks of operations.
 ghost use Rattle.std.specs.Prelude.{◌≡◌, MatchOption, MatchResult, None, Some, false, true};
-ghost use Rattle.std.specs.Option.{option_map_or};
 ghost use Rattle.calls.specs.Known.{operation_in};
 ghost use Rattle.calls.specs.Recipes.{IsRecipeOf};
 ghost use Rattle.calls.specs.Roles.{operation_by_role};
 ghost use Rattle.calls.specs.Steps.{called};
-ghost use Rattle.model.specs.Fault.{accumulates, is_implemented, mask_passes, operation_fault, serves_as_mask};
-ghost use Rattle.model.specs.Object.{same_kind, same_shape};
+ghost use Rattle.model.specs.Fault.{is_implemented, operation_fault};
 
 use crate::known::Known;
 use crate::plan::plan;
 use crate::recipe::Recipe;
 use crate::role::out_by_role;
 use crate::step::{Step, resolved};
-use algebra::{Domain, OpName, compatible};
+use algebra::compatible;
 use model::{MOST_FILLED, Out, Signature, Status};
-
-/// Whether an operator can accumulate values of a domain.
-fn accumulates(domain: Domain, op: OpName) -> bool
-    ensures { result ≡ accumulates domain op }
-{
-    op.kind.is_on(op.domain) && op.domain.is_same(domain) && op.answer().is_same(domain)
-}
-
-/// Whether an operator, where there is one, can accumulate values of a domain.
-pub(crate) fn accumulator_serves(domain: Domain, accum: Option<OpName>) -> bool
-    ensures { result ≡ option_map_or (accumulates domain) accum true }
-{
-    match accum {
-        Some(op) => accumulates(domain, op),
-        None => true,
-    }
-}
-
-fn mask_is_of_kind(out: &Out<Signature>) -> bool
-    ensures { result ≡ mask_passes (λ mask. same_kind mask.shape out.now.c.shape) out.now }
-{
-    match out.mask {
-        Some(mask) => mask.shape.is_like(out.c.shape),
-        None => true,
-    }
-}
-
-fn mask_fits(out: &Out<Signature>) -> bool
-    ensures { result ≡ mask_passes (λ mask. same_shape mask.shape out.now.c.shape) out.now }
-{
-    match out.mask {
-        Some(mask) => mask.shape.is_same(out.c.shape),
-        None => true,
-    }
-}
-
-fn mask_serves(out: &Out<Signature>) -> bool
-    ensures { result ≡ mask_passes (serves_as_mask out.now.desc) out.now }
-{
-    match out.mask {
-        Some(mask) => out.desc.structure || mask.domain.is_built_in(),
-        None => true,
-    }
-}
 
 /// An operation by roles, with its operators; its fault, if it has one.
 #[tactic(auto, unfolding(model::specs::Fault::operation_fault))]
@@ -73,14 +27,14 @@ pub(crate) fn check_operation<'a>(
 {
     let c = out.c;
     let plan = plan(c, out.desc, operation);
-    if !plan.kinds || !plan.shape.is_like(c.shape) || !mask_is_of_kind(out) {
+    if !plan.kinds || !plan.shape.is_like(c.shape) || !out.mask_is_of_kind() {
         return Err(Status::WrongKind);
     }
     let step = implemented(out, operation).ok_or(Status::NotImplemented)?;
-    if !mask_serves(out) || !plan.compatible || !compatible(plan.domain, c.domain) {
+    if !out.mask_serves() || !plan.compatible || !compatible(plan.domain, c.domain) {
         return Err(Status::DomainMismatch);
     }
-    if !mask_fits(out) || !plan.shape.is_same(c.shape) || !plan.fits {
+    if !out.mask_fits() || !plan.shape.is_same(c.shape) || !plan.fits {
         return Err(Status::DimensionMismatch);
     }
     if !plan.inside {
@@ -100,9 +54,7 @@ fn implemented<'a>(out: &Out<Signature>, operation: Known<'a>) -> Option<Step<'a
         × (called step ≡ operation_by_role (operation_in operation.entry))) }
 {
     let step = resolved(operation)?;
-    if operation.filled(out.c.shape) > MOST_FILLED as u128
-        || !accumulator_serves(out.c.domain, out.accum)
-    {
+    if operation.filled(out.c.shape) > MOST_FILLED as u128 || !out.accumulator_serves() {
         return None;
     }
     Some(step)

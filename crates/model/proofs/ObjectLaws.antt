@@ -73,19 +73,23 @@ entry_word : (domain : Domain) (at : Bool) (set word : ℕ) (o : Option ℕ) →
 entry_word domain true set word o small old is = let same : set ≡ word = cc in rw same at small
 entry_word domain false set word o small old is = old word is
 
+-- a map with a value set at a place inside a shape has nothing outside that
+pub set-within : (o : Object) (p : Place) (word : ℕ) → IsWithin (rows_of o.shape) (cols_of o.shape) o.content → is_inside p o.shape ≡ true
+    → IsWithin (rows_of o.shape) (cols_of o.shape) (with_entry o.content (row_of p) (col_of p) word)
+set-within o p word within inside i j outside =
+    let bounds = inside-bounds p o.shape inside in
+    entry_within ((i == row_of p) && (j == col_of p)) word (o.content i j)
+    (not_there i j (row_of p) (col_of p) (rows_of o.shape) (cols_of o.shape) bounds.0 bounds.1 outside) (within i j outside)
+
 -- an object with a value set at a place inside it
 pub set-is_object : (o : Object) (p : Place) (value : ℤ) → IsObject o → is_inside p o.shape ≡ true
     → IsObject (record o { content = with_entry o.content (row_of p) (col_of p) (word_of o.domain value) })
-set-is_object o p value is inside =
-    let bounds = inside-bounds p o.shape inside in
-    record {
-      within = λ i j outside.
-          entry_within ((i == row_of p) && (j == col_of p)) (word_of o.domain value) (o.content i j)
-          (not_there i j (row_of p) (col_of p) (rows_of o.shape) (cols_of o.shape) bounds.0 bounds.1 outside) (is.within i j outside);
-      words = λ i j word set.
-          entry_word o.domain ((i == row_of p) && (j == col_of p)) (word_of o.domain value) word (o.content i j)
-          (IsWordOf-word_of o.domain value) (is.words i j) set;
-    }
+set-is_object o p value is inside = record {
+  within = set-within o p (word_of o.domain value) is.within inside;
+  words = λ i j word set.
+      entry_word o.domain ((i == row_of p) && (j == col_of p)) (word_of o.domain value) word (o.content i j)
+      (IsWordOf-word_of o.domain value) (is.words i j) set;
+}
 
 removed_within : (at : Bool) (o : Option ℕ) → o ≡ None → cond at None o ≡ None
 removed_within true o none = refl
@@ -95,10 +99,15 @@ removed_word : (at : Bool) (o : Option ℕ) (word : ℕ) → cond at None o ≡ 
 removed_word true o word is = absurd (cc)
 removed_word false o word is = is
 
+-- a map without the entry at a place has nothing outside what it had nothing outside
+pub removed-within : (o : Object) (p : Place) → IsWithin (rows_of o.shape) (cols_of o.shape) o.content
+    → IsWithin (rows_of o.shape) (cols_of o.shape) (without_entry o.content (row_of p) (col_of p))
+removed-within o p within i j outside = removed_within ((i == row_of p) && (j == col_of p)) (o.content i j) (within i j outside)
+
 -- an object without the entry at a place
 pub removed-is_object : (o : Object) (p : Place) → IsObject o → IsObject (record o { content = without_entry o.content (row_of p) (col_of p) })
 removed-is_object o p is = record {
-  within = λ i j outside. removed_within ((i == row_of p) && (j == col_of p)) (o.content i j) (is.within i j outside);
+  within = removed-within o p is.within;
   words = λ i j word left. is.words i j word (removed_word ((i == row_of p) && (j == col_of p)) (o.content i j) word left);
 }
 

@@ -1,27 +1,22 @@
 -- Every step keeps all objects well formed: their words are of their domains, at positions inside their shapes.
-use Rattle.std.proofs.Common.{◌≡◌, ◌∙◌, ◌&&◌, ◌||◌, ℕ, ◌+◌, List, Bool, true, false, cond, not, [], ◌∷◌, ◌++◌, Option, Some, None, is_some, refl, sym, ap}
-use Rattle.std.specs.Prelude.{ℤ}
-use Rattle.std.specs.List.{All, list_all}
+use Rattle.std.proofs.Common.{take, drop, ◌≡◌, ◌∙◌, ℕ, ◌+◌, Bool, true, false, cond, not, [], ◌∷◌, ◌++◌, Option, Some, None, is_some, refl, sym, ap}
+use Rattle.std.specs.List.{All, find, list_all}
 use Rattle.std.specs.Option.{option_map, option_map_or}
 use Rattle.std.specs.Str.{bytes_eq}
 use Rattle.std.proofs.lemmas.List.Elements.{All-cons, All-nil}
-use Rattle.algebra.specs.declared.operator_names.OpName.{OpName}
-use Rattle.algebra.specs.Value.{is_value_of}
 use Rattle.model.specs.declared.call.Call.{Call}
 use Rattle.model.specs.declared.call.Call.TheVariants.{Create, Dup, Free, Clear, Resize, Build, Set, Remove, Get, Nvals, Print, Reduce, Operate}
 use Rattle.model.specs.declared.call.Operation.{Operation}
 use Rattle.model.specs.declared.call.Operation.TheVariants.{Fill, OfOne, OfTwo}
 use Rattle.model.specs.declared.call.Out.{Out}
-use Rattle.model.specs.declared.shape.Place.{Place}
 use Rattle.model.specs.declared.shape.Signature.{Signature}
 use Rattle.model.specs.declared.status.Status.{Status}
 use Rattle.model.specs.declared.status.Status.TheVariants as status
-use Rattle.model.specs.declared.tuples.Tuple.{Tuple}
-use Rattle.model.specs.Builds.{are_inside, are_of_kind, are_single, are_values_of}
-use Rattle.model.specs.Fault.{accumulates, early_fault, fault_of, found_object, found_signature, late_fault, no_object, operation_fault}
+use Rattle.model.specs.Builds.{are_inside}
+use Rattle.model.specs.Fault.{accumulates, call_fails, early_fault, fault_of, found_object, found_signature, late_fault, no_object, operation_fault, order, test_fails}
 use Rattle.model.specs.Grammar.{Name}
-use Rattle.model.specs.Object.{IsObject, Object, cols_of, empty_object, is_inside, is_of_kind, rows_of, signature_of}
-use Rattle.model.specs.Renamed.{inputs_of, outputs_of, renamed_operation, renamed_out}
+use Rattle.model.specs.Object.{IsObject, Object, cols_of, empty_object, is_inside, rows_of, signature_of}
+use Rattle.model.specs.Renamed.{inputs_of, outputs_of, renamed, renamed_operation, renamed_out}
 use Rattle.model.specs.Run.{Environment, data_lines_of, effect, no_objects, object_at, on_objects, resized, seen, step, with_object, without_object}
 use Rattle.model.specs.Text.{Answer}
 use Rattle.model.specs.WriteBack.{left_by, result_of}
@@ -29,6 +24,7 @@ use Rattle.model.proofs.BuildLaws.{built-is_object}
 use Rattle.model.proofs.ObjectLaws.{empty-is_object, removed-is_object, set-is_object}
 use Rattle.model.proofs.RegionLaws.{cut_to-within, cut_to-words}
 use Rattle.model.proofs.ResultLaws.{result-is_object}
+use Rattle.model.proofs.WriteBackLaws.{not_false, passed}
 
 -- every object has words of its domain, at positions inside its shape
 abbrev pub AreObjects : {K : Type 0} → Environment K → Type 0
@@ -87,64 +83,7 @@ pub without_object-are_objects : {K : Type 0} (same : K → K → Bool) (env : E
 without_object-are_objects same env name are other o found =
     left-is_object (same name other) (env.find_object other) o (are other o) found
 
--- ---- accepted calls
-
--- a call without a fault has none that is found early
-pub no_early : (early late : Option Status) → option_map_or Some early late ≡ None → early ≡ None
-no_early None late h = refl
-no_early (Some s) late h = absurd (cc)
-
--- where no test of a call that sets a value fails, the one for its place hasn't failed either
-set_passed : (kind inside valid : Bool)
-    → cond (not kind) (Some status.WrongKind)
-    (cond (not inside) (Some status.InvalidIndex) (cond (not valid) (Some status.InvalidValue) None)) ≡ None
-    → inside ≡ true
-set_passed true true valid h = refl
-set_passed true false valid h = absurd (cc)
-set_passed false inside valid h = absurd (cc)
-
--- an accepted call that sets a value names a place inside the object
-accepted-inside : (count : ℕ) (found : Option Object) (place : Place) (value : ℤ)
-    → early_fault count (Set (option_map signature_of found) place value) ≡ None
-    → is_inside place (found_object found).shape ≡ true
-unfolding early_fault
-accepted-inside count None place value h = absurd (cc)
-accepted-inside count (Some o) place value h =
-    set_passed (is_of_kind place o.shape) (is_inside place o.shape) (is_value_of o.domain value) h
-
--- ..of a call that builds
-build_passed : (kind joins inside valid : Bool)
-    → cond (not kind) (Some status.WrongKind)
-    (cond (not joins) (Some status.NotImplemented) (cond (not inside) (Some status.IndexOutOfBounds) (cond (not valid) (Some status.InvalidValue) None))) ≡ None
-    → (joins ≡ true) × (inside ≡ true)
-build_passed true true true valid h = (refl, refl)
-build_passed true true false valid h = absurd (cc)
-build_passed true false inside valid h = absurd (cc)
-build_passed false joins inside valid h = absurd (cc)
-
--- an accepted call that builds has an operator of the object's domain, and tuples inside its shape
-accepted-build : (count : ℕ) (found : Option Object) (dup : Option OpName) (tuples : List Tuple)
-    → early_fault count (Build (option_map signature_of found) dup tuples) ≡ None
-    → let o = found_object found in (option_map_or (accumulates o.domain) dup true ≡ true) × (are_inside o.shape tuples ≡ true)
-unfolding early_fault
-accepted-build count None dup tuples h = absurd (cc)
-accepted-build count (Some o) dup tuples h =
-    build_passed (are_of_kind o.shape tuples) (option_map_or (accumulates o.domain) dup true) (are_inside o.shape tuples)
-    (are_values_of o.domain tuples && (is_some dup || are_single tuples)) h
-
--- where no test fails, none of the later ones does
-later_passed : (fails : Bool) (s : Status) (later : Option Status) → cond fails (Some s) later ≡ None → later ≡ None
-later_passed true s later h = absurd (cc)
-later_passed false s later h = h
-
--- an accepted call of an operation passes the tests of the operation, on the signatures that are found
-operation-passed : (count : ℕ) (out : Out (Option Signature)) (op : Operation (Option Signature))
-    → early_fault count (Operate out op) ≡ None
-    → operation_fault (renamed_out found_signature out) (renamed_operation found_signature op) ≡ None
-unfolding early_fault operation_fault
-operation-passed count out op h =
-    later_passed (not (list_all is_some (outputs_of out ++ inputs_of op))) status.UninitializedObject
-    (operation_fault (renamed_out found_signature out) (renamed_operation found_signature op)) h
+-- ---- what is known of what names stand for
 
 -- the signature of what is found, whether it is taken before the object is found or after
 signature_found : (found : Option Object)
@@ -180,8 +119,72 @@ operation_found find_object (OfOne computes a) = λ i. OfOne computes (signature
 operation_found find_object (OfTwo computes a b) =
     λ i. OfTwo computes (signature_found (find_object a) i) (signature_found (find_object b) i)
 
+-- what is known of the objects that a call names
+abbrev pub known_in : {K : Type 0} → Environment K → Call K K → Call Signature Bool
+known_in env call = renamed signature_of (λ name. is_some (env.find_object name)) (on_objects env call)
+
+call_found : {K : Type 0} (env : Environment K) (call : Call K K)
+    → renamed found_signature (λ taken. taken) (renamed (option_map signature_of) (λ taken. taken) (seen env call))
+    ≡ known_in env call
+call_found env (Create name domain shape) = refl
+call_found env (Dup name o) = λ i. Dup (is_some (env.find_object name)) (signature_found (env.find_object o) i)
+call_found env (Resize o shape) = λ i. Resize (signature_found (env.find_object o) i) shape
+call_found env (Build o dup tuples) = λ i. Build (signature_found (env.find_object o) i) dup tuples
+call_found env (Free o) = λ i. Free (signature_found (env.find_object o) i)
+call_found env (Clear o) = λ i. Clear (signature_found (env.find_object o) i)
+call_found env (Set o place value) = λ i. Set (signature_found (env.find_object o) i) place value
+call_found env (Remove o place) = λ i. Remove (signature_found (env.find_object o) i) place
+call_found env (Get o place) = λ i. Get (signature_found (env.find_object o) i) place
+call_found env (Nvals o) = λ i. Nvals (signature_found (env.find_object o) i)
+call_found env (Print o) = λ i. Print (signature_found (env.find_object o) i)
+call_found env (Reduce o monoid) = λ i. Reduce (signature_found (env.find_object o) i) monoid
+call_found env (Operate out op) = λ i. Operate (out_found env.find_object out i) (operation_found env.find_object op i)
+
+-- a test on what is found is one on what is known of the objects that the names stand for
+pub test-found : {K : Type 0} (env : Environment K) (call : Call K K) (s : Status)
+    → test_fails env.count (renamed found_signature (λ taken. taken)
+    (renamed (option_map signature_of) (λ taken. taken) (seen env call))) s
+    ≡ test_fails env.count (known_in env call) s
+test-found env call s = ap (λ c. test_fails env.count c s) (call_found env call)
+
+-- ---- accepted calls
+
+-- a call without a fault has none that is found early
+pub no_early : (early late : Option Status) → option_map_or Some early late ≡ None → early ≡ None
+no_early None late h = refl
+no_early (Some s) late h = absurd (cc)
+
+-- an accepted call fails no test of those in the order
+pub accepted-test : {K : Type 0} (env : Environment K) (call : Call K K) (n : ℕ) (s : Status)
+    → order ≡ take n order ++ s ∷ drop (n + 1) order
+    → (let seen = renamed (option_map signature_of) (λ taken. taken) (seen env call) in
+    call_fails env.count seen s ≡ test_fails env.count (renamed found_signature (λ taken. taken) seen) s)
+    → fault_of env.count (seen env call) ≡ None → test_fails env.count (known_in env call) s ≡ false
+unfolding early_fault
+accepted-test env call n s in_order same accepted =
+    let seen = renamed (option_map signature_of) (λ taken. taken) (seen env call) in
+    let fails = call_fails env.count seen in
+    sym (test-found env call s) ∙ sym same
+    ∙ passed fails s (take n order) (drop (n + 1) order)
+    (sym (ap (λ statuses. find fails statuses) in_order) ∙ no_early (early_fault env.count seen)
+    (late_fault (renamed found_object (λ taken. taken) (renamed env.find_object (λ name. is_some (env.find_object name)) call))) accepted)
+
+-- where no test fails, none of the later ones does
+later_passed : (fails : Bool) (s : Status) (later : Option Status) → cond fails (Some s) later ≡ None → later ≡ None
+later_passed true s later h = absurd (cc)
+later_passed false s later h = h
+
+-- an accepted call of an operation passes the tests of the operation, on the signatures that are found
+operation-passed : (count : ℕ) (out : Out (Option Signature)) (op : Operation (Option Signature))
+    → early_fault count (Operate out op) ≡ None
+    → operation_fault (renamed_out found_signature out) (renamed_operation found_signature op) ≡ None
+unfolding early_fault operation_fault
+operation-passed count out op h =
+    later_passed (not (list_all is_some (outputs_of out ++ inputs_of op))) status.UninitializedObject
+    (operation_fault (renamed_out found_signature out) (renamed_operation found_signature op)) h
+
 -- an accepted call of an operation passes its tests on the objects that its names stand for
-accepted-operation : {K : Type 0} (env : Environment K) (out : Out K) (op : Operation K)
+pub accepted-operation : {K : Type 0} (env : Environment K) (out : Out K) (op : Operation K)
     → fault_of env.count (seen env (Operate out op)) ≡ None
     → operation_fault (renamed_out signature_of (renamed_out (object_at env) out))
     (renamed_operation signature_of (renamed_operation (object_at env) op)) ≡ None
@@ -204,13 +207,11 @@ effect-are_objects same env (Create name domain shape) are accepted =
     with_object-are_objects same env name (empty_object domain shape) (env.count + 1) are
     (empty-is_object domain shape)
 effect-are_objects {K = K} same env (Set name place value) are accepted =
-    let found = env.find_object name in
     let o = object_at env name in
-    let early = no_early (early_fault env.count (Set (option_map signature_of found) place value)) None accepted in
     let new : Object = record o { content = left_by {N = K} (Set o place value) } in
     with_object-are_objects same env name new env.count are
     (set-is_object o place value (object_at-is_object env are name)
-    (accepted-inside env.count found place value early))
+    (not_false (is_inside place o.shape) (accepted-test env (Set name place value) 8 status.InvalidIndex refl refl accepted)))
 effect-are_objects same env (Free name) are accepted = without_object-are_objects same env name are
 effect-are_objects same env (Clear name) are accepted =
     let o = object_at env name in
@@ -233,11 +234,11 @@ effect-are_objects same env (Resize name shape) are accepted =
     with_object-are_objects same env name (resized o shape) env.count are new
 effect-are_objects {K = K} same env (Build name dup tuples) are accepted =
     let o = object_at env name in
-    let found = env.find_object name in
-    let early = no_early (early_fault env.count (Build (option_map signature_of found) dup tuples)) (late_fault {N = K} (Build o dup tuples)) accepted in
-    let passed = accepted-build env.count found dup tuples early in
+    let call : Call K K = Build name dup tuples in
     let new : Object = record o { content = left_by {N = K} (Build o dup tuples) } in
-    with_object-are_objects same env name new env.count are (built-is_object o dup tuples passed.0 passed.1)
+    with_object-are_objects same env name new env.count are (built-is_object o dup tuples
+    (not_false (option_map_or (accumulates o.domain) dup true) (accepted-test env call 5 status.NotImplemented refl refl accepted))
+    (not_false (are_inside o.shape tuples) (accepted-test env call 9 status.IndexOutOfBounds refl refl accepted)))
 effect-are_objects same env (Get name place) are accepted = are
 effect-are_objects same env (Nvals name) are accepted = are
 effect-are_objects same env (Print name) are accepted = are

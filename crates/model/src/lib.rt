@@ -8,8 +8,11 @@ mod indices;
 mod limits;
 mod market;
 mod memory;
+mod output;
+mod regions;
 mod shape;
 mod status;
+mod table;
 mod tuples;
 
 pub use call::{Call, Desc, Form, OneInput, Operation, Out, Plan, Positions, Region, TwoInputs};
@@ -20,6 +23,7 @@ pub use limits::{
 };
 pub use market::{Field, Heading, Misread, Mistake, MmFault, Symmetry};
 pub use memory::NoMemory;
+pub use output::accumulator_serves;
 pub use shape::{Place, Shape, Signature};
 pub use status::Status;
 pub use tuples::{Tuple, TupleList};

@@ -1,0 +1,178 @@
+//! The table of operations: what each asks of its output and its inputs, and what it computes.
+ghost use Rattle.std.specs.Prelude.{◌≡◌, true};
+ghost use Rattle.model.specs.Table.{are_factors, inner_size, offers_one, offers_two, plan_of_fill, plan_of_one};
+ghost use Rattle.model.specs.Table.{plan_of_two, product_shape};
+
+use crate::call::{Form, OneInput, Plan, Region, TwoInputs};
+use crate::shape::{Shape, Signature};
+use algebra::compatible;
+
+impl Form {
+    /// Whether factors are of the kinds that it says.
+    pub const fn are_factors(self, a: Shape, b: Shape) -> bool
+        ensures { result ≡ are_factors self a b }
+    {
+        match self {
+            Form::MatrixMatrix => a.is_matrix() && b.is_matrix(),
+            Form::MatrixVector => a.is_matrix() && !b.is_matrix(),
+            Form::VectorMatrix => !a.is_matrix() && b.is_matrix(),
+        }
+    }
+
+    /// The number of products that are summed at most, with a first factor of a shape.
+    pub const fn inner_size(self, a: Shape) -> u64
+        ensures { result ≡ inner_size self a }
+    {
+        match self {
+            Form::MatrixMatrix | Form::MatrixVector => a.cols(),
+            Form::VectorMatrix => a.rows(),
+        }
+    }
+
+    /// The shape of the product.
+    pub const fn product_shape(self, a: Shape, b: Shape) -> Shape
+        ensures { result ≡ product_shape self a b }
+    {
+        match self {
+            Form::MatrixMatrix => Shape::Two(a.rows(), b.cols()),
+            Form::MatrixVector => Shape::One(a.rows()),
+            Form::VectorMatrix => Shape::One(b.cols()),
+        }
+    }
+}
+
+impl Plan {
+    /// The plan of what asks nothing, and computes what has a domain and a shape.
+    const fn undemanding(of: Signature) -> Plan
+        ensures { result ≡ record {
+          kinds = true;
+          compatible = true;
+          fits = true;
+          inside = true;
+          values = true;
+          shape = of.shape;
+          domain = of.domain;
+        } }
+    {
+        Plan {
+            kinds: true,
+            compatible: true,
+            fits: true,
+            inside: true,
+            values: true,
+            shape: of.shape,
+            domain: of.domain,
+        }
+    }
+}
+
+impl Region {
+    /// What the table says of a value that is put at its positions in an output.
+    pub fn plan_of_fill(&self, c: Signature, value: i128) -> Plan
+        ensures { result ≡ plan_of_fill c value self.now }
+    {
+        Plan {
+            kinds: self.is_region_of(c.shape),
+            compatible: c.domain.is_built_in(),
+            inside: self.lies_inside(c.shape),
+            values: c.domain.word_of(value).is_some(),
+            ..Plan::undemanding(c)
+        }
+    }
+}
+
+impl OneInput {
+    /// Whether there is the operator that it names, if it names one.
+    pub fn is_offered(&self) -> bool
+        ensures { result ≡ offers_one self.now }
+    {
+        match self {
+            OneInput::Apply(function) => function.is_offered(),
+            OneInput::Select { op, .. } => op.is_offered(),
+            OneInput::ReduceRows(monoid) => monoid.is_offered(),
+            OneInput::Transpose | OneInput::Extract(_) | OneInput::Assign(_) => true,
+        }
+    }
+
+    /// What the table says of the output and the input.
+    pub fn plan(&self, c: Signature, a: Signature) -> Plan
+        ensures { result ≡ plan_of_one c self.now a }
+    {
+        let Signature { shape, domain } = a;
+        match self {
+            OneInput::Apply(function) => Plan {
+                compatible: function.takes(domain),
+                values: function.has_value(),
+                domain: function.answer(),
+                ..Plan::undemanding(a)
+            },
+            OneInput::Select { op, scalar } => Plan {
+                compatible: op.takes(domain),
+                values: op.scalar().word_of(*scalar).is_some(),
+                ..Plan::undemanding(a)
+            },
+            OneInput::ReduceRows(monoid) => Plan {
+                kinds: shape.is_matrix(),
+                compatible: compatible(domain, monoid.domain),
+                shape: Shape::One(shape.rows()),
+                domain: monoid.domain,
+                ..Plan::undemanding(a)
+            },
+            OneInput::Transpose => Plan {
+                kinds: shape.is_matrix(),
+                shape: shape.transposed(),
+                ..Plan::undemanding(a)
+            },
+            OneInput::Extract(region) => Plan {
+                kinds: region.is_region_of(shape),
+                inside: region.lies_inside(shape),
+                shape: region.shape_in(shape),
+                ..Plan::undemanding(a)
+            },
+            OneInput::Assign(region) => Plan {
+                kinds: region.is_region_of(shape) && region.is_region_of(c.shape),
+                fits: shape.is_same(region.shape_in(c.shape)),
+                inside: region.lies_inside(c.shape),
+                values: region.has_no_repeat(),
+                shape: c.shape,
+                ..Plan::undemanding(a)
+            },
+        }
+    }
+}
+
+impl TwoInputs {
+    /// Whether there is the operator that it names.
+    pub const fn is_offered(self) -> bool
+        ensures { result ≡ offers_two self }
+    {
+        match self {
+            TwoInputs::Multiply { semiring, .. } => semiring.is_offered(),
+            TwoInputs::Combine { op, .. } => op.is_offered(),
+        }
+    }
+
+    /// What the table says of the inputs.
+    pub fn plan(self, a: Signature, b: Signature) -> Plan
+        ensures { result ≡ plan_of_two self a b }
+    {
+        match self {
+            TwoInputs::Multiply { form, semiring } => Plan {
+                kinds: form.are_factors(a.shape, b.shape),
+                compatible: compatible(a.domain, semiring.domain)
+                    && compatible(b.domain, semiring.domain),
+                fits: form.inner_size(a.shape) == b.shape.rows(),
+                shape: form.product_shape(a.shape, b.shape),
+                domain: semiring.answer(),
+                ..Plan::undemanding(a)
+            },
+            TwoInputs::Combine { op, .. } => Plan {
+                kinds: a.shape.is_like(b.shape),
+                compatible: compatible(a.domain, op.domain) && compatible(b.domain, op.domain),
+                fits: a.shape.is_same(b.shape),
+                domain: op.answer(),
+                ..Plan::undemanding(a)
+            },
+        }
+    }
+}
