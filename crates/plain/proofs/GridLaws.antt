@@ -1,9 +1,9 @@
 -- Walks over the positions of a shape, row by row, and lists of entries.
-use Rattle.std.proofs.Common.{◌≡◌, ℕ, zero, suc, ◌+◌, ◌<◌, ◌≤◌, ◌==◌, ◌&&◌, ◌||◌, Bool, true, false, cond, not, is_some, List, [], ◌∷◌, ◌++◌, length, filter, get_or, drop, inl, inr, Option, Some, None, refl, sym, ◌∙◌, ap, arith, append_assoc, add-one, add-zero}
+use Rattle.std.proofs.Common.{◌≡◌, ℕ, zero, suc, ◌+◌, ◌<◌, ◌≤◌, ◌==◌, ◌&&◌, ◌||◌, Bool, true, false, cond, List, [], ◌∷◌, ◌++◌, length, get_or, drop, Option, Some, None, refl, sym, ◌∙◌, ap, arith, append_assoc, add-one, add-zero}
 use Rattle.std.specs.Prelude.{nat_le, nat_lt}
 use Rattle.std.specs.List.{cons_option, filter_map, flat_map}
 use Rattle.std.specs.Option.{option_map, option_or}
-use Rattle.std.proofs.lemmas.Bool.{and_parts, cases_Bool, eqb-true}
+use Rattle.std.proofs.lemmas.Bool.{eqb-true}
 use Rattle.std.proofs.lemmas.Bool.Decides.{nat_tests}
 use Rattle.std.proofs.lemmas.List.Elements.{filter_map-append}
 use Rattle.std.proofs.lemmas.Grind.{flat_map-append}
@@ -12,9 +12,9 @@ use Rattle.std.proofs.Math.Seq.{drop-cons}
 use Rattle.std.proofs.Math.ListN.{drop_of_length-le}
 use Rattle.model.specs.declared.entry.Entry.{Entry}
 use Rattle.model.specs.Entries.{below, count_from, entries_of, entry_at, row_entries, word_at}
-use Rattle.model.specs.Object.{Content, with_entry, without_entry}
+use Rattle.model.specs.Object.{Content}
 use Rattle.model.specs.Regions.{cut_to}
-use Rattle.plain.specs.Evaluated.{is_apart, within}
+use Rattle.plain.specs.Evaluated.{within}
 
 -- one number more
 count_from-more : (first n : ℕ) → count_from first (suc n) ≡ count_from first n ++ (first + n) ∷ []
@@ -33,56 +33,6 @@ pub flat_map-below-more : {Y : Type 0} (h : ℕ → List Y) (n : ℕ) → flat_m
 flat_map-below-more h n = ap (flat_map h) (below-more n) ∙ flat_map-append h (below n) (n ∷ []) ∙ ap (λ ys. flat_map h (below n) ++ ys) (append-nil (h n))
 
 -- ---- what is listed inside a shape
-
-choices-swapped : {X : Type 0} (at inside : Bool) (a x : Option X) → (at ≡ true → inside ≡ true) → cond inside (cond at a x) None ≡ cond at a (cond inside x None)
-choices-swapped true true a x h = refl
-choices-swapped true false a x h = absurd (let e = h refl in cc)
-choices-swapped false true a x h = refl
-choices-swapped false false a x h = refl
-
--- a new entry inside the shape is what is set there
-pub within-put : (rows cols row col word : ℕ) (es : List Entry) → row < rows → col < cols → (i j : ℕ)
-    → within rows cols (word_at (entry_at row col word ∷ es)) i j ≡ with_entry (within rows cols (word_at es)) row col word i j
-unfolding word_at
-within-put rows cols row col word es in_rows in_cols i j =
-    choices-swapped ((i == row) && (j == col)) (nat_lt i rows && nat_lt j cols) (Some word) (word_at es i j) (λ at.
-    let parts = and_parts (i == row) (j == col) at in
-    let same_row : i ≡ row = eqb-true i row parts.0 in
-    let same_col : j ≡ col = eqb-true j col parts.1 in
-    grind (arith, nat_tests))
-
--- an entry that is taken off was listed for the position and for no other
-off_list : (at test : Bool) (x y : Option ℕ) (w : ℕ) → (test ≡ true → at ≡ true) → y ≡ cond at None x → y ≡ cond at None (cond test (Some w) x)
-off_list true test x y w here e = e
-off_list false true x y w here e = absurd (let h = here refl in cc)
-off_list false false x y w here e = e
-
-kept_list : (at test : Bool) (x y : Option ℕ) (w : ℕ) → (test ≡ true → at ≡ false) → y ≡ cond at None x → cond test (Some w) y ≡ cond at None (cond test (Some w) x)
-kept_list at true x y w apart e = rw (apart refl) refl
-kept_list at false x y w apart e = e
-
--- what is listed for other positions
-pub without-listed : (row col : ℕ) (es : List Entry) (i j : ℕ) → word_at (filter (is_apart row col) es) i j ≡ without_entry (word_at es) row col i j
-unfolding word_at
-without-listed row col [] i j = elim (cases_Bool ((i == row) && (j == col))) [ inl at ↦ rw at refl | inr apart ↦ rw apart refl ]
-without-listed row col (e ∷ es) i j =
-    let at = (i == row) && (j == col) in
-    let test = (i == e.row) && (j == e.col) in
-    elim (cases_Bool (is_apart row col e)) [
-      | inl apart ↦ rw apart (kept_list at test (word_at es i j) (word_at (filter (is_apart row col) es) i j) e.word (λ here. grind (arith, nat_tests)) (without-listed row col es i j))
-      | inr same ↦ rw same (off_list at test (word_at es i j) (word_at (filter (is_apart row col) es) i j) e.word (λ here. grind (arith, nat_tests)) (without-listed row col es i j))
-    ]
-
-inside_without : (inside at : Bool) (x y : Option ℕ) → y ≡ cond at None x → cond inside y None ≡ cond at None (cond inside x None)
-inside_without true at x y e = e
-inside_without false true x y e = refl
-inside_without false false x y e = refl
-
-pub within-without : (rows cols row col : ℕ) (old new : List Entry) → new ≡ filter (is_apart row col) old → (i j : ℕ)
-    → within rows cols (word_at new) i j ≡ without_entry (within rows cols (word_at old)) row col i j
-within-without rows cols row col old new left i j =
-    inside_without (nat_lt i rows && nat_lt j cols) ((i == row) && (j == col)) (word_at old i j) (word_at new i j)
-    (ap (λ es. word_at es i j) left ∙ without-listed row col old i j)
 
 -- the search for the first word that is listed for a position
 pub search-found : (es : List Entry) (k i j : ℕ) (d : Entry) → k < length es → word_at (drop k es) i j ≡ word_at es i j
@@ -230,47 +180,3 @@ chosen_twice false v = refl
 -- ..of any map stand for what it has inside the shape
 pub listed-cut : (rows cols : ℕ) (c : Content) (i j : ℕ) → within rows cols (word_at (entries_of rows cols c)) i j ≡ cut_to rows cols c i j
 listed-cut rows cols c i j = rw (listed rows cols c i j) (chosen_twice (nat_lt i rows && nat_lt j cols) (c i j))
-
--- ---- whether there are entries
-
-some-length : {X : Type 0} (x : X) (xs : List X) → not (length (x ∷ xs) == 0) ≡ true
-some-length x xs = grind (arith, nat_tests)
-
-is_none-append : {X : Type 0} (xs ys : List X) → not (length (xs ++ ys) == 0) ≡ (not (length xs == 0) || not (length ys == 0))
-is_none-append [] ys = refl
-is_none-append (x ∷ xs) ys = rw (some-length x xs, some-length x (xs ++ ys)) refl
-
-option-length : {X : Type 0} (o : Option X) → not (length (cons_option o []) == 0) ≡ is_some o
-option-length None = refl
-option-length (Some x) = refl
-
-entry_there : (i j : ℕ) (o : Option ℕ) → is_some (option_map (entry_at i j) o) ≡ is_some o
-entry_there i j None = refl
-entry_there i j (Some w) = refl
-
-pub no_columns : (c : Content) (i : ℕ) → false ≡ not (length (row_entries 0 c i) == 0)
-unfolding count_from
-no_columns c i = refl
-
-pub no_rows : {Y : Type 0} (h : ℕ → List Y) → false ≡ not (length (flat_map h (below 0)) == 0)
-unfolding count_from
-no_rows h = refl
-
--- whether a row has an entry in one column more
-pub row_has-more : (c : Content) (i n : ℕ) → not (length (row_entries (n + 1) c i) == 0) ≡ (not (length (row_entries n c i) == 0) || is_some (c i n))
-row_has-more c i n =
-    let h = λ (j : ℕ). option_map (entry_at i j) (c i j) in
-    ap (λ (es : List Entry). not (length es == 0)) (filter_map-below-more h n)
-    ∙ is_none-append (row_entries n c i) (cons_option (h n) [])
-    ∙ ap (λ b. not (length (row_entries n c i) == 0) || b) (option-length (h n) ∙ entry_there i n (c i n))
-
--- ..and whether one row more has one
-pub rows_have-more : {Y : Type 0} (h : ℕ → List Y) (n : ℕ) → not (length (flat_map h (below (n + 1))) == 0) ≡ (not (length (flat_map h (below n)) == 0) || not (length (h n) == 0))
-rows_have-more {Y = Y} h n =
-    ap (λ (ys : List Y). not (length ys == 0)) (flat_map-below-more h n) ∙ is_none-append (flat_map h (below n)) (h n)
-
--- ..and whether all of them have one
-pub have_rows : (rows cols : ℕ) (c : Content) (found : Bool) → found ≡ not (length (flat_map (row_entries cols c) (below rows)) == 0)
-    → found ≡ not (length (entries_of rows cols c) == 0)
-unfolding entries_of
-have_rows rows cols c found is = is

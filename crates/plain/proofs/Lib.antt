@@ -1,3 +1,4 @@
+pub mod EffectLaws
 pub mod EnvironmentLaws
 pub mod FaultLaws
 pub mod FileLaws

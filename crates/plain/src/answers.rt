@@ -1,11 +1,10 @@
 //! The answers of calls.
-ghost use Rattle.std.specs.Prelude.{◌≡◌, IfOk, None, is_some, true};
-ghost use Rattle.model.specs.Run.{data_lines_of, object_at, on_objects};
+ghost use Rattle.std.specs.Prelude.{◌≡◌, IfOk, None};
+ghost use Rattle.model.specs.Run.{data_lines_of, on_objects};
 ghost use Rattle.plain.specs.Environments.{environment_of, fault_in, named};
-ghost use Rattle.plain.specs.Evaluated.{lines_of, object_of};
+ghost use Rattle.plain.specs.Evaluated.{lines_of};
 
 use crate::environment::PlainEnvironment;
-use crate::objects::PlainObject;
 use crate::text::{canonical_lines, count_lines, sum_lines, value_lines};
 use model::{Call, Status};
 use std::alloc::{AllocError, Global};
@@ -19,17 +18,6 @@ pub struct PlainAnswer {
 }
 
 impl PlainEnvironment {
-    /// The object of a name that one has.
-    fn object(&self, name: &str) -> &PlainObject
-        requires { is_some ((environment_of self.now).find_object name.now) ≡ true }
-        ensures { object_of result.now ≡ object_at (environment_of self.now) name.now }
-    {
-        let Some(object) = self.find(name) else {
-            unreachable!()
-        };
-        object
-    }
-
     /// The data lines of an accepted call.
     #[tactic(auto, unfolding(model::specs::Run::data_lines_of))]
     pub(crate) fn data_lines(

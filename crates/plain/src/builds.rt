@@ -5,29 +5,11 @@ ghost use Rattle.model.specs.Builds.{built, joined};
 ghost use Rattle.model.specs.Object.{col_of, row_of};
 ghost use Rattle.plain.specs.Evaluated.{accumulator_offered, added};
 
-use crate::grid::Mapping;
 use algebra::{Domain, OpName};
 use model::Tuple;
 
-/// What tuples build in a domain.
-#[derive(Clone, Copy)]
-pub struct Built<'a> {
-    pub domain: Domain,
-    pub dup: Option<OpName>,
-    pub tuples: &'a [Tuple],
-    pub ghost operator: { accumulator_offered dup ≡ true },
-}
-
-impl Mapping for Built<'_> {
-    ghost content = { λ b. built b.dup b.domain b.tuples.now };
-
-    fn at(&self, row: u64, col: u64) -> Option<u64> {
-        built_at(self.dup, self.domain, self.tuples, row, col)
-    }
-}
-
 /// What the tuples of a position make, from the first to the last.
-fn built_at(
+pub fn built_at(
     dup: Option<OpName>,
     domain: Domain,
     tuples: &[Tuple],

@@ -1,18 +1,21 @@
-//! The inputs of operations, as they are read.
+//! Objects as they are read.
 ghost use Rattle.std.specs.Prelude.{◌≡◌};
 ghost use Rattle.algebra.specs.Value.{cast_of};
-ghost use Rattle.model.specs.Object.{in_domain, signature_of, transposed_object};
-ghost use Rattle.model.specs.Table.{transposed_if};
-ghost use Rattle.plain.specs.Evaluated.{input_of, object_of};
+ghost use Rattle.model.specs.Entries.{word_at};
+ghost use Rattle.model.specs.Object.{in_domain, signature_of};
+ghost use Rattle.plain.specs.Evaluated.{input_of};
 
-use crate::objects::PlainObject;
+use crate::grid::Mapping;
 use algebra::{Domain, cast};
-use model::{Shape, Signature};
+use model::{Entry, Shape, Signature};
 
-/// An input of an operation, and whether it is read transposed.
+/// An object that is lent, and whether it is read transposed.
 #[derive(Clone, Copy)]
 pub struct Input<'a> {
-    pub object: &'a PlainObject,
+    pub domain: Domain,
+    /// The shape, before it is transposed.
+    pub kept_shape: Shape,
+    pub entries: &'a [Entry],
     pub is_transposed: bool,
 }
 
@@ -22,9 +25,9 @@ impl Input<'_> {
         ensures { result ≡ (input_of self.entry).shape }
     {
         if self.is_transposed {
-            self.object.shape.transposed()
+            self.kept_shape.transposed()
         } else {
-            self.object.shape
+            self.kept_shape
         }
     }
 
@@ -33,7 +36,7 @@ impl Input<'_> {
         ensures { result ≡ signature_of (input_of self.entry) }
     {
         Signature {
-            domain: self.object.domain,
+            domain: self.domain,
             shape: self.shape(),
         }
     }
@@ -42,10 +45,15 @@ impl Input<'_> {
     pub fn word(self, row: u64, col: u64) -> Option<u64>
         ensures { result ≡ (input_of self.entry).content row col }
     {
-        if self.is_transposed && self.object.shape.is_matrix() {
-            self.object.word(col, row)
+        let (row, col) = if self.is_transposed && self.kept_shape.is_matrix() {
+            (col, row)
         } else {
-            self.object.word(row, col)
+            (row, col)
+        };
+        if row < self.kept_shape.rows() && col < self.kept_shape.cols() {
+            first_word(self.entries, row, col)
+        } else {
+            None
         }
     }
 
@@ -54,23 +62,33 @@ impl Input<'_> {
         ensures { result ≡ in_domain domain (input_of self.entry) row col }
     {
         let word = self.word(row, col);
-        word.map(|word| cast(word, self.object.domain, domain))
+        word.map(|word| cast(word, self.domain, domain))
     }
 
     /// A word of it in a domain.
     pub fn cast_word(self, word: u64, domain: Domain) -> u64
         ensures { result ≡ cast_of (input_of self.entry).domain domain word }
     {
-        cast(word, self.object.domain, domain)
+        cast(word, self.domain, domain)
     }
 }
 
-/// An input that is read transposed, if its flag says so.
-pub const fn read(is_transposed: bool, object: &PlainObject) -> Input<'_>
-    ensures { input_of result ≡ transposed_if transposed_object is_transposed (object_of object.now) }
-{
-    Input {
-        object,
-        is_transposed,
+impl Mapping for Input<'_> {
+    ghost content = { λ input. (input_of input).content };
+
+    fn at(&self, row: u64, col: u64) -> Option<u64> {
+        self.word(row, col)
     }
+}
+
+/// The word of the first entry at a position.
+fn first_word(entries: &[Entry], row: u64, col: u64) -> Option<u64>
+    ensures { result ≡ word_at entries.now row col }
+{
+    for entry in entries {
+        if row == entry.row && col == entry.col {
+            return Some(entry.word);
+        }
+    }
+    None
 }

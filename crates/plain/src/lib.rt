@@ -5,9 +5,9 @@
 
 mod answers;
 mod builds;
+mod effects;
 mod environment;
 mod faults;
-mod found;
 mod grid;
 mod heads;
 mod inputs;
@@ -21,11 +21,9 @@ mod operations;
 mod products;
 mod regions;
 mod sums;
-mod table;
 mod text;
 mod write_back;
 
 pub use answers::PlainAnswer;
 pub use environment::PlainEnvironment;
 pub use market::{PlainMatrix, read};
-pub use objects::PlainObject;

@@ -5,51 +5,82 @@ ghost use Rattle.algebra.specs.IndexOperators.{offers_index};
 ghost use Rattle.algebra.specs.Operators.{offers};
 ghost use Rattle.algebra.specs.Value.{word_of};
 ghost use Rattle.model.specs.ElementWise.{applied, selected};
-ghost use Rattle.model.specs.Object.{cols_of, in_domain, rows_of, transposed_object};
+ghost use Rattle.model.specs.Fault.{plan_in};
+ghost use Rattle.model.specs.Object.{cols_of, in_domain, rows_of, signature_of, transposed_object};
 ghost use Rattle.model.specs.Operations.{combined, computed_of_one, computed_of_two, is_written_by};
 ghost use Rattle.model.specs.Operations.{operation as computed};
 ghost use Rattle.model.specs.Regions.{cols_in, filled, rows_in};
+ghost use Rattle.model.specs.Renamed.{renamed_operation};
 ghost use Rattle.model.specs.Table.{is_offered, offers_one, offers_two, transposed};
-ghost use Rattle.plain.specs.Evaluated.{input_of, operation_of};
+ghost use Rattle.plain.specs.Environments.{operation_in};
+ghost use Rattle.plain.specs.Evaluated.{input_of};
 
-use crate::found::Found;
-use crate::inputs::{Input, read};
+use crate::environment::PlainEnvironment;
+use crate::inputs::Input;
 use crate::products::product;
 use crate::regions::{extracted, is_listed, placed};
 use crate::sums::row_sum;
 use algebra::{FunctionName, IndexName, OpName};
-use model::{Desc, OneInput, Positions, Region, Shape, Signature, TwoInputs};
+use model::{Desc, OneInput, Operation, Plan, Positions, Region, Shape, Signature, TwoInputs};
 
-/// What an operation computes at a position of its inputs, transposed as the descriptor says.
-#[tactic(auto, unfolding(model::specs::Operations::operation))]
-pub fn value_at(c: Signature, desc: Desc, operation: Found<'_>, row: u64, col: u64) -> Option<u64>
-    requires { is_offered (operation_of operation) ≡ true }
-    ensures { result ≡ computed c (transposed transposed_object desc (operation_of operation.entry)) row col }
-{
-    match operation {
-        Found::Fill { value, region } => {
-            filled(c.shape, region, c.domain.wrapped(value), row, col)
+impl PlainEnvironment {
+    /// What an operation computes at a position of its inputs, transposed as the descriptor says.
+    #[tactic(auto, unfolding(model::specs::Operations::operation))]
+    pub(crate) fn value_at(
+        &self,
+        c: Signature,
+        desc: Desc,
+        operation: &Operation<&str>,
+        row: u64,
+        col: u64,
+    ) -> Option<u64>
+        requires { is_offered operation.now ≡ true }
+        ensures { result
+            ≡ computed c (transposed transposed_object desc (operation_in self.now operation.now)) row col }
+    {
+        match operation {
+            Operation::Fill { value, region } => {
+                filled(c.shape, region, c.domain.wrapped(*value), row, col)
+            }
+            Operation::OfOne { computes, a } => {
+                let a = self.read(computes.is_transposed(desc), a);
+                one_at(c.shape, computes, a, row, col)
+            }
+            Operation::OfTwo { computes, a, b } => {
+                let a = self.read(desc.transpose_first, a);
+                let b = self.read(desc.transpose_second, b);
+                two_at(*computes, a, b, row, col)
+            }
         }
-        Found::OfOne { computes, a } => {
-            let a = read(computes.is_transposed(desc), a);
-            one_at(c.shape, computes, a, row, col)
-        }
-        Found::OfTwo { computes, a, b } => {
-            let a = read(desc.transpose_first, a);
-            let b = read(desc.transpose_second, b);
-            two_at(computes, a, b, row, col)
+    }
+
+    /// What the table says of an operation, its inputs transposed as the descriptor says.
+    pub(crate) fn plan(&self, c: Signature, desc: Desc, operation: &Operation<&str>) -> Plan
+        ensures { result ≡ plan_in c desc (renamed_operation signature_of (operation_in self.now operation.now)) }
+    {
+        match operation {
+            Operation::Fill { value, region } => region.plan_of_fill(c, *value),
+            Operation::OfOne { computes, a } => {
+                let a = self.read(computes.is_transposed(desc), a);
+                computes.plan(c, a.signature())
+            }
+            Operation::OfTwo { computes, a, b } => {
+                let a = self.read(desc.transpose_first, a);
+                let b = self.read(desc.transpose_second, b);
+                computes.plan(a.signature(), b.signature())
+            }
         }
     }
 }
 
 /// Whether an operation writes at a position of an output of a shape: an assignment does in its region
 /// alone.
-pub fn is_written(shape: Shape, operation: Found<'_>, row: u64, col: u64) -> bool
-    ensures { result ≡ is_written_by shape (operation_of operation.entry) row col }
+pub fn is_written<K>(shape: Shape, operation: &Operation<K>, row: u64, col: u64) -> bool
+    ensures { result ≡ is_written_by shape operation.now row col }
 {
     match operation {
-        Found::Fill { region, .. }
-        | Found::OfOne {
+        Operation::Fill { region, .. }
+        | Operation::OfOne {
             computes: OneInput::Assign(region),
             ..
         } => is_listed(shape, region, row, col),

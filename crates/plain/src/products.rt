@@ -4,45 +4,13 @@ ghost use Rattle.algebra.specs.OperatorNames.{semiring_named};
 ghost use Rattle.model.specs.Object.{in_domain};
 ghost use Rattle.model.specs.Operations.{multiplied};
 ghost use Rattle.model.specs.Product.{product_of};
-ghost use Rattle.model.specs.Table.{are_factors, inner_size, product_shape};
+ghost use Rattle.model.specs.Table.{inner_size};
 ghost use Rattle.plain.specs.Evaluated.{first_factor, input_of, place_in};
 
 use crate::inputs::Input;
 use crate::sums::plus;
 use algebra::{Domain, Semiring};
-use model::{Form, Shape};
-
-/// Whether factors are of the kinds that a product's form says.
-pub const fn are_factors(form: Form, first: Shape, second: Shape) -> bool
-    ensures { result ≡ are_factors form first second }
-{
-    match form {
-        Form::MatrixMatrix => first.is_matrix() && second.is_matrix(),
-        Form::MatrixVector => first.is_matrix() && !second.is_matrix(),
-        Form::VectorMatrix => !first.is_matrix() && second.is_matrix(),
-    }
-}
-
-/// The number of products that are summed at most.
-pub const fn inner_size(form: Form, first: Shape) -> u64
-    ensures { result ≡ inner_size form first }
-{
-    match form {
-        Form::MatrixMatrix | Form::MatrixVector => first.cols(),
-        Form::VectorMatrix => first.rows(),
-    }
-}
-
-/// The shape of a product: the rows of the first factor, and the columns of the second where it is a matrix.
-pub const fn product_shape(form: Form, first: Shape, second: Shape) -> Shape
-    ensures { result ≡ product_shape form first second }
-{
-    match form {
-        Form::MatrixMatrix => Shape::Two(first.rows(), second.cols()),
-        Form::MatrixVector => Shape::One(first.rows()),
-        Form::VectorMatrix => Shape::One(second.cols()),
-    }
-}
+use model::Form;
 
 /// The sum of the products at a position, in the domain of the semiring's sums.
 pub fn product(
@@ -58,7 +26,7 @@ pub fn product(
         (in_domain semiring.domain (input_of a.entry)) (in_domain semiring.domain (input_of b.entry)) row col }
 {
     let domain = semiring.multiply.domain;
-    let terms = inner_size(form, a.shape());
+    let terms = form.inner_size(a.shape());
     let (row, col) = place_in(form, row, col);
     let mut sum = None;
     for k in 0..terms {

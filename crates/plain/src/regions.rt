@@ -1,65 +1,13 @@
-//! Regions, and what stands at their positions.
-ghost use Rattle.std.specs.Prelude.{◌≡◌, ◌*◌, ◌==◌};
+//! What stands at the positions of regions.
+ghost use Rattle.std.specs.Prelude.{◌≡◌, ◌==◌};
 ghost use Rattle.std.specs.List.{position};
-ghost use Rattle.model.specs.Indices.{All, count_of, index_at, place_in};
+ghost use Rattle.model.specs.Indices.{All, index_at, place_in};
 ghost use Rattle.model.specs.Object.{cols_of, rows_of};
-ghost use Rattle.model.specs.Regions.{cols_in, extracted, has_no_repeat, is_listed, is_region_of, lies_inside};
-ghost use Rattle.model.specs.Regions.{placed, rows_in, shape_in};
+ghost use Rattle.model.specs.Regions.{cols_in, extracted, is_listed, placed, rows_in};
 ghost use Rattle.plain.specs.Evaluated.{input_of};
 
 use crate::inputs::Input;
 use model::{IndexList, Region, Shape};
-
-/// Whether it has as many lists as a shape has dimensions.
-pub fn is_region_of(region: &Region, shape: Shape) -> bool
-    ensures { result ≡ is_region_of region.now shape }
-{
-    match region {
-        Region::One(_) => !shape.is_matrix(),
-        Region::Two(_, _) => shape.is_matrix(),
-    }
-}
-
-/// The shape that the lengths of the lists make.
-pub fn shape_in(shape: Shape, region: &Region) -> Shape
-    ensures { result ≡ shape_in shape region.now }
-{
-    match region {
-        Region::One(list) => Shape::One(list.count(shape.rows())),
-        Region::Two(rows, cols) => Shape::Two(rows.count(shape.rows()), cols.count(shape.cols())),
-    }
-}
-
-/// Whether each index is inside a shape.
-pub fn lies_inside(shape: Shape, region: &Region) -> bool
-    ensures { result ≡ lies_inside shape region.now }
-{
-    match region {
-        Region::One(list) => list.are_below(shape.rows()),
-        Region::Two(rows, cols) => rows.are_below(shape.rows()) && cols.are_below(shape.cols()),
-    }
-}
-
-/// Whether no index is repeated in its list.
-pub fn has_no_repeat(region: &Region) -> bool
-    ensures { result ≡ has_no_repeat region.now }
-{
-    match region {
-        Region::One(list) => list.is_distinct(),
-        Region::Two(rows, cols) => rows.is_distinct() && cols.is_distinct(),
-    }
-}
-
-/// How many positions the lists name, each as often as they do.
-pub fn positions_in(shape: Shape, region: &Region) -> u128
-    ensures { result ≡ count_of (rows_of shape) (rows_in region.now) * count_of (cols_of shape) (cols_in region.now) }
-{
-    let (rows, cols) = match region {
-        Region::One(list) => (list.count(shape.rows()), shape.cols()),
-        Region::Two(rows, cols) => (rows.count(shape.rows()), cols.count(shape.cols())),
-    };
-    rows as u128 * cols as u128
-}
 
 /// Whether a position of a shape is in a region.
 pub fn is_listed(shape: Shape, region: &Region, row: u64, col: u64) -> bool

@@ -5,10 +5,9 @@ ghost use Rattle.algebra.specs.OperatorNames.{monoid_named};
 ghost use Rattle.algebra.specs.Operators.{combines_by, eval_of};
 ghost use Rattle.model.specs.Object.{cols_of, in_domain};
 ghost use Rattle.model.specs.Reductions.{row_sums, row_words, sum_in};
-ghost use Rattle.plain.specs.Evaluated.{added, input_of, object_of};
+ghost use Rattle.plain.specs.Evaluated.{added, input_of};
 
-use crate::inputs::{Input, read};
-use crate::objects::PlainObject;
+use crate::inputs::Input;
 use algebra::Monoid;
 
 /// A sum and one more term, where they are there.
@@ -49,13 +48,12 @@ fn with_row(monoid: Monoid, sum: Option<u64>, a: Input, row: u64) -> Option<u64>
 }
 
 /// The sum of all values of an object; of none the identity.
-pub fn sum_of_all(monoid: Monoid, object: &PlainObject) -> u64
-    ensures { result ≡ sum_in (monoid_named monoid) (object_of object.now) }
+pub fn sum_of_all(monoid: Monoid, object: Input) -> u64
+    ensures { result ≡ sum_in (monoid_named monoid) (input_of object.entry) }
 {
-    let input = read(false, object);
     let mut total = None;
-    for row in 0..object.shape.rows() {
-        total = with_row(monoid, total, input, row);
+    for row in 0..object.shape().rows() {
+        total = with_row(monoid, total, object, row);
     }
     total.unwrap_or(monoid.identity())
 }

@@ -6,10 +6,10 @@ ghost use Rattle.model.specs.Object.{col_of, cols_of, row_of, rows_of};
 ghost use Rattle.algebra.specs.OperatorNames.{monoid_named};
 ghost use Rattle.model.specs.Reductions.{sum_in};
 ghost use Rattle.model.specs.Text.{canonical_lines, entry_line, value_text};
-ghost use Rattle.plain.specs.Evaluated.{lines_of, object_of};
+ghost use Rattle.plain.specs.Evaluated.{lines_of, input_of};
 
 use crate::grid::entries;
-use crate::objects::PlainObject;
+use crate::inputs::Input;
 use crate::sums::sum_of_all;
 use algebra::{Domain, Monoid};
 use model::{Entry, Place};
@@ -29,15 +29,15 @@ fn value_text(alloc: Global, domain: Domain, word: u64) -> Result<Vec<u8>, Alloc
 /// The line of the value at a place, where there is one.
 pub fn value_lines(
     alloc: Global,
-    object: &PlainObject,
+    object: Input<'_>,
     place: Place,
 ) -> Result<Vec<Vec<u8>>, AllocError>
-    ensures { IfOk result (λ lines. lines_of lines ≡ option_map_or (λ word. value_text object.now.domain word ∷ [])
-        ((object_of object.now).content (row_of place) (col_of place)) []) }
+    ensures { IfOk result (λ lines. lines_of lines ≡ option_map_or (λ word. value_text (input_of object.entry).domain word ∷ [])
+        ((input_of object.entry).content (row_of place) (col_of place)) []) }
 {
     let mut lines = Vec::new(alloc);
     if let Some(word) = object.word(place.row(), place.col()) {
-        lines.push(value_text(alloc, object.domain, word)?)?;
+        lines.push(value_text(alloc, object.signature().domain, word)?)?;
     }
     Ok(lines)
 }
@@ -46,10 +46,10 @@ pub fn value_lines(
 pub fn sum_lines(
     alloc: Global,
     monoid: Monoid,
-    object: &PlainObject,
+    object: Input<'_>,
 ) -> Result<Vec<Vec<u8>>, AllocError>
     ensures { IfOk result (λ lines. lines_of lines
-        ≡ value_text monoid.op.domain (sum_in (monoid_named monoid) (object_of object.now)) ∷ []) }
+        ≡ value_text monoid.op.domain (sum_in (monoid_named monoid) (input_of object.entry)) ∷ []) }
 {
     let sum = sum_of_all(monoid, object);
     let mut lines = Vec::new(alloc);
@@ -58,12 +58,12 @@ pub fn sum_lines(
 }
 
 /// The line of the number of entries.
-pub fn count_lines(alloc: Global, object: &PlainObject) -> Result<Vec<Vec<u8>>, AllocError>
+pub fn count_lines(alloc: Global, object: Input<'_>) -> Result<Vec<Vec<u8>>, AllocError>
     ensures { IfOk result (λ lines. lines_of lines ≡
-        decimal (length (entries_of (rows_of object.now.shape) (cols_of object.now.shape)
-        (object_of object.now).content)) ∷ []) }
+        decimal (length (entries_of (rows_of (input_of object.entry).shape) (cols_of (input_of object.entry).shape)
+        (input_of object.entry).content)) ∷ []) }
 {
-    let entries = entries(alloc, object, object.shape)?;
+    let entries = entries(alloc, &object, object.shape())?;
     let mut lines = Vec::new(alloc);
     lines.push(entries.len().to_string(alloc)?.into_bytes())?;
     Ok(lines)
@@ -71,17 +71,17 @@ pub fn count_lines(alloc: Global, object: &PlainObject) -> Result<Vec<Vec<u8>>, 
 
 /// The lines of an object's canonical text.
 #[tactic(auto, unfolding(model::specs::Text::canonical_lines))]
-pub fn canonical_lines(alloc: Global, object: &PlainObject) -> Result<Vec<Vec<u8>>, AllocError>
-    ensures { IfOk result (λ lines. lines_of lines ≡ canonical_lines (object_of object.now)) }
+pub fn canonical_lines(alloc: Global, object: Input<'_>) -> Result<Vec<Vec<u8>>, AllocError>
+    ensures { IfOk result (λ lines. lines_of lines ≡ canonical_lines (input_of object.entry)) }
 {
-    let rows = object.shape.rows();
-    let cols = object.shape.cols();
-    let entries = entries(alloc, object, object.shape)?;
+    let rows = object.shape().rows();
+    let cols = object.shape().cols();
+    let entries = entries(alloc, &object, object.shape())?;
     let size = format!(in alloc; "{} {} {}", rows, cols, entries.len())?;
     let mut lines = Vec::new(alloc);
     lines.push(Vec::from_slice(alloc, BANNER)?)?;
     lines.push(size.into_bytes())?;
-    push_entry_lines(alloc, object.domain, &entries, &mut lines)?;
+    push_entry_lines(alloc, object.signature().domain, &entries, &mut lines)?;
     Ok(lines)
 }
 

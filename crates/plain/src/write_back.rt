@@ -3,63 +3,60 @@ ghost use Rattle.std.specs.Prelude.{◌≡◌, true};
 ghost use Rattle.std.specs.Option.{option_map};
 ghost use Rattle.algebra.specs.Operators.{offers};
 ghost use Rattle.algebra.specs.Value.{cast_of};
-ghost use Rattle.model.specs.WriteBack.{accumulated, accumulated_by, has_position, mask_set};
-ghost use Rattle.plain.specs.Evaluated.{accumulator_offered, are_operators, landed_in, object_of, operation_of, out_of};
-ghost use Rattle.plain.specs.Evaluated.{result_in};
+ghost use Rattle.model.specs.Renamed.{renamed_out};
+ghost use Rattle.model.specs.WriteBack.{accumulated, accumulated_by, has_position, mask_set, result_of};
+ghost use Rattle.plain.specs.Environments.{are_operators, landed_in, operation_in, out_in};
+ghost use Rattle.plain.specs.Evaluated.{accumulator_offered, input_of};
 
-use crate::found::Found;
-use crate::grid::Mapping;
-use crate::objects::PlainObject;
-use crate::operations::{is_written, value_at};
-use crate::table::plan;
+use crate::environment::PlainEnvironment;
+use crate::inputs::Input;
+use crate::operations::is_written;
 use algebra::{Domain, OpName, cast};
-use model::{Desc, Out};
+use model::{Desc, Operation, Out};
 
-/// What an operation leaves in its output.
-#[derive(Clone, Copy)]
-pub struct Left<'a> {
-    pub out: Out<&'a PlainObject>,
-    pub operation: Found<'a>,
-    pub ghost operators: { are_operators (out_of out) (operation_of operation) ≡ true },
-}
-
-impl Mapping for Left<'_> {
-    ghost content = { λ left. result_in left.out left.operation };
-
-    fn at(&self, row: u64, col: u64) -> Option<u64> {
-        result_at(&self.out, self.operation, row, col)
+impl PlainEnvironment {
+    /// What an operation leaves at a position of its output.
+    #[tactic(auto, unfolding(model::specs::WriteBack::result_of))]
+    pub(crate) fn result_at(
+        &self,
+        out: &Out<&str>,
+        operation: &Operation<&str>,
+        row: u64,
+        col: u64,
+    ) -> Option<u64>
+        requires { are_operators out.now operation.now ≡ true }
+        ensures { result ≡ result_of (out_in self.now out.now) (operation_in self.now operation.now) row col }
+    {
+        let out = self.output(out);
+        if is_in_mask_set(&out, row, col) {
+            self.landed_at(&out, operation, row, col)
+        } else if out.desc.replace {
+            None
+        } else {
+            out.c.word(row, col)
+        }
     }
-}
 
-/// What an operation leaves at a position.
-#[tactic(auto, unfolding(model::specs::WriteBack::result_of))]
-fn result_at(out: &Out<&PlainObject>, operation: Found<'_>, row: u64, col: u64) -> Option<u64>
-    requires { are_operators (out_of out.now) (operation_of operation) ≡ true }
-    ensures { result ≡ result_in out.now operation.entry row col }
-{
-    if is_in_mask_set(out, row, col) {
-        landed_at(out, operation, row, col)
-    } else if out.desc.replace {
-        None
-    } else {
-        out.c.word(row, col)
-    }
-}
-
-/// What stands at a position of the mask set: what is computed, with what was there, where the operation
-/// writes.
-fn landed_at(out: &Out<&PlainObject>, operation: Found<'_>, row: u64, col: u64) -> Option<u64>
-    requires { are_operators (out_of out.now) (operation_of operation) ≡ true }
-    ensures { result ≡ landed_in out.now operation.entry row col }
-{
-    let old = out.c.word(row, col);
-    if is_written(out.c.shape, operation, row, col) {
+    /// What stands at a position of the mask set: what is computed, with what was there, where the
+    /// operation writes.
+    fn landed_at(
+        &self,
+        out: &Out<Input<'_>>,
+        operation: &Operation<&str>,
+        row: u64,
+        col: u64,
+    ) -> Option<u64>
+        requires { are_operators out.now operation.now ≡ true }
+        ensures { result ≡ landed_in (renamed_out input_of out.now) (operation_in self.now operation.now) row col }
+    {
+        let old = out.c.word(row, col);
         let c = out.c.signature();
-        let value = value_at(c, out.desc, operation, row, col);
-        let domain = plan(c, out.desc, operation).domain;
+        if !is_written(c.shape, operation, row, col) {
+            return old;
+        }
+        let value = self.value_at(c, out.desc, operation, row, col);
+        let domain = self.plan(c, out.desc, operation).domain;
         accumulated_by(out.accum, old, in_domain(domain, c.domain, value))
-    } else {
-        old
     }
 }
 
@@ -74,8 +71,8 @@ const fn in_domain(from: Domain, to: Domain, word: Option<u64>) -> Option<u64>
 }
 
 /// Whether a position is in the mask set.
-fn is_in_mask_set(out: &Out<&PlainObject>, row: u64, col: u64) -> bool
-    ensures { result ≡ mask_set (out_of out.now) row col }
+fn is_in_mask_set(out: &Out<Input<'_>>, row: u64, col: u64) -> bool
+    ensures { result ≡ mask_set (renamed_out input_of out.now) row col }
 {
     let is_in = match out.mask {
         Some(mask) => has_position(out.desc, mask, row, col),
@@ -85,11 +82,11 @@ fn is_in_mask_set(out: &Out<&PlainObject>, row: u64, col: u64) -> bool
 }
 
 /// Whether a mask has a position.
-fn has_position(desc: Desc, mask: &PlainObject, row: u64, col: u64) -> bool
-    ensures { result ≡ has_position desc (object_of mask.now) row col }
+fn has_position(desc: Desc, mask: Input<'_>, row: u64, col: u64) -> bool
+    ensures { result ≡ has_position desc (input_of mask.entry) row col }
 {
     match mask.word(row, col) {
-        Some(word) => desc.structure || cast(word, mask.domain, Domain::Bool) == 1,
+        Some(word) => desc.structure || mask.cast_word(word, Domain::Bool) == 1,
         None => false,
     }
 }

@@ -6,5 +6,5 @@ use Rattle.plain.proofs.environment.PlainEnvironment.free.Goals as goal
 
 pub returns : goal.returns
 returns c =
-    let new : PlainEnvironment = record { objects = c.take_named_off.new.objects; live = c.saturating_sub-self.result } in
-    environment-freed c.args.self.now new c.args.name.now c.take_named_off.ensures (search rules)
+    let new : PlainEnvironment = record { objects = c.take_off.new.objects; live = c.saturating_sub-self.result } in
+    environment-freed c.args.self.now new c.args.name.now c.take_off.ensures.left (search rules)
