@@ -2,15 +2,16 @@
 ghost use Rattle.std.specs.Prelude.{◌≡◌, ◌<◌, ◌≤◌, ℕ, length, IfOk, OnOk, true};
 ghost use Rattle.std.specs.List.{AllPairs};
 ghost use Rattle.std.specs.Option.{option_and_then};
+ghost use Rattle.model.specs.Entries.{word_at};
 ghost use Rattle.model.specs.Indices.{All, These, are_below, count_of, index_at};
 ghost use Rattle.model.specs.Object.{Content};
 ghost use Rattle.model.specs.Regions.{extracted};
+ghost use Rattle.store.specs.Fibers.{entries_along};
 ghost use Rattle.store.specs.Stored.{block_content, content_of};
 ghost use Rattle.shapes.specs.Picks.{HasPicks};
 ghost use Rattle.shapes.specs.Rows.{HasRowOf, IsRowOf};
 
 use crate::collecting::{collect_all, collect_listed};
-use crate::finding::find_word;
 use crate::rows::{find_row, put_row, walk_rows};
 use model::{IndexList, NoMemory};
 use std::alloc::Global;
@@ -180,4 +181,17 @@ fn pick_words(
         }
     }
     Ok(())
+}
+
+/// The word of a row at a column, where there is one; by a binary search.
+#[inline(always)]
+fn find_word(cols: &[u64], words: &[u64], col: u64) -> Option<u64>
+    requires lengths { length words.now ≡ length cols.now }
+    requires rising { AllPairs (λ a b. a < b) cols.now }
+    ensures { (i : ℕ) → word_at (entries_along i cols.now words.now) i col ≡ result }
+{
+    match cols.binary_search(&col) {
+        Ok(at) => Some(words[at]),
+        Err(_) => None,
+    }
 }

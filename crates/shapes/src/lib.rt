@@ -7,7 +7,6 @@ mod collecting;
 mod counting;
 mod extracting;
 mod filling;
-mod finding;
 mod listing;
 mod members;
 mod places;

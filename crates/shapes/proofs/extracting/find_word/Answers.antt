@@ -5,7 +5,7 @@ use Rattle.model.specs.Entries.{word_at}
 use Rattle.store.specs.Fibers.{entries_along}
 use Rattle.store.proofs.RangeLaws.{rising_not_falling}
 use Rattle.shapes.proofs.RowWords.{found_word, missing_word}
-use Rattle.shapes.proofs.finding.find_word.Goals as goal
+use Rattle.shapes.proofs.extracting.find_word.Goals as goal
 
 pub returns-in-Ok : goal.returns-in-Ok
 returns-in-Ok c i =
