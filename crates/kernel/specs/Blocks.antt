@@ -1,13 +1,13 @@
 -- Blocks of rows of what operations compute.
-use Rattle.std.specs.Prelude.{ℕ, ◌≡◌, ◌<◌, ◌≤◌, IfSome, true}
-use Rattle.masks.specs.declared.view.MaskView.{MaskView}
-use Rattle.masks.specs.Masks.{lets_through}
+use Rattle.std.specs.Prelude.{ℕ, ◌≡◌, ◌<◌, ◌≤◌, true}
+use Rattle.masks.specs.declared.view.Mask.{Mask}
+use Rattle.masks.specs.Masks.{IfStored, lets_through}
 use Rattle.model.specs.Object.{Content}
 use Rattle.store.specs.Stored.{Block, block_content}
 
 -- the mask's store, where there is one, has so many rows and columns
-abbrev pub HasShape : ℕ → ℕ → MaskView → Type 0
-HasShape rows cols mask = IfSome mask.store (λ store. (store.now.rows ≡ rows) × (store.now.cols ≡ cols))
+abbrev pub HasShape : ℕ → ℕ → Mask → Type 0
+HasShape rows cols mask = IfStored mask (λ store. (store.rows ≡ rows) × (store.cols ≡ cols))
 
 -- the block has the rows from first up to before past of a map
 pub record HasRows (first past cols : ℕ) (c : Content) (block : Block) : Type 0 where
@@ -17,7 +17,7 @@ pub record HasRows (first past cols : ℕ) (c : Content) (block : Block) : Type 
   pub words : (i j : ℕ) → first ≤ i → i < past → block_content block i j ≡ c i j
 
 -- ..of which only the positions count that a mask lets through
-pub record AgreesUnder (mask : MaskView) (first past cols : ℕ) (c : Content) (block : Block) : Type 0 where
+pub record AgreesUnder (mask : Mask) (first past cols : ℕ) (c : Content) (block : Block) : Type 0 where
   pub first_is : block.first ≡ first
   pub past_is : block.past ≡ past
   pub cols_are : block.cols ≡ cols

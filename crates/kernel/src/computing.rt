@@ -16,7 +16,7 @@ use crate::product::multiplied_rows;
 use algebra::Domain;
 use calls::{IndexList, Positions, Recipe, Region, Roles, Step};
 use elementwise::{apply_rows, intersect_rows, reduce_rows, select_rows, union_rows};
-use masks::MaskView;
+use masks::Mask;
 use model::NoMemory;
 use shapes::put_rows;
 use std::alloc::Global;
@@ -30,7 +30,7 @@ pub(crate) fn computed_rows(
     alloc: Global,
     recipe: &Recipe<'_>,
     stores: &Roles<&Store>,
-    mask: MaskView<'_>,
+    mask: Mask<'_>,
     range: Range<u64>,
 ) -> Result<RowBlock, NoMemory>
     requires inputs { AreStraight recipe.now (λ role. (role_of stores.now role).now) }
@@ -94,7 +94,7 @@ fn step_rows(
     alloc: Global,
     recipe: &Recipe<'_>,
     stores: &Roles<&Store>,
-    mask: MaskView<'_>,
+    mask: Mask<'_>,
     range: Range<u64>,
 ) -> Result<RowBlock, NoMemory>
     requires inputs { AreStraight recipe.now (λ role. (role_of stores.now role).now) }

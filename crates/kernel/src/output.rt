@@ -12,25 +12,27 @@ ghost use Rattle.model.specs.WriteBack.{mask_set};
 
 use algebra::BinaryOp;
 use calls::{Recipe, Roles};
-use masks::MaskView;
+use masks::{Mask, MaskTest, StoredMask};
 use store::Store;
 
 /// The positions that a recipe writes.
-pub(crate) fn mask_of<'a>(recipe: &Recipe<'_>, stores: &Roles<&'a Store>) -> MaskView<'a>
+pub(crate) fn mask_of<'a>(recipe: &Recipe<'_>, stores: &Roles<&'a Store>) -> Mask<'a>
     requires { AreStraight recipe.now (λ role. (role_of stores.now role).now) }
     ensures set { (i j : ℕ) → mask_set (renamed_out (object_in recipe.now (λ role. (role_of stores.now role).now))
         recipe.now.out) i j ≡ lets_through result i j }
     ensures shape { HasShape (rows_of (output_of recipe.now).shape) (cols_of (output_of recipe.now).shape) result }
 {
     let desc = recipe.out.desc;
-    let store = match recipe.out.mask {
-        Some(role) => Some(stores.of(role)),
-        None => None,
-    };
-    MaskView {
-        store,
-        valued: !desc.structure,
-        complement: desc.complement,
+    match recipe.out.mask {
+        Some(role) => Mask::By(StoredMask {
+            store: stores.of(role),
+            test: MaskTest {
+                valued: !desc.structure,
+                complement: desc.complement,
+            },
+        }),
+        None if desc.complement => Mask::Nowhere,
+        None => Mask::Everywhere,
     }
 }
 

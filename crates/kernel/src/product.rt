@@ -8,9 +8,9 @@ ghost use Rattle.model.specs.Operations.{multiplied};
 ghost use Rattle.store.specs.Stored.{content_of};
 
 use algebra::Semiring;
-use masks::MaskView;
+use masks::Mask;
 use model::{Form, NoMemory};
-use spgemm::{multiply_rows_under, multiply_vector};
+use spgemm::{multiply_rows, multiply_vector};
 use std::alloc::Global;
 use std::ops::Range;
 use store::{RowBlock, Store};
@@ -22,7 +22,7 @@ pub(crate) fn multiplied_rows(
     semiring: Semiring,
     a: &Store,
     b: &Store,
-    mask: MaskView<'_>,
+    mask: Mask<'_>,
     range: Range<u64>,
 ) -> Result<RowBlock, NoMemory>
     requires factors { AreFactors form a.now b.now }
@@ -34,7 +34,7 @@ pub(crate) fn multiplied_rows(
 {
     match form {
         Form::MatrixMatrix | Form::MatrixVector => {
-            multiply_rows_under(alloc, a, b, mask, semiring, range)
+            multiply_rows(alloc, a, b, mask, semiring, range)
         }
         Form::VectorMatrix => multiply_vector(alloc, a, b, mask, semiring, range),
     }

@@ -9,8 +9,9 @@ use Rattle.model.specs.Entries.{entry_at, word_at}
 use Rattle.store.specs.Stored.{AreIn, along}
 use Rattle.store.proofs.Contents.{as_column, by_rows, length_along, word_at-transposed}
 use Rattle.store.proofs.PartLaws.{LiesIn, are_in, lies_in}
-use Rattle.masks.specs.declared.view.MaskView.{MaskView}
-use Rattle.masks.specs.Keeps.{kept_by, lets_word}
+use Rattle.masks.specs.declared.view.MaskTest.{MaskTest}
+use Rattle.masks.specs.Keeps.{kept_by}
+use Rattle.masks.specs.Masks.{lets_word}
 
 same_at : (i j row col : ℕ) → (eqb i row && eqb j col) ≡ true → (i ≡ row) × (j ≡ col)
 same_at i j row col at = (grind (arith, nat_tests), grind (arith, nat_tests))
@@ -40,17 +41,17 @@ filtered_words keeps (e ∷ es) i j =
     ]
 
 -- what a mask keeps has the words at the positions that it lets through
-pub kept_words : (mask : MaskView) (stored es : List Entry) (i j : ℕ) → word_at (kept_by mask stored es) i j ≡ cond (lets_word mask (word_at stored i j)) (word_at es i j) None
+pub kept_words : (mask : MaskTest) (stored es : List Entry) (i j : ℕ) → word_at (kept_by mask stored es) i j ≡ cond (lets_word mask (word_at stored i j)) (word_at es i j) None
 kept_words mask stored es i j = filtered_words (λ i j. lets_word mask (word_at stored i j)) es i j
 
-pub kept_along : (mask : MaskView) (cols : ℕ) (stored es : List Entry) (i j : ℕ) → word_at (along cols (kept_by mask stored es)) i j ≡ cond (lets_word mask (word_at (along cols stored) i j)) (word_at (along cols es) i j) None
+pub kept_along : (mask : MaskTest) (cols : ℕ) (stored es : List Entry) (i j : ℕ) → word_at (along cols (kept_by mask stored es)) i j ≡ cond (lets_word mask (word_at (along cols stored) i j)) (word_at (along cols es) i j) None
 kept_along mask cols stored es i j =
     elim (cases_Bool (eqb cols 1)) [
       | inl one ↦ rw (as_column cols (kept_by mask stored es) one, as_column cols stored one, as_column cols es one) (word_at-transposed (kept_by mask stored es) i j ∙ kept_words mask stored es j i ∙ rw (word_at-transposed stored i j, word_at-transposed es i j) refl)
       | inr many ↦ rw (by_rows cols (kept_by mask stored es) many, by_rows cols stored many, by_rows cols es many) (kept_words mask stored es i j)
     ]
 
-pub kept_in : (mask : MaskView) (first past cols : ℕ) (stored es : List Entry) → AreIn first past cols (along cols es) → AreIn first past cols (along cols (kept_by mask stored es))
+pub kept_in : (mask : MaskTest) (first past cols : ℕ) (stored es : List Entry) → AreIn first past cols (along cols es) → AreIn first past cols (along cols (kept_by mask stored es))
 kept_in mask first past cols stored es inside =
     are_in first past cols (kept_by mask stored es)
     (All-filter (λ e. lets_word mask (word_at stored e.row e.col)) (λ (e : Entry). LiesIn (eqb cols 1) first past cols e.row e.col) es (lies_in first past cols es inside))

@@ -17,12 +17,13 @@ use Rattle.store.proofs.FlatLaws.{all_rows, flat_none, rises_le, row_in_order}
 use Rattle.store.proofs.Order.{all_pairs_filter, all_pairs_head}
 use Rattle.store.proofs.RangeLaws.{from_left, in_parts}
 use Rattle.store.proofs.Walks.{cols_rise, step_next}
-use Rattle.masks.specs.declared.view.MaskView.{MaskView}
-use Rattle.masks.specs.Keeps.{kept_by, lets_word}
+use Rattle.masks.specs.declared.view.MaskTest.{MaskTest}
+use Rattle.masks.specs.Keeps.{kept_by}
+use Rattle.masks.specs.Masks.{lets_word}
 use Rattle.masks.proofs.FiberMerges.{length_put, put_take}
 
 -- so many fibers and entries are kept, of those before the fiber at; those from there on are as they were
-pub record IsKeeping (mask : MaskView) (stored all rest : List Entry) (ends : List FiberEnd) (inner words : List ℕ) (at fibers kept start : ℕ) : Type 0 where
+pub record IsKeeping (mask : MaskTest) (stored all rest : List Entry) (ends : List FiberEnd) (inner words : List ℕ) (at fibers kept start : ℕ) : Type 0 where
   pub fewer_fibers : fibers ≤ at
   pub fewer : kept ≤ start
   pub in_ends : at ≤ length ends
@@ -34,7 +35,7 @@ pub record IsKeeping (mask : MaskView) (stored all rest : List Entry) (ends : Li
   pub whole : kept_by mask stored all ≡ entries_from 0 (take fibers ends) (take kept inner) (take kept words) ++ kept_by mask stored (entries_from start (drop at ends) (drop start inner) (drop start words))
   pub masked : (i j : ℕ) → at < length ends → (get_or ends at (end_at 0 0)).outer ≤ i → word_at rest i j ≡ word_at stored i j
 
-pub keeping_none : (mask : MaskView) (stored : List Entry) (ends : List FiberEnd) (inner words : List ℕ) → AreFlat ends inner words → IsKeeping mask stored (entries_from 0 ends inner words) stored ends inner words 0 0 0 0
+pub keeping_none : (mask : MaskTest) (stored : List Entry) (ends : List FiberEnd) (inner words : List ℕ) → AreFlat ends inner words → IsKeeping mask stored (entries_from 0 ends inner words) stored ends inner words 0 0 0 0
 unfolding outers
 keeping_none mask stored ends inner words flat = record {
   fewer_fibers = omega arith;
@@ -55,7 +56,7 @@ pub record IsNext (ends : List FiberEnd) (inner : List ℕ) (at start outer end 
   pub some : start < end
   pub inside : end ≤ length inner
 
-pub next_fiber : (mask : MaskView) (stored all rest : List Entry) (ends : List FiberEnd) (inner words : List ℕ) (at fibers kept start outer end : ℕ) → IsKeeping mask stored all rest ends inner words at fibers kept start
+pub next_fiber : (mask : MaskTest) (stored all rest : List Entry) (ends : List FiberEnd) (inner words : List ℕ) (at fibers kept start outer end : ℕ) → IsKeeping mask stored all rest ends inner words at fibers kept start
     → at < length ends → get_or ends at (end_at 0 0) ≡ end_at outer end → IsNext ends inner at start outer end
 unfolding Rises last_end
 next_fiber mask stored all rest ends inner words at fibers kept start outer end here within is =
@@ -79,7 +80,7 @@ step_le number true one none = omega arith
 step_le number false one none = omega arith
 
 -- the next fiber's indices rise
-pub next_rises : (mask : MaskView) (stored all rest : List Entry) (ends : List FiberEnd) (inner words : List ℕ) (at fibers kept start outer end : ℕ) → IsKeeping mask stored all rest ends inner words at fibers kept start
+pub next_rises : (mask : MaskTest) (stored all rest : List Entry) (ends : List FiberEnd) (inner words : List ℕ) (at fibers kept start outer end : ℕ) → IsKeeping mask stored all rest ends inner words at fibers kept start
     → IsNext ends inner at start outer end → AllPairs (λ a b. a < b) (take (end - start) (drop start inner))
 next_rises mask stored all rest ends inner words at fibers kept start outer end here next =
     let flat : AreFrom start (end_at outer end ∷ drop (at + 1) ends) (drop start inner) (drop start words) = rw next.first at here.left in
@@ -109,7 +110,7 @@ ends_more ends fibers kept count outer step number room last stepped one none =
           rw (by, other) (take_more_set ends fibers r room)
     ]
 
-pub keeping_more : (mask : MaskView) (stored all rest rest' : List Entry) (ends : List FiberEnd) (inner words : List ℕ) (at fibers kept start outer end count step : ℕ) (mi mw part part_words : List ℕ) (number : Bool → ℕ)
+pub keeping_more : (mask : MaskTest) (stored all rest rest' : List Entry) (ends : List FiberEnd) (inner words : List ℕ) (at fibers kept start outer end count step : ℕ) (mi mw part part_words : List ℕ) (number : Bool → ℕ)
     → IsKeeping mask stored all rest ends inner words at fibers kept start → at < length ends → get_or ends at (end_at 0 0) ≡ end_at outer end
     → ((j : ℕ) → word_at (entries_along outer mi mw) outer j ≡ word_at rest outer j) → ((i j : ℕ) → outer < i → word_at rest' i j ≡ word_at rest i j)
     → count ≤ (end - kept) - (start - kept) → length part ≡ end - kept → length part_words ≡ end - kept
@@ -203,7 +204,7 @@ keeping_more mask stored all rest rest' ends inner words at fibers kept start ou
     }
 
 -- all fibers are done
-pub keeping_all : (mask : MaskView) (stored all rest : List Entry) (ends : List FiberEnd) (inner words : List ℕ) (at fibers kept start : ℕ) → IsKeeping mask stored all rest ends inner words at fibers kept start → length ends ≤ at
+pub keeping_all : (mask : MaskTest) (stored all rest : List Entry) (ends : List FiberEnd) (inner words : List ℕ) (at fibers kept start : ℕ) → IsKeeping mask stored all rest ends inner words at fibers kept start → length ends ≤ at
     → entries_from 0 (take fibers ends) (take kept inner) (take kept words) ≡ kept_by mask stored all
 keeping_all mask stored all rest ends inner words at fibers kept start here over =
     let done : drop at ends ≡ [] = drop_all at ends over in

@@ -8,13 +8,14 @@ use Rattle.std.proofs.lemmas.List.Elements.{All-append, All-cons, All-nil, All-w
 use Rattle.model.specs.Entries.{word_at}
 use Rattle.store.specs.Fibers.{entries_along}
 use Rattle.store.proofs.Order.{all_pairs_tail}
-use Rattle.masks.specs.declared.view.MaskView.{MaskView}
-use Rattle.masks.specs.Keeps.{kept_by, lets_word}
+use Rattle.masks.specs.declared.view.MaskTest.{MaskTest}
+use Rattle.masks.specs.Keeps.{kept_by}
+use Rattle.masks.specs.Masks.{lets_word}
 use Rattle.masks.proofs.Keeps.{IsFirstFrom, keep_more, word_absent, word_found}
 
 -- Of the entries from the place from on those before the place at are done, and so many of them were kept, at the
 -- front; of the store's fiber, mi with the words mw, the indices before next are done.
-pub record IsKept (mask : MaskView) (all_inner all_words : List ℕ) (from : ℕ) (mi mw inner words : List ℕ) (kept at next : ℕ) : Type 0 where
+pub record IsKept (mask : MaskTest) (all_inner all_words : List ℕ) (from : ℕ) (mi mw inner words : List ℕ) (kept at next : ℕ) : Type 0 where
   pub low : kept + from ≤ at
   pub within : at ≤ length inner
   pub inner_long : length inner ≡ length all_inner
@@ -25,7 +26,7 @@ pub record IsKept (mask : MaskView) (all_inner all_words : List ℕ) (from : ℕ
   pub whole : (outer : ℕ) → kept_by mask (entries_along outer mi mw) (entries_along outer (drop from all_inner) (drop from all_words))
       ≡ entries_along outer (take kept inner) (take kept words) ++ kept_by mask (entries_along outer mi mw) (entries_along outer (drop at inner) (drop at words))
 
-pub kept_none : (mask : MaskView) (inner words : List ℕ) (from : ℕ) (mi mw : List ℕ) → from ≤ length inner → length words ≡ length inner → AllPairs (λ a b. a < b) (drop from inner) → IsKept mask inner words from mi mw inner words 0 from 0
+pub kept_none : (mask : MaskTest) (inner words : List ℕ) (from : ℕ) (mi mw : List ℕ) → from ≤ length inner → length words ≡ length inner → AllPairs (λ a b. a < b) (drop from inner) → IsKept mask inner words from mi mw inner words 0 from 0
 kept_none mask inner words from mi mw room same rising = record {
   low = omega arith;
   within = room;
@@ -42,7 +43,7 @@ one_le number true one none = omega arith
 one_le number false one none = omega arith
 
 -- the entry at hand is done, and the mask's indices before next'
-pub one_taken : (mask : MaskView) (all_inner all_words : List ℕ) (from : ℕ) (mi mw inner words : List ℕ) (kept at next next' step : ℕ) (keep : Bool) (number : Bool → ℕ)
+pub one_taken : (mask : MaskTest) (all_inner all_words : List ℕ) (from : ℕ) (mi mw inner words : List ℕ) (kept at next next' step : ℕ) (keep : Bool) (number : Bool → ℕ)
     → IsKept mask all_inner all_words from mi mw inner words kept at next → at < length inner → next' ≤ length mi → All (λ y. y ≤ get_or inner at 0) (take next' mi)
     → ((outer : ℕ) → lets_word mask (word_at (entries_along outer mi mw) outer (get_or inner at 0)) ≡ keep) → step ≡ number keep → number true ≡ 1 → number false ≡ 0
     → IsKept mask all_inner all_words from mi mw (set inner kept (get_or inner at 0)) (set words kept (get_or words at 0)) (kept + step) (at + 1) next'
@@ -88,7 +89,7 @@ there_set xs k at =
     ]
 
 -- an index of the mask's that is below the entry at hand is passed over
-pub one_passed : (mask : MaskView) (all_inner all_words : List ℕ) (from : ℕ) (mi mw inner words : List ℕ) (kept at next : ℕ)
+pub one_passed : (mask : MaskTest) (all_inner all_words : List ℕ) (from : ℕ) (mi mw inner words : List ℕ) (kept at next : ℕ)
     → IsKept mask all_inner all_words from mi mw inner words kept at next → at < length inner → next < length mi → get_or mi next 0 < get_or inner at 0
     → IsKept mask all_inner all_words from mi mw (set inner kept (get_or inner at 0)) (set words kept (get_or words at 0)) kept at (next + 1)
 one_passed mask all_inner all_words from mi mw inner words kept at next here within some less =
@@ -110,7 +111,7 @@ one_passed mask all_inner all_words from mi mw inner words kept at next here wit
     }
 
 -- what the two indices at hand choose
-pub one_step : (mask : MaskView) (all_inner all_words : List ℕ) (from : ℕ) (mi mw inner words : List ℕ) (kept at next step by_at by_next : ℕ) (keep : Bool) (number : Bool → ℕ)
+pub one_step : (mask : MaskTest) (all_inner all_words : List ℕ) (from : ℕ) (mi mw inner words : List ℕ) (kept at next step by_at by_next : ℕ) (keep : Bool) (number : Bool → ℕ)
     → IsKept mask all_inner all_words from mi mw inner words kept at next → length mw ≡ length mi → AllPairs (λ a b. a < b) mi → at < length inner → next < length mi
     → (get_or inner at 0 ≤ get_or mi next 0 → keep ≡ lets_word mask (cond (eqb (get_or inner at 0) (get_or mi next 0)) (Some (get_or mw next 0)) None)) → (get_or mi next 0 < get_or inner at 0 → keep ≡ false)
     → step ≡ number keep → by_at ≡ number (leb (get_or inner at 0) (get_or mi next 0)) → by_next ≡ number (leb (get_or mi next 0) (get_or inner at 0)) → number true ≡ 1 → number false ≡ 0
@@ -154,7 +155,7 @@ no_word_lets true = refl
 no_word_lets false = refl
 
 -- an entry behind all of the mask's
-pub one_behind : (mask : MaskView) (all_inner all_words : List ℕ) (from : ℕ) (mi mw inner words : List ℕ) (kept at next step : ℕ) (number : Bool → ℕ)
+pub one_behind : (mask : MaskTest) (all_inner all_words : List ℕ) (from : ℕ) (mi mw inner words : List ℕ) (kept at next step : ℕ) (number : Bool → ℕ)
     → IsKept mask all_inner all_words from mi mw inner words kept at next → length mw ≡ length mi → AllPairs (λ a b. a < b) mi → at < length inner → length mi ≤ next
     → step ≡ number mask.complement → number true ≡ 1 → number false ≡ 0
     → IsKept mask all_inner all_words from mi mw (set inner kept (get_or inner at 0)) (set words kept (get_or words at 0)) (kept + step) (at + 1) next
@@ -166,7 +167,7 @@ one_behind mask all_inner all_words from mi mw inner words kept at next step num
     (λ outer. rw (word_absent outer x mi mw next same rises first (λ more. absurd (omega arith))) (no_word_lets mask.complement)) stepped one none
 
 -- some of the mask's indices below the entry at hand are passed over
-pub some_passed : (mask : MaskView) (all_inner all_words : List ℕ) (from : ℕ) (mi mw inner words : List ℕ) (kept at next next' : ℕ)
+pub some_passed : (mask : MaskTest) (all_inner all_words : List ℕ) (from : ℕ) (mi mw inner words : List ℕ) (kept at next next' : ℕ)
     → IsKept mask all_inner all_words from mi mw inner words kept at next → next' ≤ length mi
     → (at < length inner → All (λ y. y < get_or inner at 0) (take next mi) → All (λ y. y < get_or inner at 0) (take next' mi))
     → IsKept mask all_inner all_words from mi mw inner words kept at next'
@@ -182,7 +183,7 @@ some_passed mask all_inner all_words from mi mw inner words kept at next next' h
 }
 
 -- all entries are done
-pub kept_all : (mask : MaskView) (all_inner all_words : List ℕ) (from : ℕ) (mi mw inner words : List ℕ) (kept at next : ℕ) → IsKept mask all_inner all_words from mi mw inner words kept at next → length inner ≤ at
+pub kept_all : (mask : MaskTest) (all_inner all_words : List ℕ) (from : ℕ) (mi mw inner words : List ℕ) (kept at next : ℕ) → IsKept mask all_inner all_words from mi mw inner words kept at next → length inner ≤ at
     → (outer : ℕ) → entries_along outer (take kept inner) (take kept words) ≡ kept_by mask (entries_along outer mi mw) (entries_along outer (drop from all_inner) (drop from all_words))
 kept_all mask all_inner all_words from mi mw inner words kept at next here over outer =
     let none = drop_all at inner over in

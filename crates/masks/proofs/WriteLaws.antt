@@ -1,5 +1,5 @@
 -- What is left at a position, case by case.
-use Rattle.std.proofs.Common.{◌≡◌, ℕ, Bool, true, false, not, cond, Option, Some, None, refl}
+use Rattle.std.proofs.Common.{◌≡◌, ℕ, Bool, true, false, not, cond, Option, Some, None, refl, sym}
 use Rattle.std.specs.Option.{option_map}
 use Rattle.algebra.specs.OperatorNames.{op_named}
 use Rattle.algebra.specs.declared.binary.BinaryOp.{BinaryOp}
@@ -55,6 +55,11 @@ beside false others (Some word) t is = rw is refl
 pub accumulated_inside : (op : BinaryOp) (is_in : Bool) (old t : Option ℕ) → join_word (Accumulate op) (cond is_in old None) (cond is_in t None) ≡ written_at (Some (op_named op)) true is_in old t
 accumulated_inside op true old t = joined_accumulated op old t
 accumulated_inside op false old t = refl
+
+-- what is accumulated where it was computed inside the mask set
+pub inside_accumulated : (op : OpName) (is_in : Bool) (old t : Option ℕ) → accumulated op old (cond is_in t None) ≡ written_at (Some op) false is_in old t
+inside_accumulated op true old t = refl
+inside_accumulated op false old t = sym (nothing_accumulated op old)
 
 -- what a complement does with whether a mask has a position
 pub complemented : (complement has : Bool) → cond (not complement) (not has) has ≡ not (cond complement (not has) has)

@@ -2,8 +2,10 @@
 -- they are read.
 use Rattle.std.specs.Prelude.{ℕ, ◌||◌, ◌==◌, not, Bool, true, false, if◌then◌else◌, Option}
 use Rattle.std.specs.Option.{option_map_or}
-use Rattle.masks.specs.declared.view.MaskView.{MaskView}
-use Rattle.store.specs.Stored.{content_of}
+use Rattle.masks.specs.declared.view.Mask.{Mask}
+use Rattle.masks.specs.declared.view.Mask.TheVariants.{By, Everywhere, Nowhere}
+use Rattle.masks.specs.declared.view.MaskTest.{MaskTest}
+use Rattle.store.specs.Stored.{Stored, content_of}
 
 -- whether a mask has a position where this word stands
 abbrev pub counts : Bool → ℕ → Bool
@@ -13,10 +15,18 @@ counts valued word = not valued || not (word == 0)
 abbrev pub has_word : Bool → Option ℕ → Bool
 has_word valued word = option_map_or (counts valued) word false
 
--- whether the store of a mask has a position; without a store, it has each
-abbrev pub has_position : MaskView → ℕ → ℕ → Bool
-has_position mask i j = option_map_or (λ store. has_word mask.valued (content_of store.now i j)) mask.store true
+-- whether a mask that has a store lets a position through, by the word that the store has there
+abbrev pub lets_word : MaskTest → Option ℕ → Bool
+lets_word test word = if test.complement then not (has_word test.valued word) else has_word test.valued word
 
 -- whether a call may write a position
-abbrev pub lets_through : MaskView → ℕ → ℕ → Bool
-lets_through mask i j = if mask.complement then not (has_position mask i j) else has_position mask i j
+abbrev pub lets_through : Mask → ℕ → ℕ → Bool
+lets_through Everywhere i j = true
+lets_through Nowhere i j = false
+lets_through (By mask) i j = lets_word mask.test (content_of mask.store.now i j)
+
+-- something holds of the mask's store, where it has one
+abbrev pub IfStored : Mask → (Stored → Type 0) → Type 0
+IfStored Everywhere P = Unit
+IfStored Nowhere P = Unit
+IfStored (By mask) P = P mask.store.now

@@ -3,7 +3,7 @@ use Rattle.std.specs.Prelude.{ℕ, Bool, if◌then◌else◌, Option, None}
 use Rattle.algebra.specs.declared.operator_names.OpName.{OpName}
 use Rattle.model.specs.Object.{Content}
 use Rattle.model.specs.WriteBack.{accumulated_by}
-use Rattle.masks.specs.declared.view.MaskView.{MaskView}
+use Rattle.masks.specs.declared.view.Mask.{Mask}
 use Rattle.masks.specs.Masks.{lets_through}
 
 -- what is left at a position, by whether the call may write it, what was there, and what was computed
@@ -12,9 +12,9 @@ written_at accum replace is_in old t = if is_in then accumulated_by accum old t 
 
 -- what is left of the output: what was computed stands in the mask set, and outside it what was there, or
 -- nothing (GrB_REPLACE)
-abbrev pub written_by : MaskView → Option OpName → Bool → Content → Content → Content
+abbrev pub written_by : Mask → Option OpName → Bool → Content → Content → Content
 written_by mask accum replace old t = λ i j. written_at accum replace (lets_through mask i j) (old i j) (t i j)
 
 -- what a mask set has of a map
-abbrev pub inside_of : MaskView → Content → Content
+abbrev pub inside_of : Mask → Content → Content
 inside_of mask t = λ i j. if lets_through mask i j then t i j else None

@@ -2,25 +2,29 @@
 ghost use Rattle.std.specs.Prelude.{◌≡◌, ℕ, ◌<◌, ◌≤◌, if◌then◌else◌, None, IfOk};
 ghost use Rattle.store.specs.Stored.{block_content, content_of};
 ghost use Rattle.masks.specs.Joins.{alone_of, joined};
-ghost use Rattle.masks.specs.Keeps.{lets_word};
+ghost use Rattle.masks.specs.Masks.{lets_word};
 
 use crate::keep::keep_entries;
-use crate::{Joining, MaskView, join_rows};
+use crate::{Joining, StoredMask, join_rows};
 use model::NoMemory;
 use std::alloc::Global;
 use store::{RowBlock, Store};
 
-/// What a mask keeps of a block, in its memory. The mask's store is `stored`.
-pub(crate) fn keep_block(block: RowBlock, mask: &MaskView<'_>, stored: &Store) -> RowBlock
-    requires { block.cols ≡ stored.now.cols }
+/// What a mask keeps of a block, in its memory.
+pub(crate) fn keep_block(block: RowBlock, mask: StoredMask<'_>) -> RowBlock
+    requires { block.cols ≡ mask.store.now.cols }
     ensures first { result.first ≡ block.first }
     ensures past { result.past ≡ block.past }
     ensures cols { result.cols ≡ block.cols }
     ensures words { (i j : ℕ) → block.first ≤ i → i < block.past → block_content result i j
-        ≡ (if lets_word mask.now (content_of stored.now i j) then block_content block i j else None) }
+        ≡ (if lets_word mask.entry.test (content_of mask.entry.store.now i j) then block_content block i j else None) }
 {
     let (first, past, cols) = (block.first(), block.past(), block.cols());
-    let lists = keep_entries(block.into_lists(), mask, stored.fibers_in(first..past));
+    let lists = keep_entries(
+        block.into_lists(),
+        mask.test,
+        mask.store.fibers_in(first..past),
+    );
     RowBlock::of_fibers(first, past, cols, lists)
 }
 

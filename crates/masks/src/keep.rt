@@ -4,26 +4,23 @@ ghost use Rattle.std.specs.Prelude.{length, take, drop, slice_index};
 ghost use Rattle.std.specs.List.{All, AllPairs};
 ghost use Rattle.model.specs.Entries.{word_at};
 ghost use Rattle.store.specs.Fibers.{AreFlat, entries_along, entries_from, entries_in};
-ghost use Rattle.masks.specs.Keeps.{kept_by, lets_word};
+ghost use Rattle.masks.specs.Keeps.{kept_by};
+ghost use Rattle.masks.specs.Masks.{lets_word};
 
-use crate::MaskView;
+use crate::MaskTest;
 use store::{FiberEnd, FiberLists, Fibers};
 
 /// What the mask keeps of the entries of lists. The fibers of the mask's store are `stored`.
-pub(crate) fn keep_entries(
-    mut lists: FiberLists,
-    mask: &MaskView<'_>,
-    stored: Fibers<'_>,
-) -> FiberLists
+pub(crate) fn keep_entries(mut lists: FiberLists, test: MaskTest, stored: Fibers<'_>) -> FiberLists
     requires { AreFlat lists.ends.items lists.inner.items lists.words.items }
     ensures flat { AreFlat result.ends.items result.inner.items result.words.items }
-    ensures entries { entries_in result ≡ kept_by mask.now stored.entry.entries (entries_in lists) }
+    ensures entries { entries_in result ≡ kept_by test stored.entry.entries (entries_in lists) }
 {
     let (fibers, kept) = keep_fibers(
         &mut lists.ends,
         &mut lists.inner,
         &mut lists.words,
-        mask,
+        test,
         stored,
     );
     lists.ends.truncate(fibers);
@@ -37,7 +34,7 @@ fn keep_fibers(
     ends: &mut [FiberEnd],
     inner: &mut [u64],
     words: &mut [u64],
-    mask: &MaskView<'_>,
+    test: MaskTest,
     stored: Fibers<'_>,
 ) -> (usize, usize)
     requires { AreFlat ends.old inner.old words.old }
@@ -46,7 +43,7 @@ fn keep_fibers(
     ensures words_length { length words.new ≡ length words.old }
     ensures flat { AreFlat (take result.0 ends.new) (take result.1 inner.new) (take result.1 words.new) }
     ensures entries { entries_from 0 (take result.0 ends.new) (take result.1 inner.new) (take result.1 words.new)
-        ≡ kept_by mask.now stored.entry.entries (entries_from 0 ends.old inner.old words.old) }
+        ≡ kept_by test stored.entry.entries (entries_from 0 ends.old inner.old words.old) }
 {
     let mut rest = stored;
     let mut fibers = 0;
@@ -60,7 +57,7 @@ fn keep_fibers(
             &mut inner[kept..end],
             &mut words[kept..end],
             start - kept,
-            mask,
+            test,
             stored_inner,
             stored_words,
         );
@@ -101,7 +98,7 @@ pub fn keep_fiber(
     inner: &mut [u64],
     words: &mut [u64],
     from: usize,
-    mask: &MaskView<'_>,
+    test: MaskTest,
     stored_inner: &[u64],
     stored_words: &[u64],
 ) -> usize
@@ -114,7 +111,7 @@ pub fn keep_fiber(
     ensures inner_length { length inner.new ≡ length inner.old }
     ensures words_length { length words.new ≡ length words.old }
     ensures kept { (outer : ℕ) → entries_along outer (take result inner.new) (take result words.new)
-        ≡ kept_by mask.now (entries_along outer stored_inner.now stored_words.now)
+        ≡ kept_by test (entries_along outer stored_inner.now stored_words.now)
         (entries_along outer (drop from inner.old) (drop from words.old)) }
 {
     let looks_up = stored_inner.len() / MUCH_LONGER > inner.len() - from;
@@ -123,7 +120,7 @@ pub fn keep_fiber(
     let mut next = 0;
     while at < inner.len() && next < stored_inner.len() {
         let (index, other) = (inner[at], stored_inner[next]);
-        let is_kept = keeps(mask, index, other, stored_words[next]);
+        let is_kept = keeps(test, index, other, stored_words[next]);
         inner[kept] = index;
         words[kept] = words[at];
         kept += usize::from(is_kept);
@@ -134,7 +131,7 @@ pub fn keep_fiber(
     while at < inner.len() {
         inner[kept] = inner[at];
         words[kept] = words[at];
-        kept += usize::from(mask.complement);
+        kept += usize::from(test.complement);
         at += 1;
     }
     kept
@@ -173,11 +170,11 @@ pub(crate) fn place_from(inner: &[u64], from: usize, index: u64) -> usize
 /// Whether the mask keeps an index, where `other` is the first in a fiber of its store that isn't below it,
 /// and has this word. An index behind `other` isn't kept yet.
 #[inline(always)]
-fn keeps(mask: &MaskView<'_>, index: u64, other: u64, word: u64) -> bool
-    ensures kept { index ≤ other → result ≡ lets_word mask.now (if index == other then Some word else None) }
+fn keeps(test: MaskTest, index: u64, other: u64, word: u64) -> bool
+    ensures kept { index ≤ other → result ≡ lets_word test (if index == other then Some word else None) }
     ensures passed { other < index → result ≡ false }
 {
     // Without a branch: whether two indices meet can't be foreseen.
-    let is_stored = (index == other) & mask.counts(word);
-    (index <= other) & (is_stored != mask.complement)
+    let is_stored = (index == other) & test.counts(word);
+    (index <= other) & (is_stored != test.complement)
 }

@@ -16,5 +16,5 @@ mod write;
 pub use alike::{are_alike, join_alike};
 pub use join::{Joining, join_rows};
 pub use keep::keep_fiber;
-pub use view::MaskView;
+pub use view::{Mask, MaskTest, StoredMask};
 pub use write::write_back;

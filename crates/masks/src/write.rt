@@ -1,15 +1,15 @@
 //! The write-back: what a call leaves in its output.
-ghost use Rattle.std.specs.Prelude.{◌≡◌, ℕ, ◌<◌, ◌≤◌, if◌then◌else◌, Bool, Option, IfOk, IfSome, None, true, false};
+ghost use Rattle.std.specs.Prelude.{◌≡◌, ℕ, ◌<◌, ◌≤◌, if◌then◌else◌, Bool, Option, IfOk, None, true, false};
 ghost use Rattle.std.specs.Option.{option_map};
 ghost use Rattle.algebra.specs.OperatorNames.{op_named};
 ghost use Rattle.algebra.specs.declared.operator_names.OpName.{OpName};
 ghost use Rattle.model.specs.WriteBack.{accumulated};
 ghost use Rattle.store.specs.Stored.{block_content, content_of};
-ghost use Rattle.masks.specs.Keeps.{lets_word};
+ghost use Rattle.masks.specs.Masks.{IfStored, lets_word};
 ghost use Rattle.masks.specs.Writes.{written_at, written_by};
 
 use crate::blocks::{join_blocks, keep_block};
-use crate::{Joining, MaskView, join_rows};
+use crate::{Joining, Mask, StoredMask, join_rows};
 use algebra::BinaryOp;
 use model::NoMemory;
 use std::alloc::Global;
@@ -25,22 +25,22 @@ pub fn write_back(
     alloc: Global,
     old: &Store,
     t: RowBlock,
-    mask: MaskView<'_>,
+    mask: Mask<'_>,
     accum: Option<BinaryOp>,
     replace: bool,
 ) -> Result<RowBlock, NoMemory>
     requires cols { t.cols ≡ old.now.cols }
-    requires mask { IfSome mask.store (λ store. store.now.cols ≡ old.now.cols) }
+    requires mask { IfStored mask (λ store. store.cols ≡ old.now.cols) }
     ensures first { IfOk result (λ block. block.first ≡ t.first) }
     ensures past { IfOk result (λ block. block.past ≡ t.past) }
     ensures cols { IfOk result (λ block. block.cols ≡ t.cols) }
     ensures words { IfOk result (λ block. (i j : ℕ) → t.first ≤ i → i < t.past → block_content block i j
         ≡ written_by mask.entry (option_map op_named accum) replace (content_of old.now) (block_content t) i j) }
 {
-    match mask.store {
-        Some(stored) => write_under(alloc, old, t, &mask, stored, accum, replace),
-        None if mask.complement => write_nowhere(alloc, old, t, replace),
-        None => write_all(alloc, old, t, accum),
+    match mask {
+        Mask::Everywhere => write_all(alloc, old, t, accum),
+        Mask::Nowhere => write_nowhere(alloc, old, t, replace),
+        Mask::By(mask) => write_under(alloc, old, t, mask, accum, replace),
     }
 }
 
@@ -87,38 +87,33 @@ fn write_nowhere(
     }
 }
 
-/// The positions are written that a mask with the store `stored` lets through.
+/// The positions are written that a store lets through.
 fn write_under(
     alloc: Global,
     old: &Store,
     t: RowBlock,
-    mask: &MaskView<'_>,
-    stored: &Store,
+    mask: StoredMask<'_>,
     accum: Option<BinaryOp>,
     replace: bool,
 ) -> Result<RowBlock, NoMemory>
     requires cols { t.cols ≡ old.now.cols }
-    requires mask { stored.now.cols ≡ old.now.cols }
+    requires mask { mask.store.now.cols ≡ old.now.cols }
     ensures first { IfOk result (λ block. block.first ≡ t.first) }
     ensures past { IfOk result (λ block. block.past ≡ t.past) }
     ensures cols { IfOk result (λ block. block.cols ≡ t.cols) }
     ensures words { IfOk result (λ block. (i j : ℕ) → t.first ≤ i → i < t.past → block_content block i j
-        ≡ written_at (option_map op_named accum) replace (lets_word mask.now (content_of stored.now i j))
+        ≡ written_at (option_map op_named accum) replace (lets_word mask.entry.test (content_of mask.entry.store.now i j))
         (content_of old.now i j) (block_content t i j)) }
 {
-    let inside = keep_block(t, mask, stored);
+    let inside = keep_block(t, mask);
     match (accum, replace) {
         (None, true) => Ok(inside),
         (None, false) => {
-            let others = MaskView {
-                complement: !mask.complement,
-                ..*mask
-            };
-            let rest = old_rows(alloc, old, &inside, &others, stored)?;
+            let rest = old_rows(alloc, old, &inside, mask.complement())?;
             join_blocks(alloc, rest, inside, Joining::Right)
         }
         (Some(op), true) => {
-            let kept = old_rows(alloc, old, &inside, mask, stored)?;
+            let kept = old_rows(alloc, old, &inside, mask)?;
             join_blocks(alloc, kept, inside, Joining::Accumulate(op))
         }
         (Some(op), false) => accumulate(alloc, old, inside, op),
@@ -130,18 +125,17 @@ fn old_rows(
     alloc: Global,
     old: &Store,
     block: &RowBlock,
-    mask: &MaskView<'_>,
-    stored: &Store,
+    mask: StoredMask<'_>,
 ) -> Result<RowBlock, NoMemory>
-    requires { stored.now.cols ≡ old.now.cols }
+    requires { mask.store.now.cols ≡ old.now.cols }
     ensures first { IfOk result (λ rows. rows.first ≡ block.now.first) }
     ensures past { IfOk result (λ rows. rows.past ≡ block.now.past) }
     ensures cols { IfOk result (λ rows. rows.cols ≡ old.now.cols) }
     ensures words { IfOk result (λ rows. (i j : ℕ) → block.now.first ≤ i → i < block.now.past → block_content rows i j
-        ≡ (if lets_word mask.now (content_of stored.now i j) then content_of old.now i j else None)) }
+        ≡ (if lets_word mask.entry.test (content_of mask.entry.store.now i j) then content_of old.now i j else None)) }
 {
     let rows = old.copy_rows(alloc, block.first()..block.past())?;
-    Ok(keep_block(rows, mask, stored))
+    Ok(keep_block(rows, mask))
 }
 
 /// Accumulates what was computed into what was there, at every position.

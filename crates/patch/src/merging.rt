@@ -7,7 +7,7 @@ ghost use Rattle.patch.specs.Runs.{IsNotBehind};
 
 use crate::Edit;
 use crate::runs::block_of_sorted;
-use masks::{MaskView, write_back};
+use masks::{Mask, MaskTest, StoredMask, write_back};
 use model::{Entry, NoMemory};
 use std::alloc::Global;
 use store::Store;
@@ -25,17 +25,21 @@ pub(crate) fn merge(alloc: Global, store: &Store, edits: &[Edit]) -> Result<Stor
     let words = block_of_sorted(alloc, set_entries(alloc, edits)?, None, 0..rows, cols)?;
     let removals = block_of_sorted(alloc, removal_entries(alloc, edits)?, None, 0..rows, cols)?;
     let removals = Store::from_block(rows, removals);
-    let is_set = MaskView {
-        store: Some(&removals),
-        valued: true,
-        complement: true,
-    };
+    let is_set = Mask::By(StoredMask {
+        store: &removals,
+        test: MaskTest {
+            valued: true,
+            complement: true,
+        },
+    });
     let kept = write_back(alloc, store, words, is_set, None, true)?;
-    let is_edited = MaskView {
-        store: Some(&removals),
-        valued: false,
-        complement: false,
-    };
+    let is_edited = Mask::By(StoredMask {
+        store: &removals,
+        test: MaskTest {
+            valued: false,
+            complement: false,
+        },
+    });
     let block = write_back(alloc, store, kept, is_edited, None, false)?;
     Ok(Store::from_block(rows, block))
 }

@@ -4,7 +4,8 @@ use Rattle.algebra.specs.declared.semiring.Semiring.{Semiring}
 use Rattle.model.specs.declared.entry.Entry.{Entry}
 use Rattle.model.specs.declared.memory.NoMemory.{NoMemory}
 use Rattle.store.specs.declared.lists.FiberLists.{FiberLists}
-use Rattle.store.specs.Stored.{Stored}
+use Rattle.store.specs.Stored.{Block, Stored}
+use Rattle.spgemm.specs.Columns.{IsColumnBlock}
 use Rattle.spgemm.specs.Dense.{AreColumnSums, AreMarkedSums}
 use Rattle.spgemm.specs.Slots.{AreSlotSums}
 use Rattle.spgemm.specs.Products.{HasSums}
@@ -59,3 +60,13 @@ same_marked_sums own semiring row b marks words here name kind domain multiply_k
       sums_are = λ col within. here.sums_are col within ∙ rw (kind, domain, terms) refl;
       others_are = λ col within none. here.others_are col within none ∙ rw (name, domain) refl;
     }
+
+pub same_column : (r : Result Block NoMemory) (own semiring : Semiring) (keeps : ℕ → Bool) (first past : ℕ) (a u : Stored) → IfOk r (IsColumnBlock own keeps first past a u)
+    → own.add.kind ≡ semiring.add.kind → own.multiply.kind ≡ semiring.multiply.kind → own.multiply.domain ≡ semiring.multiply.domain → IfOk r (IsColumnBlock semiring keeps first past a u)
+same_column (Err e) own semiring keeps first past a u here name kind domain = tt
+same_column (Ok block) own semiring keeps first past a u here name kind domain = record {
+  first_is = here.first_is;
+  past_is = here.past_is;
+  cols = here.cols;
+  words = λ i j low high. here.words i j low high ∙ rw (name, kind, domain) refl;
+}

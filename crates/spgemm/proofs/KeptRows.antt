@@ -8,8 +8,9 @@ use Rattle.std.proofs.lemmas.List.{drop_all, get_or-take, take-append-drop, take
 use Rattle.std.proofs.lemmas.List.Elements.{All-cons, All-contains, All-contains_itself, All-head, All-map, All-nil, All-tail, All-weaker, filter-append}
 use Rattle.std.proofs.Math.Seq.{drop-append_seam, take-append_seam}
 use Rattle.algebra.specs.declared.binary.BinaryOp.{BinaryOp}
-use Rattle.masks.specs.declared.view.MaskView.{MaskView}
-use Rattle.masks.specs.Keeps.{kept_by, lets_word}
+use Rattle.masks.specs.declared.view.MaskTest.{MaskTest}
+use Rattle.masks.specs.Keeps.{kept_by}
+use Rattle.masks.specs.Masks.{lets_word}
 use Rattle.masks.proofs.BlockLaws.{filtered_words}
 use Rattle.masks.proofs.Keeps.{along_append}
 use Rattle.model.specs.declared.entry.Entry.{Entry}
@@ -182,12 +183,12 @@ open_inside op index width terms old new below here =
     (All-weaker (λ col. Contains (map at terms) col) P (λ col p. All-contains P (map at terms) col (All-map P at terms below) p) here.cols here.sums.columns)
 
 -- what a mask keeps of a part of a row of sums
-pub kept_open : (op : BinaryOp) (index : ℕ) (mask : MaskView) (first past : ℕ) (cols words : List ℕ) (low high : ℕ) (terms : List Term) (old mid new : FiberLists) → length old.words.items ≡ length old.inner.items
-    → HasOpenRow op index terms old mid → IsPart first past (drop (length old.inner.items) mid.inner.items) low high → HasKept mask cols words (length old.inner.items) low high mid new
-    → HasOpenRow op index (kept_terms (keeps_among mask first past (entries_along index cols words) index) terms) old new
-kept_open op index mask first past cols words low high terms old mid new same here part kept =
+pub kept_open : (op : BinaryOp) (index : ℕ) (test : MaskTest) (first past : ℕ) (cols words : List ℕ) (low high : ℕ) (terms : List Term) (old mid new : FiberLists) → length old.words.items ≡ length old.inner.items
+    → HasOpenRow op index terms old mid → IsPart first past (drop (length old.inner.items) mid.inner.items) low high → HasKept test cols words (length old.inner.items) low high mid new
+    → HasOpenRow op index (kept_terms (keeps_among test first past (entries_along index cols words) index) terms) old new
+kept_open op index test first past cols words low high terms old mid new same here part kept =
     let start = length old.inner.items in
-    let keeps = keeps_among mask first past (entries_along index cols words) index in
+    let keeps = keeps_among test first past (entries_along index cols words) index in
     let stored = entries_along index cols words in
     let tail : drop start mid.inner.items ≡ here.cols = tail_is op index terms old mid here in
     let tail_words : drop start mid.words.items ≡ here.added = ap (drop start) here.words ∙ ap (λ n. drop n (old.words.items ++ here.added)) (sym same) ∙ drop-append_seam old.words.items here.added in
@@ -196,9 +197,9 @@ kept_open op index mask first past cols words low high terms old mid new same he
     let es = entries_along index here.cols here.added in
     let in_part : entries_along index (drop low (take high here.cols)) (drop low (take high here.added)) ≡ filter (λ e. in_range first past e.col) es = part_entries first past index here.cols here.added low high here.sums.lengths (rw tail at part) in
     let entries : entries_along index kept.kept kept.kept_words ≡ filter (λ e. keeps e.col) es =
-    (rw (tail, tail_words) at (kept.entries index)) ∙ ap (kept_by mask stored) in_part
-    ∙ filter_twice (λ (e : Entry). lets_word mask (word_at stored e.row e.col)) (λ (e : Entry). in_range first past e.col) (λ (e : Entry). keeps e.col) es
-    (All-weaker (λ e. e.row ≡ index) (λ e. (in_range first past e.col && lets_word mask (word_at stored e.row e.col)) ≡ keeps e.col) (λ e at. rw at refl) es (all_rows index here.cols here.added)) in
+    (rw (tail, tail_words) at (kept.entries index)) ∙ ap (kept_by test stored) in_part
+    ∙ filter_twice (λ (e : Entry). lets_word test (word_at stored e.row e.col)) (λ (e : Entry). in_range first past e.col) (λ (e : Entry). keeps e.col) es
+    (All-weaker (λ e. e.row ≡ index) (λ e. (in_range first past e.col && lets_word test (word_at stored e.row e.col)) ≡ keeps e.col) (λ e at. rw at refl) es (all_rows index here.cols here.added)) in
     record {
       cols = kept.kept;
       added = kept.kept_words;

@@ -1,14 +1,15 @@
 -- The columns that a mask has as slots, and the row of the sums at them.
-use Rattle.std.proofs.Common.{◌≡◌, ◌≢◌, ℕ, zero, suc, ◌+◌, ◌-◌, ◌<◌, ◌≤◌, true, false, cond, ◌&&◌, ◌||◌, eqb, leb, ltb, Bool, List, [], ◌∷◌, ◌++◌, length, get_or, map, Option, Some, None, Result, Ok, Err, OnOk, Vec, refl, sym, ◌∙◌, ap, subst, add-one, inl, inr, arith}
+use Rattle.std.proofs.Common.{◌≡◌, ◌≢◌, ℕ, zero, suc, ◌+◌, ◌<◌, ◌≤◌, true, false, cond, ◌&&◌, ◌||◌, eqb, leb, ltb, Bool, List, [], ◌∷◌, ◌++◌, length, get_or, map, Option, Some, None, Result, Ok, Err, OnOk, Vec, refl, sym, ◌∙◌, ap, subst, add-one, inl, inr, arith}
 use Rattle.std.specs.Option.{is_some, option_map, option_to_list}
 use Rattle.std.specs.List.{All, AllPairs, Contains, cons_option, filter, filter_map}
 use Rattle.std.proofs.lemmas.Bool.{cases_Bool, cases_eq, eq-eqb, ne_eqb}
 use Rattle.std.proofs.lemmas.Bool.Decides.{nat_tests}
 use Rattle.std.proofs.lemmas.List.{append-nil, length-map}
-use Rattle.std.proofs.lemmas.List.Elements.{All-nil, All-cons, All-head, All-tail, All-weaker, All-map, Contains-append_right}
+use Rattle.std.proofs.lemmas.List.Elements.{All-nil, All-cons, All-contains, All-contains_itself, All-head, All-tail, All-weaker, All-map, Contains-append_right, filter_agree}
 use Rattle.std.proofs.lemmas.List.Folds.{list_any_none}
 use Rattle.algebra.specs.declared.binary.BinaryOp.{BinaryOp}
-use Rattle.masks.specs.declared.view.MaskView.{MaskView}
+use Rattle.masks.specs.declared.view.MaskTest.{MaskTest}
+use Rattle.masks.specs.declared.view.StoredMask.{StoredMask}
 use Rattle.masks.specs.Masks.{counts, has_word}
 use Rattle.model.specs.declared.entry.Entry.{Entry}
 use Rattle.model.specs.Entries.{InOrder, below, count_from, entry_at, row_entries, word_at}
@@ -18,16 +19,17 @@ use Rattle.store.specs.declared.lists.FiberLists.{FiberLists}
 use Rattle.store.specs.Fibers.{entries_along}
 use Rattle.store.specs.Stored.{Stored, content_of}
 use Rattle.store.proofs.CloseLaws.{closed}
+use Rattle.store.proofs.FlatLaws.{all_cols}
 use Rattle.store.proofs.Order.{all_pairs_cons, all_pairs_filter, all_pairs_head, all_pairs_map, all_pairs_nil, all_pairs_tail}
 use Rattle.store.proofs.RowWords.{columns_rise, word_at-row_entries}
 use Rattle.store.proofs.Walks.{cols_rise}
 use Rattle.spgemm.specs.declared.term.Term.{Term}
 use Rattle.spgemm.specs.Keeping.{keeps_among}
-use Rattle.spgemm.specs.Products.{HasRow, IsSumRow}
-use Rattle.spgemm.specs.Slots.{AreSlots, AreSlotSums, IsSlotOf, counted, has_in_column, has_in_row, is_slot, lets_by, present}
+use Rattle.spgemm.specs.Products.{HasRow, IsSumRow, lets_by}
+use Rattle.spgemm.specs.Slots.{AreSlots, AreSlotSums, IsSlotOf, counted, is_slot, present}
 use Rattle.spgemm.specs.Terms.{kept_terms, sum_at, term_at, words_at}
-use Rattle.spgemm.specs.Vectors.{entries_of_column}
-use Rattle.spgemm.proofs.Kept.{sum_kept}
+use Rattle.spgemm.specs.Vectors.{in_range}
+use Rattle.spgemm.proofs.Kept.{kept_all, sum_kept}
 use Rattle.spgemm.proofs.Rows.{side_by_side_words}
 
 -- ---- numbers in a row
@@ -95,52 +97,6 @@ slots_from test keeps first n is = record {
   once = λ col. one_number test col first n ∙ ap (λ b. cond b (col ∷ []) []) (is col);
 }
 
-counted_columns : (valued : Bool) (i : ℕ) (c : ℕ → Option ℕ) (ks : List ℕ) → counted valued (filter_map (λ k. option_map (entry_at i k) (c k)) ks) ≡ filter (λ k. has_word valued (c k)) ks
-counted_columns valued i c [] = refl
-counted_columns valued i c (k ∷ ks) =
-    let rest = counted_columns valued i c ks in
-    elim (c k) as (λ o. counted valued (cons_option (option_map (entry_at i k) o) (filter_map (λ k. option_map (entry_at i k) (c k)) ks)) ≡ cond (has_word valued o) (k ∷ filter (λ k. has_word valued (c k)) ks) (filter (λ k. has_word valued (c k)) ks)) [
-      | None ↦ rest
-      | Some w ↦ elim (counts valued w) as (λ b. map (λ (e : Entry). e.col) (cond b (entry_at i k w ∷ filter (λ (e : Entry). counts valued e.word) (filter_map (λ k. option_map (entry_at i k) (c k)) ks)) (filter (λ (e : Entry). counts valued e.word) (filter_map (λ k. option_map (entry_at i k) (c k)) ks))) ≡ cond b (k ∷ filter (λ k. has_word valued (c k)) ks) (filter (λ k. has_word valued (c k)) ks)) [
-        | true ↦ ap (λ ks. k ∷ ks) rest
-        | false ↦ rest
-      ]
-    ]
-
--- the row's own index does not matter
-counted_any : (valued : Bool) (i : ℕ) (cols words : List ℕ) → counted valued (entries_along i cols words) ≡ counted valued (entries_along 0 cols words)
-counted_any valued i [] words = refl
-counted_any valued i (col ∷ cols) [] = refl
-counted_any valued i (col ∷ cols) (word ∷ words) =
-    elim (counts valued word) as (λ b. map (λ (e : Entry). e.col) (cond b (entry_at i col word ∷ filter (λ (e : Entry). counts valued e.word) (entries_along i cols words)) (filter (λ (e : Entry). counts valued e.word) (entries_along i cols words)))
-    ≡ map (λ (e : Entry). e.col) (cond b (entry_at 0 col word ∷ filter (λ (e : Entry). counts valued e.word) (entries_along 0 cols words)) (filter (λ (e : Entry). counts valued e.word) (entries_along 0 cols words)))) [
-      | true ↦ ap (λ ks. col ∷ ks) (counted_any valued i cols words)
-      | false ↦ counted_any valued i cols words
-    ]
-
-pub row_slots : (valued : Bool) (store : Stored) (i : ℕ) (cols words : List ℕ) → entries_along i cols words ≡ row_entries store.cols (content_of store) i → AreSlots (has_in_row valued store i) (counted valued (entries_along 0 cols words))
-row_slots valued store i cols words is =
-    let test : ℕ → Bool = λ col. has_word valued (content_of store i col) in
-    let are : counted valued (entries_along 0 cols words) ≡ filter test (below store.cols) = sym (counted_any valued i cols words) ∙ ap (counted valued) is ∙ counted_columns valued i (content_of store i) (below store.cols) in
-    subst (AreSlots (has_in_row valued store i)) (sym are) (slots_from test (has_in_row valued store i) 0 store.cols (λ col. let same : (leb 0 col && ltb col (0 + store.cols)) ≡ ltb col store.cols = grind (arith, nat_tests) in ap (λ b. b && test col) same))
-
-pub column_slots : (valued : Bool) (store : Stored) (first past : ℕ) (rows words : List ℕ) → first ≤ past → entries_along 0 rows words ≡ entries_of_column (content_of store) first past → AreSlots (has_in_column valued store first past) (counted valued (entries_along 0 rows words))
-column_slots valued store first past rows words le is =
-    let test : ℕ → Bool = λ row. has_word valued (content_of store row 0) in
-    let are : counted valued (entries_along 0 rows words) ≡ filter test (count_from first (past - first)) = ap (counted valued) is ∙ counted_columns valued 0 (λ row. content_of store row 0) (count_from first (past - first)) in
-    let end : first + (past - first) ≡ past = omega arith in
-    subst (AreSlots (has_in_column valued store first past)) (sym are) (slots_from test (has_in_column valued store first past) first (past - first) (λ row. rw end refl))
-
-pub ok_slots : (r : Result (Unit {0}) NoMemory) (keeps : ℕ → Bool) (xs ys : List ℕ) → OnOk r (xs ≡ ys) → AreSlots keeps ys → OnOk r (AreSlots keeps xs)
-ok_slots (Err e) keeps xs ys same are = tt
-ok_slots (Ok u) keeps xs ys same are = subst (AreSlots keeps) (sym same) are
-
-pub row_held : (valued : Bool) (store : Stored) (i : ℕ) (cols words slots : List ℕ) → entries_along i cols words ≡ row_entries store.cols (content_of store) i → slots ≡ counted valued (entries_along 0 cols words) → AreSlots (has_in_row valued store i) slots
-row_held valued store i cols words slots is held = subst (AreSlots (has_in_row valued store i)) (sym held) (row_slots valued store i cols words is)
-
-pub column_held : (valued : Bool) (store : Stored) (first past : ℕ) (rows words slots : List ℕ) → first ≤ past → entries_along 0 rows words ≡ entries_of_column (content_of store) first past → slots ≡ counted valued (entries_along 0 rows words) → AreSlots (has_in_column valued store first past) slots
-column_held valued store first past rows words slots le is held = subst (AreSlots (has_in_column valued store first past)) (sym held) (column_slots valued store first past rows words le is)
-
 -- ---- whether a column is a slot
 
 any_none : (col : ℕ) (slots : List ℕ) → All (λ slot. slot ≢ col) slots → is_slot slots col ≡ false
@@ -166,12 +122,12 @@ filter_not_any col (s ∷ slots) h =
       | inr away ↦ let rest : is_slot slots col ≡ false = rw (ne_eqb s col away) at h in rw (ne_eqb s col away) (filter_not_any col slots rest)
     ]
 
-any_not_filter : (col : ℕ) (slots : List ℕ) → filter (λ slot. eqb slot col) slots ≡ [] → is_slot slots col ≡ false
-any_not_filter col [] h = refl
-any_not_filter col (s ∷ slots) h =
+none_filtered : (col : ℕ) (slots : List ℕ) → filter (λ slot. eqb slot col) slots ≡ [] → All (λ slot. slot ≢ col) slots
+none_filtered col [] h = All-nil (λ slot. slot ≢ col)
+none_filtered col (s ∷ slots) h =
     elim (cases_eq s col) [
-      | inl here ↦ let some : s ∷ filter (λ slot. eqb slot col) slots ≡ [] = rw (eq-eqb s col here) at h in cc
-      | inr away ↦ let rest : filter (λ slot. eqb slot col) slots ≡ [] = rw (ne_eqb s col away) at h in rw (ne_eqb s col away) (any_not_filter col slots rest)
+      | inl here ↦ let some : s ∷ filter (λ slot. eqb slot col) slots ≡ [] = rw (eq-eqb s col here) at h in absurd cc
+      | inr away ↦ let rest : filter (λ slot. eqb slot col) slots ≡ [] = rw (ne_eqb s col away) at h in All-cons (λ slot. slot ≢ col) s slots away (none_filtered col slots rest)
     ]
 
 pub slot_kept : (keeps : ℕ → Bool) (slots : List ℕ) (col : ℕ) → AreSlots keeps slots → is_slot slots col ≡ keeps col
@@ -188,8 +144,100 @@ slot_kept keeps slots col are =
           ]
       | inr without ↦
           let none : filter (λ slot. eqb slot col) slots ≡ [] = rw without at once in
-          any_not_filter col slots none ∙ sym without
+          any_none col slots (none_filtered col slots none) ∙ sym without
     ]
+
+-- ---- the columns of a mask's row
+
+-- a row has no word at a column before its own
+none_before : (row col : ℕ) (cols words : List ℕ) → All (λ c. col < c) cols → word_at (entries_along row cols words) row col ≡ None
+unfolding word_at
+none_before row col [] words h = refl
+none_before row col (c ∷ cols) [] h = refl
+none_before row col (c ∷ cols) (w ∷ words) h =
+    let before = All-head (λ c. col < c) c cols h in
+    rw (eq-eqb row row refl, ne_eqb col c (λ same. absurd (omega (arith, before, same)))) (none_before row col cols words (All-tail (λ c. col < c) c cols h))
+
+counted_once : (valued : Bool) (row col : ℕ) (cols words : List ℕ) → AllPairs (λ p q. p < q) cols
+    → filter (λ slot. eqb slot col) (counted valued (entries_along 0 cols words)) ≡ cond (has_word valued (word_at (entries_along row cols words) row col)) (col ∷ []) []
+unfolding word_at
+counted_once valued row col [] words rising = refl
+counted_once valued row col (c ∷ cols) [] rising = refl
+counted_once valued row col (c ∷ cols) (w ∷ words) rising =
+    let others = filter (λ slot. eqb slot col) (counted valued (entries_along 0 cols words)) in
+    let rest = counted_once valued row col cols words (all_pairs_tail (λ p q. p < q) c cols rising) in
+    elim (cases_eq c col) [
+      | inl here ↦
+          let none = none_before row col cols words (subst (λ c. All (λ x. c < x) cols) here (all_pairs_head (λ p q. p < q) c cols rising)) in
+          let empty : others ≡ [] = rw none at rest in
+          elim (cases_Bool (counts valued w)) [
+            | inl with_it ↦ rw (eq-eqb row row refl, eq-eqb col c (sym here), with_it, eq-eqb c col here, empty) (ap (λ k. k ∷ []) here)
+            | inr without ↦ rw (eq-eqb row row refl, eq-eqb col c (sym here), without) empty
+          ]
+      | inr away ↦
+          elim (cases_Bool (counts valued w)) [
+            | inl with_it ↦ rw (eq-eqb row row refl, ne_eqb col c (λ same. away (sym same)), with_it, ne_eqb c col away) rest
+            | inr without ↦ rw (eq-eqb row row refl, ne_eqb col c (λ same. away (sym same)), without) rest
+          ]
+    ]
+
+along_rise : (row : ℕ) (cols words : List ℕ) → AllPairs (λ p q. p < q) cols → AllPairs (λ (e f : Entry). e.col < f.col) (entries_along row cols words)
+along_rise row [] words rising = all_pairs_nil (λ (e f : Entry). e.col < f.col)
+along_rise row (c ∷ cols) [] rising = all_pairs_nil (λ (e f : Entry). e.col < f.col)
+along_rise row (c ∷ cols) (w ∷ words) rising =
+    all_pairs_cons (λ (e f : Entry). e.col < f.col) (entry_at row c w) (entries_along row cols words)
+    (All-weaker (λ (e : Entry). (e.row ≡ row) × (c < e.col)) (λ (e : Entry). c < e.col) (λ e p. p.1) (entries_along row cols words) (all_cols (λ col. c < col) row cols words (all_pairs_head (λ p q. p < q) c cols rising)))
+    (along_rise row cols words (all_pairs_tail (λ p q. p < q) c cols rising))
+
+-- the columns of a mask's row that count are slots
+pub counted_slots : (valued : Bool) (row : ℕ) (cols words slots : List ℕ) → AllPairs (λ p q. p < q) cols → slots ≡ counted valued (entries_along 0 cols words) → AreSlots (λ col. has_word valued (word_at (entries_along row cols words) row col)) slots
+counted_slots valued row cols words slots rising held =
+    let has : ℕ → Bool = λ col. has_word valued (word_at (entries_along row cols words) row col) in
+    let test : Entry → Bool = λ e. counts valued e.word in
+    let es = entries_along 0 cols words in
+    let once : (col : ℕ) → filter (λ slot. eqb slot col) slots ≡ cond (has col) (col ∷ []) [] = λ col. ap (filter (λ slot. eqb slot col)) held ∙ counted_once valued row col cols words rising in
+    record {
+      rising = subst (AllPairs (λ p q. p < q)) (sym held) (all_pairs_map (λ p q. p < q) (λ (e : Entry). e.col) (filter test es) (all_pairs_filter (λ (e f : Entry). e.col < f.col) test es (along_rise 0 cols words rising)));
+      kept =
+          All-weaker (λ slot. Contains slots slot) (λ slot. has slot ≡ true)
+          (λ slot among. elim (cases_Bool (has slot)) [
+            | inl with_it ↦ with_it
+            | inr without ↦
+                let none : filter (λ s. eqb s slot) slots ≡ [] = rw without at (once slot) in
+                absurd (All-contains (λ s. s ≢ slot) slots slot (none_filtered slot slots none) among refl)
+          ]) slots (All-contains_itself slots);
+      once = once;
+    }
+
+-- and they lie where the row lies
+word_within : (first past row col : ℕ) (valued : Bool) (cols words : List ℕ) → All (λ col. (first ≤ col) × (col < past)) cols → has_word valued (word_at (entries_along row cols words) row col) ≡ true → in_range first past col ≡ true
+unfolding word_at
+word_within first past row col valued [] words inside has = absurd cc
+word_within first past row col valued (c ∷ cols) [] inside has = absurd cc
+word_within first past row col valued (c ∷ cols) (w ∷ words) inside has =
+    elim (cases_eq c col) [
+      | inl here ↦
+          let at = All-head (λ col. (first ≤ col) × (col < past)) c cols inside in
+          let low : leb first col ≡ true = grind (arith, nat_tests, at.0, here) in
+          let high : ltb col past ≡ true = grind (arith, nat_tests, at.1, here) in
+          rw (low, high) refl
+      | inr away ↦
+          let rest : has_word valued (word_at (entries_along row cols words) row col) ≡ true = rw (eq-eqb row row refl, ne_eqb col c (λ same. away (sym same))) at has in
+          word_within first past row col valued cols words (All-tail (λ col. (first ≤ col) × (col < past)) c cols inside) rest
+    ]
+
+both_or_none : (inside has : Bool) → (has ≡ true → inside ≡ true) → has ≡ (inside && has)
+both_or_none true has h = refl
+both_or_none false true h = sym (h refl)
+both_or_none false false h = refl
+
+-- the terms at the slots are those that a mask keeps which isn't complemented
+held_terms : (test : MaskTest) (first past row : ℕ) (cols words : List ℕ) (terms : List Term) → test.complement ≡ false → All (λ col. (first ≤ col) × (col < past)) cols
+    → kept_terms (λ col. has_word test.valued (word_at (entries_along row cols words) row col)) terms ≡ kept_terms (keeps_among test first past (entries_along row cols words) row) terms
+held_terms test first past row cols words terms plain inside =
+    let es = entries_along row cols words in
+    filter_agree (λ (t : Term). has_word test.valued (word_at es row t.col)) (λ (t : Term). keeps_among test first past es row t.col)
+    (λ t. rw plain (both_or_none (in_range first past t.col) (has_word test.valued (word_at es row t.col)) (word_within first past row t.col test.valued cols words inside))) terms
 
 -- ---- the row of the sums
 
@@ -341,25 +389,32 @@ agree_below p q width (t ∷ ts) below same =
 inside_width : (col width : ℕ) (b : Bool) → col < width → (ltb col width && b) ≡ b
 inside_width col width b below = let test : ltb col width ≡ true = grind (arith, nat_tests) in rw test refl
 
--- the row at the columns of a mask's row is the one that the mask lets through
-pub row_let_through : (mask : MaskView) (store : Stored) (i width : ℕ) (op : BinaryOp) (terms : List Term) (old new : FiberLists) → store.cols ≡ width → All (λ t. t.col < width) terms → mask.complement ≡ false
-    → HasRow op i (kept_terms (has_in_row mask.valued store i) terms) old new → HasRow op i (kept_terms (lets_by mask store i) terms) old new
-row_let_through mask store i width op terms old new same below plain here =
-    subst (λ ts. HasRow op i ts old new)
-    (agree_below (has_in_row mask.valued store i) (lets_by mask store i) width terms below (λ col less. rw (plain, same) (inside_width col width (has_word mask.valued (content_of store i col)) less))) here
+-- so the row at the slots is the one that the mask keeps
+pub held_row : (r : Result (Unit {0}) NoMemory) (test : MaskTest) (op : BinaryOp) (row first past : ℕ) (cols words slots : List ℕ) (terms : List Term) (old new : FiberLists) → test.complement ≡ false
+    → AllPairs (λ p q. p < q) cols → All (λ col. (first ≤ col) × (col < past)) cols → slots ≡ counted test.valued (entries_along 0 cols words)
+    → OnOk r ((keeps : ℕ → Bool) → AreSlots keeps slots → HasRow op row (kept_terms keeps terms) old new) → OnOk r (HasRow op row (kept_terms (keeps_among test first past (entries_along row cols words) row) terms) old new)
+held_row (Err e) test op row first past cols words slots terms old new plain rising inside held here = tt
+held_row (Ok u) test op row first past cols words slots terms old new plain rising inside held here =
+    subst (λ ts. HasRow op row ts old new) (held_terms test first past row cols words terms plain inside)
+    (here (λ col. has_word test.valued (word_at (entries_along row cols words) row col)) (counted_slots test.valued row cols words slots rising held))
+
+-- where all is kept
+pub row_all : (r : Result (Unit {0}) NoMemory) (op : BinaryOp) (row : ℕ) (terms : List Term) (old new : FiberLists) → OnOk r (HasRow op row terms old new) → OnOk r (HasRow op row (kept_terms (λ col. true) terms) old new)
+row_all (Err e) op row terms old new here = tt
+row_all (Ok u) op row terms old new here = subst (λ ts. HasRow op row ts old new) (sym (kept_all terms)) here
 
 -- the row at the columns that a mask keeps, by the entries of its store's row, is the one that the mask lets through
-pub row_kept : (r : Result (Unit {0}) NoMemory) (mask : MaskView) (store : Stored) (i width : ℕ) (op : BinaryOp) (terms : List Term) (old new : FiberLists) (entries : List Entry) → store.cols ≡ width → All (λ t. t.col < width) terms
-    → entries ≡ row_entries store.cols (content_of store) i → OnOk r (HasRow op i (kept_terms (keeps_among mask 0 width entries i) terms) old new) → OnOk r (HasRow op i (kept_terms (lets_by mask store i) terms) old new)
-row_kept (Err e) mask store i width op terms old new entries same below is here = tt
-row_kept (Ok u) mask store i width op terms old new entries same below is here =
+pub row_kept : (r : Result (Unit {0}) NoMemory) (mask : StoredMask) (i width : ℕ) (op : BinaryOp) (terms : List Term) (old new : FiberLists) (entries : List Entry) → mask.store.now.cols ≡ width → All (λ t. t.col < width) terms
+    → entries ≡ row_entries mask.store.now.cols (content_of mask.store.now) i → OnOk r (HasRow op i (kept_terms (keeps_among mask.test 0 width entries i) terms) old new) → OnOk r (HasRow op i (kept_terms (lets_by (Some mask) i) terms) old new)
+row_kept (Err e) mask i width op terms old new entries same below is here = tt
+row_kept (Ok u) mask i width op terms old new entries same below is here =
     subst (λ ts. HasRow op i ts old new)
-    (agree_below (keeps_among mask 0 width entries i) (lets_by mask store i) width terms below
+    (agree_below (keeps_among mask.test 0 width entries i) (lets_by (Some mask) i) width terms below
     (λ col less.
     let low : leb 0 col ≡ true = grind (arith, nat_tests) in
     let high : ltb col width ≡ true = grind (arith, nat_tests) in
-    let inside : ltb col store.cols ≡ true = rw same high in
-    let word : word_at entries i col ≡ content_of store i col = ap (λ es. word_at es i col) is ∙ word_at-row_entries store.cols (content_of store) i col ∙ rw inside refl in
+    let inside : ltb col mask.store.now.cols ≡ true = rw same high in
+    let word : word_at entries i col ≡ content_of mask.store.now i col = ap (λ es. word_at es i col) is ∙ word_at-row_entries mask.store.now.cols (content_of mask.store.now) i col ∙ rw inside refl in
     rw (low, high, word) refl)) here
 
 -- the columns of a row of a store rise

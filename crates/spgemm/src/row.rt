@@ -1,5 +1,5 @@
 //! One row of a product.
-ghost use Rattle.std.specs.Prelude.{◌≡◌, ◌<◌, ℕ, length, true, IfOk, OnOk};
+ghost use Rattle.std.specs.Prelude.{◌≡◌, ◌<◌, ℕ, length, true, OnOk};
 ghost use Rattle.std.specs.List.{AllPairs};
 ghost use Rattle.store.specs.Fibers.{entries_along};
 ghost use Rattle.spgemm.specs.Dense.{AreClear, HaveRoom};
@@ -47,23 +47,18 @@ impl Scratch {
         }
     }
 
-    /// Memory for so many rows of a product of so many entries with B. The sums have their places at once where
-    /// these are few beside the entries, along which the product goes anyhow.
-    pub(crate) fn for_rows(
-        alloc: Global,
-        b: &Store,
-        entries: usize,
-        rows: u64,
-    ) -> Result<Scratch, NoMemory>
-        ensures room { IfOk result (λ scratch. HaveRoom scratch.bits.items scratch.sums.items) }
-        ensures none { IfOk result (λ scratch. AreClear scratch.bits.items) }
+    /// Makes places for the sums at so many columns at once, where these are few beside the entries, along which
+    /// the product goes anyhow.
+    pub(crate) fn make_places(&mut self, cols: u64, entries: usize) -> Result<(), NoMemory>
+        requires room { HaveRoom self.old.bits.items self.old.sums.items }
+        requires none { AreClear self.old.bits.items }
+        ensures room { OnOk result (HaveRoom self.new.bits.items self.new.sums.items) }
+        ensures none { OnOk result (AreClear self.new.bits.items) }
     {
-        let mut scratch = Scratch::new(alloc, RowHints::for_lookups(alloc, b, entries, rows)?);
-        let cols = b.cols();
         if cols <= MOST_PLACES && cols as usize / 8 <= entries {
-            fit(&mut scratch.bits, &mut scratch.sums, cols)?;
+            fit(&mut self.bits, &mut self.sums, cols)?;
         }
-        Ok(scratch)
+        Ok(())
     }
 
     /// Whether the products of the next row are expected to span few columns of so many: those of the rows before it
@@ -75,8 +70,8 @@ impl Scratch {
     }
 }
 
-/// Puts the row of the product with B that a row of A gives behind the rows in the lists.
-pub(crate) fn multiply_row(
+/// Puts the row of the product with B that a row of A gives, at all columns, behind the rows in the lists.
+pub(crate) fn multiply_whole_row(
     lists: &mut FiberLists,
     scratch: &mut Scratch,
     row: Row<'_>,

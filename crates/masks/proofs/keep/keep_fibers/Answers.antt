@@ -13,7 +13,7 @@ loop-at-init c = record {
   ends_long = refl;
   inner_long = refl;
   words_long = refl;
-  keeping = keeping_none c.args.mask.now c.args.stored.entries c.args.ends.now c.args.inner.now c.args.words.now c.requires;
+  keeping = keeping_none c.args.test c.args.stored.entries c.args.ends.now c.args.inner.now c.args.words.now c.requires;
 }
 
 next : (c : In-loop-at) → IsNext c.loop-at.ends c.loop-at.inner c.loop-at.at c.loop-at.start (get_or c.loop-at.ends c.loop-at.at (end_at 0 0)).outer (get_or c.loop-at.ends c.loop-at.at (end_at 0 0)).end
@@ -21,7 +21,7 @@ next c =
     let s = c.loop-at in
     let within = c.loop-at-test.true in
     let r = get_or s.ends s.at (end_at 0 0) in
-    next_fiber c.args.mask.now c.args.stored.entries (entries_from 0 c.args.ends.now c.args.inner.now c.args.words.now) s.rest.entries s.ends s.inner s.words s.at s.fibers s.kept s.start r.outer r.end s.invariant.keeping (let long = s.invariant.ends_long in omega arith) refl
+    next_fiber c.args.test c.args.stored.entries (entries_from 0 c.args.ends.now c.args.inner.now c.args.words.now) s.rest.entries s.ends s.inner s.words s.at s.fibers s.kept s.start r.outer r.end s.invariant.keeping (let long = s.invariant.ends_long in omega arith) refl
 
 up : (c : In-loop-at) → c.loop-at.kept ≤ (get_or c.loop-at.ends c.loop-at.at (end_at 0 0)).end
 up c = let n = next c in let some = n.some in let fewer = c.loop-at.invariant.keeping.fewer in omega arith
@@ -58,7 +58,7 @@ keep_fiber-count-requires-clause-rising c =
     let some = n.some in
     let r = get_or s.ends s.at (end_at 0 0) in
     rw (lent_part s.kept s.start r.end s.inner s.invariant.keeping.fewer (omega arith))
-    (next_rises c.args.mask.now c.args.stored.entries (entries_from 0 c.args.ends.now c.args.inner.now c.args.words.now) s.rest.entries s.ends s.inner s.words s.at s.fibers s.kept s.start r.outer r.end s.invariant.keeping n)
+    (next_rises c.args.test c.args.stored.entries (entries_from 0 c.args.ends.now c.args.inner.now c.args.words.now) s.rest.entries s.ends s.inner s.words s.at s.fibers s.kept s.start r.outer r.end s.invariant.keeping n)
 
 pub loop-at-preserved : goal.loop-at-preserved
 loop-at-preserved c =
@@ -86,7 +86,7 @@ loop-at-preserved c =
       inner_long = length_put s.kept (r.end - s.kept) s.inner made.inner (omega arith) (omega arith) ∙ here.inner_long;
       words_long = length_put s.kept (r.end - s.kept) s.words made.words (omega arith) (omega arith) ∙ here.words_long;
       keeping =
-          keeping_more c.args.mask.now c.args.stored.entries (entries_from 0 c.args.ends.now c.args.inner.now c.args.words.now) s.rest.entries c.seek-behind.result.2.entries s.ends s.inner s.words s.at s.fibers s.kept s.start r.outer r.end count c.from-fibers.result
+          keeping_more c.args.test c.args.stored.entries (entries_from 0 c.args.ends.now c.args.inner.now c.args.words.now) s.rest.entries c.seek-behind.result.2.entries s.ends s.inner s.words s.at s.fibers s.kept s.start r.outer r.end count c.from-fibers.result
           c.seek-behind.result.0.now c.seek-behind.result.1.now made.inner made.words bool_byte
           here.keeping (omega arith) refl c.seek-behind.ensures.here c.seek-behind.ensures.behind (omega arith) (omega arith) (omega arith) c.keep_fiber-count.ensures.kept c.from-fibers.ensures refl refl;
     }
@@ -94,4 +94,4 @@ loop-at-preserved c =
 pub returns-clause-entries : goal.returns-clause-entries
 returns-clause-entries c =
     let s = c.loop-at in
-    keeping_all c.args.mask.now c.args.stored.entries (entries_from 0 c.args.ends.now c.args.inner.now c.args.words.now) s.rest.entries s.ends s.inner s.words s.at s.fibers s.kept s.start s.invariant.keeping (let long = s.invariant.ends_long in omega arith)
+    keeping_all c.args.test c.args.stored.entries (entries_from 0 c.args.ends.now c.args.inner.now c.args.words.now) s.rest.entries s.ends s.inner s.words s.at s.fibers s.kept s.start s.invariant.keeping (let long = s.invariant.ends_long in omega arith)

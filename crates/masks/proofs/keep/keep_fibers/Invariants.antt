@@ -8,5 +8,5 @@ invariant-loop-at l = record {
   ends_long : length l.ends ≡ length l.fn.ends;
   inner_long : length l.inner ≡ length l.fn.inner;
   words_long : length l.words ≡ length l.fn.words;
-  keeping : IsKeeping l.mask l.fn.stored.entries (entries_from 0 l.fn.ends l.fn.inner l.fn.words) l.rest.entries l.ends l.inner l.words l.at l.fibers l.kept l.start;
+  keeping : IsKeeping l.test l.fn.stored.entries (entries_from 0 l.fn.ends l.fn.inner l.fn.words) l.rest.entries l.ends l.inner l.words l.at l.fibers l.kept l.start;
 }

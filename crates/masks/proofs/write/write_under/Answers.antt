@@ -3,45 +3,63 @@ use Rattle.std.proofs.Common.{◌≡◌, ◌≤◌, ◌<◌, ◌∙◌, ℕ, Som
 use Rattle.std.proofs.lemmas.Result.{IfOk-weaker}
 use Rattle.algebra.specs.OperatorNames.{op_named}
 use Rattle.store.specs.Stored.{block_content, content_of}
+use Rattle.model.specs.WriteBack.{accumulated}
 use Rattle.masks.specs.declared.join.Joining.TheVariants.{Accumulate, Right}
 use Rattle.masks.specs.Joins.{join_word}
-use Rattle.masks.specs.Keeps.{lets_word}
-use Rattle.masks.specs.Masks.{has_word}
+use Rattle.masks.specs.Masks.{has_word, lets_word}
 use Rattle.masks.specs.Writes.{written_at}
-use Rattle.masks.proofs.WriteLaws.{accumulated_inside, beside, complemented}
+use Rattle.masks.proofs.WriteLaws.{accumulated_inside, beside, complemented, inside_accumulated}
 use Rattle.masks.proofs.write.write_under.Goals as goal
 
 pub returns-in_ok-rest-in-None-false-clause-words : goal.returns-in_ok-rest-in-None-false-clause-words
 returns-in_ok-rest-in-None-false-clause-words c =
     let t = c.args.t in
-    let mask = c.args.mask.now in
+    let mask = c.args.mask in
+    let test = mask.test in
     let old = content_of c.args.old.now in
-    let stored = content_of c.args.stored.now in
+    let stored = content_of mask.store.now in
     let inside = c.keep_block-inside.result in
     let rest = c.in_ok-rest-in-None-false.rest in
     rw (c.in-None-false.is-0, c.in-None-false.is-1)
     (IfOk-weaker c.join_blocks.result (λ block. (i j : ℕ) → inside.first ≤ i → i < inside.past → block_content block i j ≡ join_word Right (block_content rest i j) (block_content inside i j))
-    (λ block. (i j : ℕ) → t.first ≤ i → i < t.past → block_content block i j ≡ written_at None false (lets_word mask (stored i j)) (old i j) (block_content t i j))
+    (λ block. (i j : ℕ) → t.first ≤ i → i < t.past → block_content block i j ≡ written_at None false (lets_word test (stored i j)) (old i j) (block_content t i j))
     (λ block words i j low high.
     words i j (rw c.keep_block-inside.ensures.first low) (rw c.keep_block-inside.ensures.past high)
-    ∙ rw (c.in_ok-rest-in-None-false.ensures.words i j (rw c.keep_block-inside.ensures.first low) (rw c.keep_block-inside.ensures.past high), c.keep_block-inside.ensures.words i j low high)
-    (beside (lets_word mask (stored i j)) (lets_word (record { store = mask.store; valued = mask.valued; complement = not mask.complement }) (stored i j)) (old i j) (block_content t i j) (complemented mask.complement (has_word mask.valued (stored i j)))))
+    ∙ rw (c.in_ok-rest-in-None-false.ensures.words i j (rw c.keep_block-inside.ensures.first low) (rw c.keep_block-inside.ensures.past high), c.complement.ensures.store, c.complement.ensures.valued, c.complement.ensures.complement, c.keep_block-inside.ensures.words i j low high)
+    (beside (lets_word test (stored i j)) (lets_word (record { valued = test.valued; complement = not test.complement }) (stored i j)) (old i j) (block_content t i j) (complemented test.complement (has_word test.valued (stored i j)))))
     c.join_blocks.ensures.words)
 
 pub returns-in_ok-kept-in-Some-true-clause-words : goal.returns-in_ok-kept-in-Some-true-clause-words
 returns-in_ok-kept-in-Some-true-clause-words c =
     let t = c.args.t in
-    let mask = c.args.mask.now in
+    let mask = c.args.mask in
+    let test = mask.test in
     let old = content_of c.args.old.now in
-    let stored = content_of c.args.stored.now in
+    let stored = content_of mask.store.now in
     let inside = c.keep_block-inside.result in
     let kept = c.in_ok-kept-in-Some-true.kept in
     let op = c.in-Some-true.op in
     rw (c.in-Some-true.is-0, c.in-Some-true.is-1)
     (IfOk-weaker c.join_blocks-in-Some-true.result (λ block. (i j : ℕ) → inside.first ≤ i → i < inside.past → block_content block i j ≡ join_word (Accumulate op) (block_content kept i j) (block_content inside i j))
-    (λ block. (i j : ℕ) → t.first ≤ i → i < t.past → block_content block i j ≡ written_at (Some (op_named op)) true (lets_word mask (stored i j)) (old i j) (block_content t i j))
+    (λ block. (i j : ℕ) → t.first ≤ i → i < t.past → block_content block i j ≡ written_at (Some (op_named op)) true (lets_word test (stored i j)) (old i j) (block_content t i j))
     (λ block words i j low high.
     words i j (rw c.keep_block-inside.ensures.first low) (rw c.keep_block-inside.ensures.past high)
     ∙ rw (c.in_ok-kept-in-Some-true.ensures.words i j (rw c.keep_block-inside.ensures.first low) (rw c.keep_block-inside.ensures.past high), c.keep_block-inside.ensures.words i j low high)
-    (accumulated_inside op (lets_word mask (stored i j)) (old i j) (block_content t i j)))
+    (accumulated_inside op (lets_word test (stored i j)) (old i j) (block_content t i j)))
     c.join_blocks-in-Some-true.ensures.words)
+
+pub returns-in-Some-false-clause-words : goal.returns-in-Some-false-clause-words
+returns-in-Some-false-clause-words c =
+    let t = c.args.t in
+    let test = c.args.mask.test in
+    let old = content_of c.args.old.now in
+    let stored = content_of c.args.mask.store.now in
+    let inside = c.keep_block-inside.result in
+    let name = op_named c.in-Some-false.op in
+    rw (c.in-Some-false.is-0, c.in-Some-false.is-1)
+    (IfOk-weaker c.accumulate.result (λ block. (i j : ℕ) → inside.first ≤ i → i < inside.past → block_content block i j ≡ accumulated name (old i j) (block_content inside i j))
+    (λ block. (i j : ℕ) → t.first ≤ i → i < t.past → block_content block i j ≡ written_at (Some name) false (lets_word test (stored i j)) (old i j) (block_content t i j))
+    (λ block words i j low high.
+    words i j (rw c.keep_block-inside.ensures.first low) (rw c.keep_block-inside.ensures.past high)
+    ∙ rw (c.keep_block-inside.ensures.words i j low high) (inside_accumulated name (lets_word test (stored i j)) (old i j) (block_content t i j)))
+    c.accumulate.ensures.words)

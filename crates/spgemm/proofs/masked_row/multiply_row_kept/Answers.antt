@@ -34,6 +34,6 @@ returns-clause-row c =
     let terms = terms_of_row c.args.semiring.multiply (entries_along index c.args.row.cols.now c.args.row.words.now) b in
     let start : c.len-start.result ≡ length old.inner.items = c.len-start.ensures ∙ old.inner.ok.0 in
     let part : IsPart range.start range.end (drop (length old.inner.items) mid.inner.items) low high = rw (take_rest c.deref.result.now c.len-start.result, c.deref.ensures.value, start) at c.part_in-part.ensures in
-    let kept : HasKept c.args.mask c.args.cols.now c.args.words.now (length old.inner.items) low high mid c.keep_sums.new.lists = rw start at c.keep_sums.ensures in
-    let row = kept_open op index c.args.mask range.start range.end c.args.cols.now c.args.words.now low high terms old mid c.keep_sums.new.lists c.requires.lists c.in_ok-sum_row.ensures.row part kept in
-    row_closed c.close.result op index (kept_terms (keeps_among c.args.mask range.start range.end (entries_along index c.args.cols.now c.args.words.now) index) terms) old c.keep_sums.new.lists c.close.new.self row c.close.ensures.ends c.close.ensures.inner c.close.ensures.words
+    let kept : HasKept c.args.test c.args.cols.now c.args.words.now (length old.inner.items) low high mid c.keep_sums.new.lists = rw start at c.keep_sums.ensures in
+    let row = kept_open op index c.args.test range.start range.end c.args.cols.now c.args.words.now low high terms old mid c.keep_sums.new.lists c.requires.lists c.in_ok-sum_row.ensures.row part kept in
+    row_closed c.close.result op index (kept_terms (keeps_among c.args.test range.start range.end (entries_along index c.args.cols.now c.args.words.now) index) terms) old c.keep_sums.new.lists c.close.new.self row c.close.ensures.ends c.close.ensures.inner c.close.ensures.words

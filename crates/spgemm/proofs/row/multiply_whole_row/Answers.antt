@@ -1,7 +1,7 @@
 use Rattle.store.specs.Fibers.{entries_along}
 use Rattle.spgemm.specs.Terms.{terms_of_row}
 use Rattle.spgemm.proofs.KeptRows.{row_closed}
-use Rattle.spgemm.proofs.row.multiply_row.Goals as goal
+use Rattle.spgemm.proofs.row.multiply_whole_row.Goals as goal
 
 pub returns-clause-row : goal.returns-clause-row
 returns-clause-row c =
