@@ -13,7 +13,7 @@ ghost use Rattle.elementwise.specs.Meets.{HasMeet, met_content};
 use crate::pairs::Pairs;
 use algebra::BinaryOp;
 use lanes::zip_words;
-use masks::{Joining, are_alike, join_alike};
+use masks::{Joining, append_fibers, are_alike, join_alike};
 use model::NoMemory;
 use std::alloc::Global;
 use std::ops::Range;
@@ -135,12 +135,9 @@ fn intersect_fibers(
     requires before { All (λ e. All (Precedes e) left.entries) (entries_in lists.old) }
     ensures { OnOk result (HasMeet op left.entry.entries right.entry.entries lists.old lists.new) }
 {
-    let from = lists.inner.len();
     let count = pairs.find(left, right)?;
-    lists.inner.extend_from_slice(&pairs.inner[..count])?;
     combine_pairs(pairs, count, op)?;
-    lists.words.extend_from_slice(&pairs.words)?;
-    lists.attach(&pairs.ends, from)
+    append_fibers(lists, &pairs.ends, &pairs.inner[..count], &pairs.words)
 }
 
 /// Makes the words of the first pairs by an operator.
@@ -148,6 +145,7 @@ fn combine_pairs(pairs: &mut Pairs, count: usize, op: BinaryOp) -> Result<(), No
     requires lefts { count ≤ length pairs.old.lefts.items }
     requires rights { count ≤ length pairs.old.rights.items }
     ensures ends { pairs.new.ends.items ≡ pairs.old.ends.items }
+    ensures inner { pairs.new.inner.items ≡ pairs.old.inner.items }
     ensures words { OnOk result (pairs.new.words.items ≡ zip_with (eval_of op.kind op.domain)
         (take count pairs.old.lefts.items) (take count pairs.old.rights.items)) }
 {

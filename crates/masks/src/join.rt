@@ -11,6 +11,7 @@ ghost use Rattle.store.specs.Stored.{AreIn, along, block_content, content_of};
 ghost use Rattle.masks.specs.Joins.{AreJoined, HasJoin, alone_of, both_of, joined};
 
 use crate::alike::{are_alike, join_alike};
+use crate::append::append_fibers;
 use crate::few::{has_few, join_few};
 use crate::full::{full_side, join_full};
 use crate::merge::Places;
@@ -204,12 +205,9 @@ fn join_fibers(
     requires right { All (λ e. All (Precedes e) right.entries) (entries_in lists.old) }
     ensures { OnOk result (HasJoin by left.entry.entries right.entry.entries lists.old lists.new) }
 {
-    let from = lists.inner.len();
     let count = places.merge(left, right)?;
-    lists.inner.extend_from_slice(&places.inner[..count])?;
     join_places(places, count, by)?;
-    lists.words.extend_from_slice(&places.words)?;
-    lists.attach(&places.ends, from)
+    append_fibers(lists, &places.ends, &places.inner[..count], &places.words)
 }
 
 /// Makes the words of the first places by a joining.
@@ -218,6 +216,7 @@ fn join_places(places: &mut Places, count: usize, by: Joining) -> Result<(), NoM
     requires rights { count ≤ length places.old.rights.items }
     requires sides { count ≤ length places.old.sides.items }
     ensures ends { places.new.ends.items ≡ places.old.ends.items }
+    ensures inner { places.new.inner.items ≡ places.old.inner.items }
     ensures words { OnOk result (AreJoined (alone_of by) (both_of by) (take count places.old.sides.items)
         (take count places.old.lefts.items) (take count places.old.rights.items) places.new.words.items) }
 {

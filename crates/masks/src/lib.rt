@@ -3,6 +3,7 @@
 #![tactic(auto)]
 
 mod alike;
+mod append;
 mod blocks;
 mod few;
 mod full;
@@ -14,6 +15,7 @@ mod view;
 mod write;
 
 pub use alike::{are_alike, join_alike};
+pub use append::append_fibers;
 pub use join::{Joining, join_rows};
 pub use keep::keep_fiber;
 pub use view::{Mask, MaskTest, StoredMask};
