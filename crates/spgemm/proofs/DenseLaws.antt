@@ -1,8 +1,8 @@
 -- Sums with a place for each column, one term after another, and the row that they are.
-use Rattle.std.proofs.Common.{◌≡◌, ◌≢◌, ℕ, zero, suc, ◌+◌, ◌-◌, ◌*◌, ◌/◌, ◌%◌, ◌<◌, ◌≤◌, true, false, ◌||◌, eqb, ltb, Bool, List, [], ◌∷◌, ◌++◌, length, get_or, map, replicate, set, take, Option, Some, None, refl, Result, Ok, Err, OnOk, leb, ◌&&◌, sym, ◌∙◌, ap, subst, w64, inl, inr, arith}
+use Rattle.std.proofs.Common.{◌≡◌, ◌≢◌, ℕ, zero, suc, ◌+◌, ◌-◌, ◌*◌, ◌/◌, ◌%◌, ◌<◌, ◌≤◌, true, false, ◌||◌, eqb, ltb, Bool, List, [], ◌∷◌, ◌++◌, length, get_or, map, replicate, set, take, Option, Some, None, refl, Result, Ok, Err, OnOk, sym, ◌∙◌, ap, subst, w64, inl, inr, arith}
 use Rattle.std.specs.Int.{bit_at, trailing_zeros}
 use Rattle.std.specs.Option.{option_map, option_map_or}
-use Rattle.std.specs.List.{All, cons_option, filter}
+use Rattle.std.specs.List.{All, cons_option}
 use Rattle.std.proofs.lemmas.Bool.{cases_Bool, cases_eq, eq-eqb, ne_eqb}
 use Rattle.std.proofs.lemmas.Bool.Decides.{nat_tests}
 use Rattle.std.proofs.lemmas.List.{append-nil, get_or-replicate, get_or-set_other, get_or-set_same, get_or_past, length-replicate, length-set}
@@ -21,9 +21,8 @@ use Rattle.model.specs.declared.memory.NoMemory.{NoMemory}
 use Rattle.store.specs.declared.lists.FiberLists.{FiberLists}
 use Rattle.store.proofs.Positions.{filter_whole}
 use Rattle.spgemm.specs.Products.{HasOpenRow, IsSumRow}
-use Rattle.spgemm.specs.Slots.{AreSlots}
 use Rattle.spgemm.proofs.Kept.{terms_inside}
-use Rattle.spgemm.proofs.SlotRows.{filter_all, found_row, slots_from}
+use Rattle.spgemm.proofs.SlotRows.{all_slots, found_row}
 use Rattle.spgemm.proofs.BitLaws.{without_bit}
 use Rattle.spgemm.proofs.SlotSums.{more_terms, sum_away, sum_here}
 
@@ -224,11 +223,6 @@ found_next bits words at =
 
 -- ---- the row
 
-below_slots : (n : ℕ) → AreSlots (λ col. ltb col n) (below n)
-below_slots n =
-    let all : AreSlots (λ col. ltb col n) (filter (λ col. true) (below n)) = slots_from (λ col. true) (λ col. ltb col n) 0 n (λ col. let same : ((leb 0 col && ltb col (0 + n)) && true) ≡ ltb col n = grind (arith, nat_tests) in same) in
-    subst (AreSlots (λ col. ltb col n)) (filter_all (below n)) all
-
 -- the sums at all columns are the row of the sums of the terms
 pub dense_row : (op : BinaryOp) (index : ℕ) (terms : List Term) (bits words : List ℕ) → All (λ t. t.col < length words) terms → AreColumnSums op terms bits words
     → IsSumRow op index terms (map (λ s. s.col) (found (word_in bits words) 0 (length words))) (map (λ s. s.word) (found (word_in bits words) 0 (length words)))
@@ -238,7 +232,7 @@ dense_row op index terms bits words inside here =
     let f : ℕ → Option ℕ = λ col. sum_at op col terms in
     let same : found (word_in bits words) 0 width ≡ found f 0 width = found_agree (word_in bits words) f 0 width (λ at low high. here.sums_are at (omega arith)) in
     let kept : kept_terms keeps terms ≡ terms = filter_whole (λ t. keeps t.col) terms (All-weaker (λ t. t.col < width) (λ t. keeps t.col ≡ true) (λ t less. grind (arith, nat_tests)) terms inside) in
-    rw same (subst (λ ts. IsSumRow op index ts (map (λ s. s.col) (found f 0 width)) (map (λ s. s.word) (found f 0 width))) kept (found_row op index keeps (below width) terms (below_slots width)))
+    rw same (subst (λ ts. IsSumRow op index ts (map (λ s. s.col) (found f 0 width)) (map (λ s. s.word) (found f 0 width))) kept (found_row op index keeps (below width) terms (all_slots width)))
 
 -- the sums that were found, behind the rows
 pub dense_open : (op : BinaryOp) (index : ℕ) (terms : List Term) (bits words : List ℕ) (old new : FiberLists) → All (λ t. t.col < length words) terms → AreColumnSums op terms bits words

@@ -49,52 +49,31 @@ numbers_rise first (suc n) =
     (All-weaker (λ k. (first + 1 ≤ k) × (k < first + 1 + n)) (λ k. first < k) (λ k p. omega (arith, p.0)) (count_from (first + 1) n) (all_numbers (first + 1) n))
     (numbers_rise (first + 1) n)
 
-all_filtered : (P : ℕ → Type 0) (test : ℕ → Bool) (ks : List ℕ) → All P ks → All (λ k. P k × (test k ≡ true)) (filter test ks)
-all_filtered P test [] h = All-nil (λ k. P k × (test k ≡ true))
-all_filtered P test (k ∷ ks) h =
-    let rest = all_filtered P test ks (All-tail P k ks h) in
-    elim (cases_Bool (test k)) [
-      | inl with_it ↦ rw with_it (All-cons (λ k. P k × (test k ≡ true)) k (filter test ks) (All-head P k ks h, with_it) rest)
-      | inr without ↦ rw without rest
-    ]
-
-one_number : (test : ℕ → Bool) (col first n : ℕ) → filter (λ k. eqb k col) (filter test (count_from first n)) ≡ cond ((leb first col && ltb col (first + n)) && test col) (col ∷ []) []
+one_number : (col first n : ℕ) → filter (λ k. eqb k col) (count_from first n) ≡ cond (leb first col && ltb col (first + n)) (col ∷ []) []
 unfolding count_from
-one_number test col first zero = let out : (leb first col && ltb col (first + 0)) ≡ false = grind (arith, nat_tests) in rw out refl
-one_number test col first (suc n) =
-    let rest = one_number test col (first + 1) n in
+one_number col first zero = let out : (leb first col && ltb col (first + 0)) ≡ false = grind (arith, nat_tests) in rw out refl
+one_number col first (suc n) =
+    let rest = one_number col (first + 1) n in
     elim (cases_eq first col) [
       | inl here ↦
           let out : (leb (first + 1) col && ltb col (first + 1 + n)) ≡ false = grind (arith, nat_tests) in
           let in_it : (leb first col && ltb col (first + suc n)) ≡ true = grind (arith, nat_tests) in
-          let none : filter (λ k. eqb k col) (filter test (count_from (first + 1) n)) ≡ [] = rw out at rest in
-          elim (cases_Bool (test first)) [
-            | inl with_it ↦
-                let also : test col ≡ true = ap test (sym here) ∙ with_it in
-                rw (in_it, with_it, also, eq-eqb first col here, none) (ap (λ k. k ∷ []) here)
-            | inr without ↦
-                let also : test col ≡ false = ap test (sym here) ∙ without in
-                rw (in_it, without, also) none
-          ]
+          let none : filter (λ k. eqb k col) (count_from (first + 1) n) ≡ [] = rw out at rest in
+          rw (in_it, eq-eqb first col here, none) (ap (λ k. k ∷ []) here)
       | inr away ↦
           let same : (leb (first + 1) col && ltb col (first + 1 + n)) ≡ (leb first col && ltb col (first + suc n)) = grind (arith, nat_tests) in
-          let more : filter (λ k. eqb k col) (filter test (count_from (first + 1) n)) ≡ cond ((leb first col && ltb col (first + suc n)) && test col) (col ∷ []) [] = rw same at rest in
-          elim (cases_Bool (test first)) [
-            | inl with_it ↦ rw (with_it, ne_eqb first col away) more
-            | inr without ↦ rw without more
-          ]
+          let more : filter (λ k. eqb k col) (count_from (first + 1) n) ≡ cond (leb first col && ltb col (first + suc n)) (col ∷ []) [] = rw same at rest in
+          rw (ne_eqb first col away) more
     ]
 
 -- ---- slots
 
-pub slots_from : (test keeps : ℕ → Bool) (first n : ℕ) → ((col : ℕ) → ((leb first col && ltb col (first + n)) && test col) ≡ keeps col) → AreSlots keeps (filter test (count_from first n))
-slots_from test keeps first n is = record {
-  rising = all_pairs_filter (λ p q. p < q) test (count_from first n) (numbers_rise first n);
-  kept =
-      All-weaker (λ k. ((first ≤ k) × (k < first + n)) × (test k ≡ true)) (λ k. keeps k ≡ true)
-      (λ k p. sym (is k) ∙ (let low : leb first k ≡ true = grind (arith, nat_tests, p.0.0) in let high : ltb k (first + n) ≡ true = grind (arith, nat_tests, p.0.1) in rw (low, high, p.1) refl))
-      (filter test (count_from first n)) (all_filtered (λ k. (first ≤ k) × (k < first + n)) test (count_from first n) (all_numbers first n));
-  once = λ col. one_number test col first n ∙ ap (λ b. cond b (col ∷ []) []) (is col);
+-- every column a slot
+pub all_slots : (n : ℕ) → AreSlots (λ col. ltb col n) (below n)
+all_slots n = record {
+  rising = numbers_rise 0 n;
+  kept = All-weaker (λ k. (0 ≤ k) × (k < 0 + n)) (λ k. ltb k n ≡ true) (λ k p. let less = p.1 in grind (arith, nat_tests)) (below n) (all_numbers 0 n);
+  once = λ col. one_number col 0 n ∙ (let same : (leb 0 col && ltb col (0 + n)) ≡ ltb col n = grind (arith, nat_tests) in ap (λ b. cond b (col ∷ []) []) same);
 }
 
 -- ---- whether a column is a slot
@@ -327,10 +306,6 @@ found_kept op keeps terms (slot ∷ slots) h =
     let P : Term → Type 0 = λ s. Contains (map at_term (kept_terms keeps terms)) s.col in
     let rest = found_kept op keeps terms slots (All-tail (λ slot. keeps slot ≡ true) slot slots h) in
     found_more op keeps terms slot (found_sums (λ col. sum_at op col terms) slots) (All-head (λ slot. keeps slot ≡ true) slot slots h) rest (sum_at op slot terms) refl
-
-pub filter_all : (ks : List ℕ) → filter (λ k. true) ks ≡ ks
-filter_all [] = refl
-filter_all (k ∷ ks) = ap (λ ks. k ∷ ks) (filter_all ks)
 
 -- the sums at the columns that are kept are the row of the sums of the terms that are kept
 pub found_row : (op : BinaryOp) (index : ℕ) (keeps : ℕ → Bool) (slots : List ℕ) (terms : List Term) → AreSlots keeps slots
