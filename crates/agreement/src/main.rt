@@ -1,5 +1,6 @@
-//! Looks for differences between the runtime and the plain evaluator, which follows the definitions one position after
-//! the other: on the scripts and Matrix Market files of folders, whole, cut off after each byte, and with bytes changed.
+//! Looks for differences between the runtime and the plain evaluator, which follows the definitions one position
+//! after the other: on the scripts and Matrix Market files of folders, whole, cut off after each byte, and with bytes
+//! changed.
 //!
 //! `agreement FOLDER ..` goes through the folders with all below them and tells each script and each file on which the
 //! two differ. Its last line counts those that passed and those that failed.

@@ -102,7 +102,8 @@ fn write_under(
     ensures past { IfOk result (λ block. block.past ≡ t.past) }
     ensures cols { IfOk result (λ block. block.cols ≡ t.cols) }
     ensures words { IfOk result (λ block. (i j : ℕ) → t.first ≤ i → i < t.past → block_content block i j
-        ≡ written_at (option_map op_named accum) replace (lets_word mask.entry.test (content_of mask.entry.store.now i j))
+        ≡ written_at (option_map op_named accum) replace
+        (lets_word mask.entry.test (content_of mask.entry.store.now i j))
         (content_of old.now i j) (block_content t i j)) }
 {
     let inside = keep_block(t, mask);

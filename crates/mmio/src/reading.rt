@@ -16,8 +16,8 @@ use store::Tuples;
 /// the file, each with the one that the file leaves out behind it. Of the format `integer` and `pattern`
 /// are read, and all symmetries but `hermitian`; values are cast to the domain.
 ///
-/// An error is the first thing that is wrong, line by line from the top, with its line, or `NoMemory`. The time is linear
-/// in the file, and so is the memory: what number the file announces reserves nothing.
+/// An error is the first thing that is wrong, line by line from the top, with its line, or `NoMemory`. The
+/// time is linear in the file, and so is the memory: what number the file announces reserves nothing.
 /// Entries that come row by row lie as the rows of a store then.
 pub fn read_entries(
     alloc: Global,

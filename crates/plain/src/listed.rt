@@ -73,8 +73,8 @@ fn faults_in(
     lines: &[PlainLine<'_>],
 ) -> Result<Vec<Misread>, AllocError>
     ensures { IfOk result (λ faults. faults.items
-        ≡ filter_map (λ line. option_map (λ wrong. misread wrong line) (result_err (entry_said domain heading line.words)))
-        (lines_in lines.now)) }
+        ≡ filter_map (λ line. option_map (λ wrong. misread wrong line)
+        (result_err (entry_said domain heading line.words))) (lines_in lines.now)) }
 {
     let mut faults = Vec::new(alloc);
     for line in lines {
