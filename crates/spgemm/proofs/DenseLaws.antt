@@ -1,11 +1,11 @@
 -- Sums with a place for each column, one term after another, and the row that they are.
-use Rattle.std.proofs.Common.{◌≡◌, ◌≢◌, ℕ, zero, suc, ◌+◌, ◌-◌, ◌*◌, ◌/◌, ◌%◌, ◌<◌, ◌≤◌, true, false, ◌||◌, eqb, ltb, Bool, List, [], ◌∷◌, ◌++◌, length, get_or, map, replicate, set, take, Option, Some, None, refl, Result, Ok, Err, OnOk, sym, ◌∙◌, ap, subst, w64, inl, inr, arith}
+use Rattle.std.proofs.Common.{◌≡◌, ◌≢◌, ℕ, zero, suc, ◌+◌, ◌-◌, ◌*◌, ◌/◌, ◌%◌, ◌<◌, ◌≤◌, true, false, ltb, Bool, List, [], ◌∷◌, ◌++◌, length, get_or, map, replicate, take, Option, Some, None, refl, Result, Ok, Err, OnOk, sym, ◌∙◌, ap, subst, w64, inl, inr, arith}
 use Rattle.std.specs.Int.{bit_at, trailing_zeros}
-use Rattle.std.specs.Option.{option_map, option_map_or}
+use Rattle.std.specs.Option.{option_map}
 use Rattle.std.specs.List.{All, cons_option}
-use Rattle.std.proofs.lemmas.Bool.{cases_Bool, cases_eq, eq-eqb, ne_eqb}
+use Rattle.std.proofs.lemmas.Bool.{cases_Bool, cases_eq}
 use Rattle.std.proofs.lemmas.Bool.Decides.{nat_tests}
-use Rattle.std.proofs.lemmas.List.{append-nil, get_or-replicate, get_or-set_other, get_or-set_same, get_or_past, length-replicate, length-set}
+use Rattle.std.proofs.lemmas.List.{append-nil, get_or-replicate, get_or_past, length-replicate}
 use Rattle.algebra.specs.declared.binary.BinaryOp.{BinaryOp}
 use Rattle.model.specs.declared.entry.Entry.{Entry}
 use Rattle.std.proofs.lemmas.List.Elements.{All-nil, All-cons, All-head, All-tail, All-weaker}
@@ -24,36 +24,7 @@ use Rattle.spgemm.specs.Products.{HasOpenRow, IsSumRow}
 use Rattle.spgemm.proofs.Kept.{terms_inside}
 use Rattle.spgemm.proofs.SlotRows.{all_slots, found_row}
 use Rattle.spgemm.proofs.BitLaws.{without_bit}
-use Rattle.spgemm.proofs.SlotSums.{more_terms, sum_away, sum_here}
-
--- ---- one term more
-
-abbrev pub sum_with_term : BinaryOp → List ℕ → List ℕ → ℕ → ℕ → ℕ
-sum_with_term op bits words col word = option_map_or (λ s. apply op s word) (word_in bits words col) word
-
-pub sum_more : (op : BinaryOp) (terms : List Term) (col word : ℕ) (bits words bits' words' : List ℕ) → col < length words → ((k : ℕ) → has_bit bits' k ≡ (eqb k col || has_bit bits k)) → words' ≡ set words col (sum_with_term op bits words col word)
-    → AreColumnSums op terms bits words → AreColumnSums op (terms ++ term_at col word ∷ []) bits' words'
-sum_more op terms col word bits words bits' words' within bits_are words_are here =
-    let t = term_at col word in
-    let new = sum_with_term op bits words col word in
-    record {
-      sums_are = λ k k_in.
-          elim (cases_eq k col) [
-            | inl same ↦
-                let there : has_bit bits' k ≡ true = bits_are k ∙ ap (λ b. b || has_bit bits k) (eq-eqb k col same) in
-                let word_is : get_or words' k 0 ≡ new = ap (λ ws. get_or ws k 0) words_are ∙ ap (λ k. get_or (set words col new) k 0) same ∙ get_or-set_same words col new 0 within in
-                let sum : sum_at op k (terms ++ t ∷ []) ≡ Some new =
-                sum_here op k terms t (sym same)
-                ∙ ap (λ o. Some (option_map_or (λ s. apply op s word) o word)) (ap (λ k. sum_at op k terms) same ∙ sym (here.sums_are col within)) in
-                rw (there, word_is, sum) refl
-            | inr other ↦
-                let long : length words' ≡ length words = ap length words_are ∙ length-set words col new in
-                let was : word_in bits words k ≡ sum_at op k terms = here.sums_are k (omega arith) in
-                let bit : has_bit bits' k ≡ has_bit bits k = bits_are k ∙ ap (λ b. b || has_bit bits k) (ne_eqb k col other) in
-                let word_is : get_or words' k 0 ≡ get_or words k 0 = ap (λ ws. get_or ws k 0) words_are ∙ get_or-set_other words col k new 0 other in
-                rw (bit, word_is) (was ∙ sym (sum_away op k terms t (λ e. other (sym e))))
-          ];
-    }
+use Rattle.spgemm.proofs.SlotSums.{more_terms}
 
 -- ---- a product more
 

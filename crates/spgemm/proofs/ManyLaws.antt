@@ -1,7 +1,7 @@
 -- Sums that begin at the monoid's identity, one term after another.
-use Rattle.std.proofs.Common.{◌≡◌, ℕ, ◌<◌, true, false, Bool, List, [], ◌∷◌, ◌++◌, ◌+◌, length, get_or, replicate, set, take, Some, None, sym, subst, ◌∙◌, inl, inr, arith, refl}
+use Rattle.std.proofs.Common.{◌≡◌, ℕ, ◌<◌, true, false, Bool, List, [], ◌∷◌, ◌++◌, ◌+◌, length, get_or, set, take, Some, None, sym, subst, ◌∙◌, inl, inr, arith, refl}
 use Rattle.std.proofs.lemmas.Bool.{cases_Bool, cases_eq}
-use Rattle.std.proofs.lemmas.List.{get_or-replicate, get_or-set_other, get_or-set_same, length-set}
+use Rattle.std.proofs.lemmas.List.{get_or-set_other, get_or-set_same, length-set}
 use Rattle.algebra.proofs.Monoids.{monoid-identity}
 use Rattle.algebra.proofs.Words.{IsWordOf-eval}
 use Rattle.algebra.specs.Monoids.{identity_of}
@@ -24,13 +24,6 @@ product_first semiring a b =
     let word : IsWordOf add.op.domain (apply mul a b) = rw semiring.adds_answers (IsWordOf-eval mul.kind mul.domain a b) in
     let offered : offers (combines_by add.kind) add.op.domain ≡ true = rw (← kind) add.op.offered in
     rw kind (monoid-identity add.kind add.op.domain (apply mul a b) offered word)
-
--- no column is marked yet
-pub none_marked : (add : Monoid) (words : List ℕ) (n : ℕ) → ((col : ℕ) → col < length words → get_or words col 0 ≡ identity_of add.kind add.op.domain) → length words ≡ n → AreMarkedSums add [] (replicate n false) words
-none_marked add words n each long = record {
-  sums_are = λ col within. let none : get_or (replicate n false) col false ≡ false = get_or-replicate n col false false (omega arith) in rw none refl;
-  others_are = λ col within none. each col within;
-}
 
 -- one term more
 pub marked_more : (add : Monoid) (terms : List Term) (col word : ℕ) (marks : List Bool) (words : List ℕ) → col < length words → length marks ≡ length words → apply add.op (identity_of add.kind add.op.domain) word ≡ word

@@ -361,9 +361,6 @@ agree_below p q width (t ∷ ts) below same =
       | false ↦ rest
     ])
 
-inside_width : (col width : ℕ) (b : Bool) → col < width → (ltb col width && b) ≡ b
-inside_width col width b below = let test : ltb col width ≡ true = grind (arith, nat_tests) in rw test refl
-
 -- so the row at the slots is the one that the mask keeps
 pub held_row : (r : Result (Unit {0}) NoMemory) (test : MaskTest) (op : BinaryOp) (row first past : ℕ) (cols words slots : List ℕ) (terms : List Term) (old new : FiberLists) → test.complement ≡ false
     → AllPairs (λ p q. p < q) cols → All (λ col. (first ≤ col) × (col < past)) cols → slots ≡ counted test.valued (entries_along 0 cols words)
