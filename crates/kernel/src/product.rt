@@ -10,7 +10,7 @@ ghost use Rattle.store.specs.Stored.{content_of};
 use algebra::Semiring;
 use masks::Mask;
 use model::{Form, NoMemory};
-use spgemm::{multiply_rows, multiply_vector};
+use spgemm::{multiply_rows_under, multiply_vector};
 use std::alloc::Global;
 use std::ops::Range;
 use store::{RowBlock, Store};
@@ -34,7 +34,7 @@ pub(crate) fn multiplied_rows(
 {
     match form {
         Form::MatrixMatrix | Form::MatrixVector => {
-            multiply_rows(alloc, a, b, mask, semiring, range)
+            multiply_rows_under(alloc, a, b, mask, semiring, range)
         }
         Form::VectorMatrix => multiply_vector(alloc, a, b, mask, semiring, range),
     }
