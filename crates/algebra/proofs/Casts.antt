@@ -104,7 +104,8 @@ truth-cast from to word p =
     let small = IsWordOf-lt from word p in truth-word from word small ∙ sym (truth-word to word small)
 
 -- a cast to a domain is the same, whatever domain it was held to be of
-pub own-cast : (from to : Domain) (word : ℕ) → are_compatible from to ≡ true → IsWordOf from word → cast_of from to word ≡ cast_of to to word
+pub own-cast : (from to : Domain) (word : ℕ) → are_compatible from to ≡ true → IsWordOf from word
+    → cast_of from to word ≡ cast_of to to word
 own-cast from to word h p =
     sym (cast_own to (cast_of from to word) (IsWordOf-cast from to word)) ∙ ap (word_of to) (value_of-cast from to word h p)
 

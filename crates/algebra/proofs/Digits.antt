@@ -30,13 +30,15 @@ user_number-no_text digits no_text = elim (cases_Bool (list_all is_ascii_digit d
 ]
 
 -- what is Ok where a fact holds, and fails only where it does not: so the fact does not hold where it failed
-pub fails-without : {T E : Type 0} (P : T → Type 0) (Q : E → Type 0) (U : Type 0) (r : Result T E) → result_ok r ≡ None → MatchResult r P (λ e. ¬ U × Q e) → ¬ U
+pub fails-without : {T E : Type 0} (P : T → Type 0) (Q : E → Type 0) (U : Type 0) (r : Result T E) → result_ok r ≡ None
+    → MatchResult r P (λ e. ¬ U × Q e) → ¬ U
 fails-without P Q U (Ok x) none h = absurd (cc)
 fails-without P Q U (Err e) none h = h.0
 
 -- what `parse` reads of at most 10 bytes
 pub read-user_number : {E : Type 0} (digits : List ℕ) (r : Result ℕ E) → length digits ≤ 10
-    → OkIff r ((list_all is_ascii_digit digits ≡ true) × (0 < length digits) × (digits_value 10 digits < 2 ^ 32)) (digits_value 10 digits)
+    → OkIff r ((list_all is_ascii_digit digits ≡ true) × (0 < length digits) × (digits_value 10 digits < 2 ^ 32))
+    (digits_value 10 digits)
     → result_ok r ≡ user_number digits
 read-user_number digits (Ok n) short h =
     let some : nat_le 1 (length digits) ≡ true = le-leb 1 (length digits) h.0.1 in

@@ -14,7 +14,8 @@ pub record CombinesWords (IsWord : ℕ → Type 0) (f : ℕ → ℕ → ℕ) : T
   pub associates : (a b c : ℕ) → IsWord a → IsWord b → IsWord c → f (f a b) c ≡ f a (f b c)
 
 -- two words can be put on in either order
-transposed : (W : ℕ → Type 0) (f : ℕ → ℕ → ℕ) (laws : CombinesWords W f) (c x y : ℕ) → W c → W x → W y → f (f c x) y ≡ f (f c y) x
+transposed : (W : ℕ → Type 0) (f : ℕ → ℕ → ℕ) (laws : CombinesWords W f) (c x y : ℕ) → W c → W x → W y
+    → f (f c x) y ≡ f (f c y) x
 transposed W f laws c x y p q r =
     laws.associates c x y p q r ∙ ap (f c) (laws.commutes x y q r) ∙ sym (laws.associates c y x p r q)
 
@@ -60,7 +61,8 @@ fold-permutation W f laws xs ys c permutes all word =
     ys permutes).1
 
 -- a fold of words from a word is a word
-pub fold-word : (W : ℕ → Type 0) (f : ℕ → ℕ → ℕ) (laws : CombinesWords W f) (xs : List ℕ) (c : ℕ) → W c → W (fold f c xs)
+pub fold-word : (W : ℕ → Type 0) (f : ℕ → ℕ → ℕ) (laws : CombinesWords W f) (xs : List ℕ) (c : ℕ) → W c
+    → W (fold f c xs)
 fold-word W f laws [] c p = p
 fold-word W f laws (x ∷ xs) c p = fold-word W f laws xs (f c x) (laws.word c x)
 

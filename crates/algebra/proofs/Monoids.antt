@@ -26,7 +26,8 @@ Associates kind d a b c = eval_of kind d (eval_of kind d a b) c ≡ eval_of kind
 
 -- ---- sums and products
 
-plus-associates : (d : Domain) (a b c : ℕ) → offers binary.Plus d ≡ true → IsWordOf d a → IsWordOf d b → IsWordOf d c → Associates binary.Plus d a b c
+plus-associates : (d : Domain) (a b c : ℕ) → offers binary.Plus d ≡ true → IsWordOf d a → IsWordOf d b → IsWordOf d c
+    → Associates binary.Plus d a b c
 plus-associates d a b c h p q r =
     let small_a = IsWordOf-lt d a p in
     let small_b = IsWordOf-lt d b q in
@@ -36,7 +37,8 @@ plus-associates d a b c h p q r =
     rw (← left, ← right, ← plus-words d a b h small_a small_b, ← plus-words d b c h small_b small_c, mod-add-mod, add-mod-mod)
     (omega arith)
 
-times-associates : (d : Domain) (a b c : ℕ) → offers binary.Times d ≡ true → IsWordOf d a → IsWordOf d b → IsWordOf d c → Associates binary.Times d a b c
+times-associates : (d : Domain) (a b c : ℕ) → offers binary.Times d ≡ true → IsWordOf d a → IsWordOf d b → IsWordOf d c
+    → Associates binary.Times d a b c
 times-associates d a b c h p q r =
     let small_a = IsWordOf-lt d a p in
     let small_b = IsWordOf-lt d b q in
@@ -61,13 +63,15 @@ int_max_assoc : (x y z : ℤ) → int_max (int_max x y) z ≡ int_max x (int_max
 int_max_assoc x y z = omega (arith, ints, clamps)
 
 -- the value of MIN is the lesser of the two values
-min-value : (d : Domain) (a b : ℕ) → IsWordOf d a → IsWordOf d b → value_of d (eval_of binary.Min d a b) ≡ int_min (value_of d a) (value_of d b)
+min-value : (d : Domain) (a b : ℕ) → IsWordOf d a → IsWordOf d b
+    → value_of d (eval_of binary.Min d a b) ≡ int_min (value_of d a) (value_of d b)
 min-value d a b p q =
     rw (min-words d a b p q)
     (elim (int_lt (value_of d b) (value_of d a)) as (λ t. value_of d (cond t b a) ≡ cond t (value_of d b) (value_of d a)) [ true ↦ refl | false ↦ refl ])
 
 -- the value of MAX is the greater of the two values
-max-value : (d : Domain) (a b : ℕ) → IsWordOf d a → IsWordOf d b → value_of d (eval_of binary.Max d a b) ≡ int_max (value_of d a) (value_of d b)
+max-value : (d : Domain) (a b : ℕ) → IsWordOf d a → IsWordOf d b
+    → value_of d (eval_of binary.Max d a b) ≡ int_max (value_of d a) (value_of d b)
 max-value d a b p q =
     rw (max-words d a b p q)
     (elim (int_lt (value_of d b) (value_of d a)) as (λ t. value_of d (cond t a b) ≡ cond t (value_of d a) (value_of d b)) [ true ↦ refl | false ↦ refl ])
@@ -81,14 +85,16 @@ max-associates d a b c p q r =
     ap (word_of d) (rw (max-value d a b p q, max-value d b c q r) (int_max_assoc (value_of d a) (value_of d b) (value_of d c)))
 
 -- no value of a word is past the greatest
-below_greatest : (d : Domain) (a : ℕ) → IsWordOf d a → int_min (value_of d (word_of d (greatest_of d))) (value_of d a) ≡ value_of d a
+below_greatest : (d : Domain) (a : ℕ) → IsWordOf d a → int_min (value_of d (word_of d (greatest_of d)))
+    (value_of d a) ≡ value_of d a
 below_greatest Bool a p = each_truth (λ w. int_min (pos 1) (value_of Bool w) ≡ value_of Bool w) refl refl a p
 below_greatest Int64 a p = omega (arith, ints, clamps)
 below_greatest Uint64 a p = omega (arith, ints, clamps)
 below_greatest (User k) a p = omega (arith, ints, clamps)
 
 -- no value of a word is before the least
-above_least : (d : Domain) (a : ℕ) → IsWordOf d a → int_max (value_of d (word_of d (least_of d))) (value_of d a) ≡ value_of d a
+above_least : (d : Domain) (a : ℕ) → IsWordOf d a → int_max (value_of d (word_of d (least_of d)))
+    (value_of d a) ≡ value_of d a
 above_least Bool a p = each_truth (λ w. int_max (pos 0) (value_of Bool w) ≡ value_of Bool w) refl refl a p
 above_least Int64 a p = omega (arith, ints, clamps)
 above_least Uint64 a p = omega (arith, ints, clamps)
@@ -105,7 +111,8 @@ max-identity d a p = ap (word_of d) (above_least d a p) ∙ cast_own d a p
 or_assoc : (a b c : ℕ) → bit_or (bit_or a b) c ≡ bit_or a (bit_or b c)
 or_assoc a b c = same_from_bits _ _ (λ i. simp bit_at_or (omega arith))
 
-or-associates : (d : Domain) (a b c : ℕ) → offers binary.Bor d ≡ true → IsWordOf d a → IsWordOf d b → IsWordOf d c → Associates binary.Bor d a b c
+or-associates : (d : Domain) (a b c : ℕ) → offers binary.Bor d ≡ true → IsWordOf d a → IsWordOf d b → IsWordOf d c
+    → Associates binary.Bor d a b c
 or-associates d a b c h p q r =
     let small_a = IsWordOf-lt d a p in
     let small_b = IsWordOf-lt d b q in
@@ -121,7 +128,8 @@ or-associates d a b c h p q r =
 and_lt : (a b : ℕ) → a < 2 ^ 64 → bit_and a b < 2 ^ 64
 and_lt a b p = omega (arith, and_le_l a b)
 
-and-associates : (d : Domain) (a b c : ℕ) → offers binary.Band d ≡ true → IsWordOf d a → IsWordOf d b → IsWordOf d c → Associates binary.Band d a b c
+and-associates : (d : Domain) (a b c : ℕ) → offers binary.Band d ≡ true → IsWordOf d a → IsWordOf d b → IsWordOf d c
+    → Associates binary.Band d a b c
 and-associates d a b c h p q r =
     let small_a = IsWordOf-lt d a p in
     let small_b = IsWordOf-lt d b q in
@@ -134,7 +142,8 @@ and-associates d a b c h p q r =
     )
     (and_assoc c a b)
 
-xor-associates : (d : Domain) (a b c : ℕ) → offers binary.Bxor d ≡ true → IsWordOf d a → IsWordOf d b → IsWordOf d c → Associates binary.Bxor d a b c
+xor-associates : (d : Domain) (a b c : ℕ) → offers binary.Bxor d ≡ true → IsWordOf d a → IsWordOf d b → IsWordOf d c
+    → Associates binary.Bxor d a b c
 xor-associates d a b c h p q r =
     let small_a = IsWordOf-lt d a p in
     let small_b = IsWordOf-lt d b q in
@@ -158,7 +167,8 @@ monoid-word Plus d a b = IsWordOf-word_of d _
 monoid-word _ d a b = IsWordOf-word_of d _
 
 -- the identity is a word
-pub identity-word : (kind : MonoidKind) (d : Domain) → offers (combines_by kind) d ≡ true → IsWordOf d (identity_of kind d)
+pub identity-word : (kind : MonoidKind) (d : Domain) → offers (combines_by kind) d ≡ true
+    → IsWordOf d (identity_of kind d)
 identity-word Min d h = IsWordOf-word_of d (greatest_of d)
 identity-word Max d h = IsWordOf-word_of d (least_of d)
 identity-word Band Bool h = absurd (cc)

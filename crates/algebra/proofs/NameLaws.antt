@@ -56,7 +56,8 @@ user_number-decimal k small =
     rw (some, few, digits, number, fits) refl
 
 -- so is each domain, whose number has 32 bits
-pub domain-named : (d : Domain) → ((k : ℕ) → d ≡ domains.User k → k < 2 ^ 32) → domain_from_name (domain_name d) ≡ Some d
+pub domain-named : (d : Domain) → ((k : ℕ) → d ≡ domains.User k → k < 2 ^ 32)
+    → domain_from_name (domain_name d) ≡ Some d
 unfolding domain_from_name
 domain-named domains.Bool fits = refl
 domain-named domains.Int64 fits = refl
@@ -65,7 +66,8 @@ domain-named (domains.User k) fits = ap (option_map domains.User) (user_number-d
 
 -- ---- what is found has the name
 
-found : {K : Type 0} (name : K → List ℕ) (word : List ℕ) (kinds : List K) → IfSome (find (λ kind. bytes_eq (name kind) word) kinds) (λ kind. name kind ≡ word)
+found : {K : Type 0} (name : K → List ℕ) (word : List ℕ) (kinds : List K)
+    → IfSome (find (λ kind. bytes_eq (name kind) word) kinds) (λ kind. name kind ≡ word)
 found name word [] = tt
 found name word (kind ∷ kinds) =
     elim (cases_Bool (bytes_eq (name kind) word)) [

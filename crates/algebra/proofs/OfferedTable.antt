@@ -148,17 +148,22 @@ semiring_rows =
 abbrev row_of : List ℕ → (Domain → Bool) → (Domain → Domain) → ℕ → Row
 row_of name on answer k = (name, filter on (domains_with k), map answer (filter on (domains_with k)))
 
-pub unary-offered : (k : ℕ) → map (λ kind. row_of (unary_name kind) (offers_unary kind) (λ d. d) k) unary_kinds ≡ unary_rows
+pub unary-offered : (k : ℕ)
+    → map (λ kind. row_of (unary_name kind) (offers_unary kind) (λ d. d) k) unary_kinds ≡ unary_rows
 unary-offered k = refl
 
-pub binary-offered : (k : ℕ) → map (λ kind. row_of (binary_name kind) (offers kind) (answer_domain kind) k) binary_kinds ≡ binary_rows
+pub binary-offered : (k : ℕ)
+    → map (λ kind. row_of (binary_name kind) (offers kind) (answer_domain kind) k) binary_kinds ≡ binary_rows
 binary-offered k = refl
 
-pub monoid-offered : (k : ℕ) → map (λ kind. row_of (monoid_name kind) (offers (combines_by kind)) (answer_domain (combines_by kind)) k) monoid_kinds ≡ monoid_rows
+pub monoid-offered : (k : ℕ)
+    → map (λ kind. row_of (monoid_name kind) (offers (combines_by kind)) (answer_domain (combines_by kind)) k) monoid_kinds ≡ monoid_rows
 monoid-offered k = refl
 
-pub index-offered : (k : ℕ) → map (λ kind. row_of (index_name kind) (offers_index kind) (λ d. index_answer_domain kind) k) index_kinds ≡ index_rows k
+pub index-offered : (k : ℕ)
+    → map (λ kind. row_of (index_name kind) (offers_index kind) (λ d. index_answer_domain kind) k) index_kinds ≡ index_rows k
 index-offered k = refl
 
-pub semiring-offered : (k : ℕ) → map (λ add. (monoid_name add, map (λ d. map binary_name (filter (λ multiply. offers_semiring add multiply d) binary_kinds)) (domains_with k))) monoid_kinds ≡ semiring_rows
+pub semiring-offered : (k : ℕ)
+    → map (λ add. (monoid_name add, map (λ d. map binary_name (filter (λ multiply. offers_semiring add multiply d) binary_kinds)) (domains_with k))) monoid_kinds ≡ semiring_rows
 semiring-offered k = refl

@@ -21,7 +21,8 @@ pub monoid-identity_right : (kind : MonoidKind) (d : Domain) (a : ℕ)
 monoid-identity_right kind d a h p =
     monoid-commutes kind d a (identity_of kind d) h p (identity-word kind d h) ∙ monoid-identity kind d a h p
 
-monoid-laws : (kind : MonoidKind) (d : Domain) → offers (combines_by kind) d ≡ true → CombinesWords (IsWordOf d) (eval_of (combines_by kind) d)
+monoid-laws : (kind : MonoidKind) (d : Domain) → offers (combines_by kind) d ≡ true
+    → CombinesWords (IsWordOf d) (eval_of (combines_by kind) d)
 monoid-laws kind d h = record {
   word = monoid-word kind d;
   commutes = λ a b p q. monoid-commutes kind d a b h p q;
@@ -31,14 +32,16 @@ monoid-laws kind d h = record {
 -- a fold can begin at the identity
 begins_at_identity : (kind : MonoidKind) (d : Domain) (word : ℕ) (words : List ℕ)
     → offers (combines_by kind) d ≡ true → All (IsWordOf d) (word ∷ words)
-    → fold (eval_of (combines_by kind) d) (identity_of kind d) (word ∷ words) ≡ fold (eval_of (combines_by kind) d) word words
+    → fold (eval_of (combines_by kind) d) (identity_of kind d)
+    (word ∷ words) ≡ fold (eval_of (combines_by kind) d) word words
 begins_at_identity kind d word words h all =
     ap (λ first. fold (eval_of (combines_by kind) d) first words) (monoid-identity kind d word h (all zero word (omega arith)))
 
 -- a fold from the identity is the sum, or the identity where there is no word
 pub sum-from_identity : (kind : MonoidKind) (d : Domain) (words : List ℕ)
     → offers (combines_by kind) d ≡ true → All (IsWordOf d) words
-    → fold (eval_of (combines_by kind) d) (identity_of kind d) words ≡ unwrap_or (sum_of kind d words) (identity_of kind d)
+    → fold (eval_of (combines_by kind) d) (identity_of kind d) words ≡ unwrap_or (sum_of kind d words)
+    (identity_of kind d)
 sum-from_identity kind d [] h all = refl
 sum-from_identity kind d (word ∷ words) h all = begins_at_identity kind d word words h all
 

@@ -25,19 +25,22 @@ IsWordOf-eval kind d a b = IsWordOf-word_of (answer_domain kind d) (formula kind
 pub IsWordOf-unary_eval : (kind : UnaryKind) (d : Domain) (a : ℕ) → IsWordOf d (unary_eval_of kind d a)
 IsWordOf-unary_eval kind d a = IsWordOf-word_of d (unary_formula kind (value_of d a))
 
-pub IsWordOf-index_eval : (kind : IndexKind) (d : Domain) (a i j s : ℕ) → IsWordOf (index_answer_domain kind) (index_eval_of kind d a i j s)
+pub IsWordOf-index_eval : (kind : IndexKind) (d : Domain) (a i j s : ℕ)
+    → IsWordOf (index_answer_domain kind) (index_eval_of kind d a i j s)
 IsWordOf-index_eval kind d a i j s =
     IsWordOf-word_of (index_answer_domain kind) (index_formula kind (value_of d a) (pos i) (pos j) (value_of (scalar_domain kind d) s))
 
 -- the wrapping sum of two words is PLUS on each domain that has it
-pub plus-words : (d : Domain) (a b : ℕ) → offers Plus d ≡ true → a < 2 ^ 64 → b < 2 ^ 64 → (a + b) % 2 ^ 64 ≡ eval_of Plus d a b
+pub plus-words : (d : Domain) (a b : ℕ) → offers Plus d ≡ true → a < 2 ^ 64 → b < 2 ^ 64
+    → (a + b) % 2 ^ 64 ≡ eval_of Plus d a b
 plus-words Bool a b h p q = cc
 plus-words Int64 a b h p q = residue_from_wrap _ _ (omega arith) (wrapping_add-bits w64 a b p q)
 plus-words Uint64 a b h p q = refl
 plus-words (User k) a b h p q = cc
 
 -- the wrapping product of two words is TIMES on each domain that has it
-pub times-words : (d : Domain) (a b : ℕ) → offers Times d ≡ true → a < 2 ^ 64 → b < 2 ^ 64 → (a * b) % 2 ^ 64 ≡ eval_of Times d a b
+pub times-words : (d : Domain) (a b : ℕ) → offers Times d ≡ true → a < 2 ^ 64 → b < 2 ^ 64
+    → (a * b) % 2 ^ 64 ≡ eval_of Times d a b
 times-words Bool a b h p q = cc
 times-words Int64 a b h p q = residue_from_wrap _ _ (omega arith) (wrapping_mul-bits w64 a b p q)
 times-words Uint64 a b h p q = refl
@@ -77,12 +80,14 @@ or-words d a b h p q =
     rw (residue-value d a h p, residue-value d b h q) (sym (word_of-small d (bit_or a b) h (or_lt 64 a b p q)))
 
 -- BAND is `&` of the words
-pub and-words : (d : Domain) (a b : ℕ) → offers Band d ≡ true → a < 2 ^ 64 → b < 2 ^ 64 → bit_and a b ≡ eval_of Band d a b
+pub and-words : (d : Domain) (a b : ℕ) → offers Band d ≡ true → a < 2 ^ 64 → b < 2 ^ 64
+    → bit_and a b ≡ eval_of Band d a b
 and-words d a b h p q =
     let small : bit_and a b < 2 ^ 64 = omega (arith, and_le_l a b) in
     rw (residue-value d a h p, residue-value d b h q) (sym (word_of-small d (bit_and a b) h small))
 
 -- BXOR is `^` of the words
-pub xor-words : (d : Domain) (a b : ℕ) → offers Bxor d ≡ true → a < 2 ^ 64 → b < 2 ^ 64 → bit_xor a b ≡ eval_of Bxor d a b
+pub xor-words : (d : Domain) (a b : ℕ) → offers Bxor d ≡ true → a < 2 ^ 64 → b < 2 ^ 64
+    → bit_xor a b ≡ eval_of Bxor d a b
 xor-words d a b h p q =
     rw (residue-value d a h p, residue-value d b h q) (sym (word_of-small d (bit_xor a b) h (xor_lt 64 a b p q)))

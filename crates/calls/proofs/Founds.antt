@@ -22,16 +22,19 @@ nor (None ∷ xs) ys h = refl
 nor (Some x ∷ xs) ys h = nor xs ys h
 
 -- an object that isn't there
-missing : (count : ℕ) (out : Out (Option Signature)) (operation : Operation (Option Signature)) → list_all is_some (outputs_of out ++ inputs_of operation) ≡ false
+missing : (count : ℕ) (out : Out (Option Signature)) (operation : Operation (Option Signature))
+    → list_all is_some (outputs_of out ++ inputs_of operation) ≡ false
     → early_fault count (Operate out operation) ≡ Some status.UninitializedObject
 unfolding early_fault
 missing count out operation h = rw h refl
 
-pub fault-no_output : (count : ℕ) (out : Out (Option Signature)) (operation : Operation (Option Signature)) → list_all is_some (outputs_of out) ≡ false
+pub fault-no_output : (count : ℕ) (out : Out (Option Signature)) (operation : Operation (Option Signature))
+    → list_all is_some (outputs_of out) ≡ false
     → early_fault count (Operate out operation) ≡ Some status.UninitializedObject
 fault-no_output count out operation h = missing count out operation (neither {L = Signature} (outputs_of out) (inputs_of operation) h)
 
-pub fault-no_input : (count : ℕ) (out : Out (Option Signature)) (operation : Operation (Option Signature)) → list_all is_some (inputs_of operation) ≡ false
+pub fault-no_input : (count : ℕ) (out : Out (Option Signature)) (operation : Operation (Option Signature))
+    → list_all is_some (inputs_of operation) ≡ false
     → early_fault count (Operate out operation) ≡ Some status.UninitializedObject
 fault-no_input count out operation h = missing count out operation (nor {L = Signature} (outputs_of out) (inputs_of operation) h)
 
@@ -48,7 +51,8 @@ fault-some count out operation =
       | OfTwo computes a b ↦ elim out.mask as (λ mask. P mask (OfTwo computes a b)) [ None ↦ refl | Some m ↦ refl ]
     ]
 
-pub fault-known : (count : ℕ) (known_out : Out Signature) (known : Operation Signature) (out : Out (Option Signature)) (operation : Operation (Option Signature))
+pub fault-known : (count : ℕ) (known_out : Out Signature) (known : Operation Signature) (out : Out (Option Signature))
+    (operation : Operation (Option Signature))
     → renamed_out Some known_out ≡ out → renamed_operation Some known ≡ operation
     → early_fault count (Operate out operation) ≡ operation_fault known_out known
 fault-known count known_out known out operation same_out same_operation =

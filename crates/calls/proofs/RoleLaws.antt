@@ -18,11 +18,13 @@ use Rattle.model.specs.Renamed.{renamed_operation, renamed_out}
 use Rattle.model.specs.WriteBack.{result_of}
 
 -- the objects that take the roles of an output are its own
-mask_by_role : {K : Type 0} (c : K) (mask : Option K) → option_map (λ role. unwrap_or mask c) (option_map (λ m. Mask) mask) ≡ mask
+mask_by_role : {K : Type 0} (c : K) (mask : Option K) → option_map (λ role. unwrap_or mask c)
+    (option_map (λ m. Mask) mask) ≡ mask
 mask_by_role c None = refl
 mask_by_role c (Some m) = refl
 
-pub out_taken : {K : Type 0} (out : Out K) (operation : Operation K) → renamed_out (role_of (roles_of out operation)) (out_by_role out) ≡ out
+pub out_taken : {K : Type 0} (out : Out K) (operation : Operation K)
+    → renamed_out (role_of (roles_of out operation)) (out_by_role out) ≡ out
 out_taken {K = K} out (Fill value region) =
     elim out.mask as (λ (mask : Option K). let o : Out K = record out { mask = mask } in renamed_out (role_of (roles_of o (Fill value region))) (out_by_role o) ≡ o)
     [ None ↦ refl | Some m ↦ refl ]
@@ -33,17 +35,20 @@ out_taken {K = K} out (OfTwo computes a b) =
     elim out.mask as (λ (mask : Option K). let o : Out K = record out { mask = mask } in renamed_out (role_of (roles_of o (OfTwo computes a b))) (out_by_role o) ≡ o)
     [ None ↦ refl | Some m ↦ refl ]
 
-pub operation_taken : {K : Type 0} (out : Out K) (operation : Operation K) → renamed_operation (role_of (roles_of out operation)) (operation_by_role operation) ≡ operation
+pub operation_taken : {K : Type 0} (out : Out K) (operation : Operation K)
+    → renamed_operation (role_of (roles_of out operation)) (operation_by_role operation) ≡ operation
 operation_taken out (Fill value region) = refl
 operation_taken out (OfOne computes a) = refl
 operation_taken out (OfTwo computes a b) = refl
 
 -- what is known of the object of a role, along a way from one kind of name to another
-taken_mask : {K L : Type 0} (f : K → L) (c : K) (mask : Option K) → unwrap_or (option_map f mask) (f c) ≡ f (unwrap_or mask c)
+taken_mask : {K L : Type 0} (f : K → L) (c : K) (mask : Option K)
+    → unwrap_or (option_map f mask) (f c) ≡ f (unwrap_or mask c)
 taken_mask f c None = refl
 taken_mask f c (Some m) = refl
 
-role_renamed : {K L : Type 0} (f : K → L) (out : Out K) (operation : Operation K) (role : Role) → role_of (roles_of (renamed_out f out) (renamed_operation f operation)) role ≡ f (role_of (roles_of out operation) role)
+role_renamed : {K L : Type 0} (f : K → L) (out : Out K) (operation : Operation K) (role : Role)
+    → role_of (roles_of (renamed_out f out) (renamed_operation f operation)) role ≡ f (role_of (roles_of out operation) role)
 role_renamed f out (Fill value region) Old = refl
 role_renamed f out (Fill value region) Mask = taken_mask f out.c out.mask
 role_renamed f out (Fill value region) First = refl
@@ -57,9 +62,12 @@ role_renamed f out (OfTwo computes a b) Mask = taken_mask f out.c out.mask
 role_renamed f out (OfTwo computes a b) First = refl
 role_renamed f out (OfTwo computes a b) Second = refl
 
-pub role_known : {K L : Type 0} (known : K → Option L) (out : Out K) (operation : Operation K) (known_out : Out L) (known_operation : Operation L)
-    → renamed_out Some known_out ≡ renamed_out known out → renamed_operation Some known_operation ≡ renamed_operation known operation
-    → (role : Role) → known (role_of (roles_of out operation) role) ≡ Some (role_of (roles_of known_out known_operation) role)
+pub role_known : {K L : Type 0} (known : K → Option L) (out : Out K) (operation : Operation K) (known_out : Out L)
+    (known_operation : Operation L)
+    → renamed_out Some known_out ≡ renamed_out known out
+    → renamed_operation Some known_operation ≡ renamed_operation known operation
+    → (role : Role)
+    → known (role_of (roles_of out operation) role) ≡ Some (role_of (roles_of known_out known_operation) role)
 role_known {L = L} known out operation known_out known_operation same_out same_operation role =
     sym (role_renamed known out operation role)
     ∙ sym (ap (λ (o : Out (Option L)). role_of (roles_of o (renamed_operation known operation)) role) same_out)
@@ -68,21 +76,25 @@ role_known {L = L} known out operation known_out known_operation same_out same_o
 
 -- ---- recipes
 
-mask_roles : {K L : Type 0} (f : K → L) (mask : Option K) → option_map (λ m. Mask) (option_map f mask) ≡ option_map (λ m. Mask) mask
+mask_roles : {K L : Type 0} (f : K → L) (mask : Option K)
+    → option_map (λ m. Mask) (option_map f mask) ≡ option_map (λ m. Mask) mask
 mask_roles f None = refl
 mask_roles f (Some m) = refl
 
 out_by_role-renamed : {K L : Type 0} (f : K → L) (out : Out K) → out_by_role (renamed_out f out) ≡ out_by_role out
 out_by_role-renamed f out = ap (λ (mask : Option Role). let o : Out Role = record { c = Old; mask = mask; accum = out.accum; desc = out.desc } in o) (mask_roles f out.mask)
 
-operation_by_role-renamed : {K L : Type 0} (f : K → L) (operation : Operation K) → operation_by_role (renamed_operation f operation) ≡ operation_by_role operation
+operation_by_role-renamed : {K L : Type 0} (f : K → L) (operation : Operation K)
+    → operation_by_role (renamed_operation f operation) ≡ operation_by_role operation
 operation_by_role-renamed f (Fill value region) = refl
 operation_by_role-renamed f (OfOne computes a) = refl
 operation_by_role-renamed f (OfTwo computes a b) = refl
 
 -- the recipe of what is known of an operation's objects is the operation's
-pub recipe_along : {K : Type 0} (known : K → Option Signature) (out : Out K) (operation : Operation K) (known_out : Out Signature) (known_operation : Operation Signature) (recipe : Recipe)
-    → renamed_out Some known_out ≡ renamed_out known out → renamed_operation Some known_operation ≡ renamed_operation known operation
+pub recipe_along : {K : Type 0} (known : K → Option Signature) (out : Out K) (operation : Operation K)
+    (known_out : Out Signature) (known_operation : Operation Signature) (recipe : Recipe)
+    → renamed_out Some known_out ≡ renamed_out known out
+    → renamed_operation Some known_operation ≡ renamed_operation known operation
     → IsRecipeOf Some known_out known_operation recipe → IsRecipeOf known out operation recipe
 recipe_along known out operation known_out known_operation recipe same_out same_operation is = record {
   out_is = is.out_is ∙ sym (out_by_role-renamed Some known_out) ∙ ap (λ (o : Out (Option Signature)). out_by_role o) same_out ∙ out_by_role-renamed known out;
@@ -91,16 +103,20 @@ recipe_along known out operation known_out known_operation recipe same_out same_
 }
 
 -- ..also where there is a recipe only if there is no fault
-pub if_recipe : {K : Type 0} (result : Result Recipe Status) (fault : Option Status) (known : K → Option Signature) (out : Out K) (operation : Operation K) (known_out : Out Signature) (known_operation : Operation Signature)
-    → renamed_out Some known_out ≡ renamed_out known out → renamed_operation Some known_operation ≡ renamed_operation known operation
-    → MatchResult result (λ recipe. (fault ≡ None) × IsRecipeOf Some known_out known_operation recipe) (λ status. fault ≡ Some status)
+pub if_recipe : {K : Type 0} (result : Result Recipe Status) (fault : Option Status) (known : K → Option Signature)
+    (out : Out K) (operation : Operation K) (known_out : Out Signature) (known_operation : Operation Signature)
+    → renamed_out Some known_out ≡ renamed_out known out
+    → renamed_operation Some known_operation ≡ renamed_operation known operation
+    → MatchResult result (λ recipe. (fault ≡ None) × IsRecipeOf Some known_out known_operation recipe)
+    (λ status. fault ≡ Some status)
     → IfOk result (IsRecipeOf known out operation)
 if_recipe (Ok recipe) fault known out operation known_out known_operation same_out same_operation is = recipe_along known out operation known_out known_operation recipe same_out same_operation is.1
 if_recipe (Err status) fault known out operation known_out known_operation same_out same_operation is = tt
 
 -- ---- what recipes mean
 
-out_along : {K M : Type 0} (g : K → M) (out : Out K) (operation : Operation K) → renamed_out (λ role. g (role_of (roles_of out operation) role)) (out_by_role out) ≡ renamed_out g out
+out_along : {K M : Type 0} (g : K → M) (out : Out K) (operation : Operation K)
+    → renamed_out (λ role. g (role_of (roles_of out operation) role)) (out_by_role out) ≡ renamed_out g out
 out_along {K = K} g out (Fill value region) =
     elim out.mask as (λ (mask : Option K). let o : Out K = record out { mask = mask } in renamed_out (λ role. g (role_of (roles_of o (Fill value region)) role)) (out_by_role o) ≡ renamed_out g o)
     [ None ↦ refl | Some m ↦ refl ]
@@ -111,14 +127,18 @@ out_along {K = K} g out (OfTwo computes a b) =
     elim out.mask as (λ (mask : Option K). let o : Out K = record out { mask = mask } in renamed_out (λ role. g (role_of (roles_of o (OfTwo computes a b)) role)) (out_by_role o) ≡ renamed_out g o)
     [ None ↦ refl | Some m ↦ refl ]
 
-operation_along : {K M : Type 0} (g : K → M) (out : Out K) (operation : Operation K) → renamed_operation (λ role. g (role_of (roles_of out operation) role)) (operation_by_role operation) ≡ renamed_operation g operation
+operation_along : {K M : Type 0} (g : K → M) (out : Out K) (operation : Operation K)
+    → renamed_operation (λ role. g (role_of (roles_of out operation) role))
+    (operation_by_role operation) ≡ renamed_operation g operation
 operation_along g out (Fill value region) = refl
 operation_along g out (OfOne computes a) = refl
 operation_along g out (OfTwo computes a b) = refl
 
 -- a recipe means of an operation's objects what the operation leaves
-pub meaning_along : {K : Type 0} (known : K → Option Signature) (out : Out K) (operation : Operation K) (recipe : Recipe) (taken : Role → Object) (object : K → Object)
-    → IsRecipeOf known out operation recipe → ((role : Role) → taken role ≡ object (role_of (roles_of out operation) role))
+pub meaning_along : {K : Type 0} (known : K → Option Signature) (out : Out K) (operation : Operation K)
+    (recipe : Recipe) (taken : Role → Object) (object : K → Object)
+    → IsRecipeOf known out operation recipe
+    → ((role : Role) → taken role ≡ object (role_of (roles_of out operation) role))
     → (i j : ℕ) → meaning recipe taken i j ≡ result_of (renamed_out object out) (renamed_operation object operation) i j
 meaning_along known out operation recipe taken object is same i j =
     ap (λ (o : Out Role). result_of (renamed_out taken o) (renamed_operation taken (called recipe.step)) i j) is.out_is

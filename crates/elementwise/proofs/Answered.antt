@@ -26,12 +26,14 @@ made_along g from (r ∷ rs) inner words =
 length_zipped : (f : ℕ → ℕ → ℕ) (xs ys : List ℕ) → length ys ≡ length xs → length (zip_with f xs ys) ≡ length xs
 length_zipped f xs ys same = length-map (zip xs ys) (λ (p : ℕ × ℕ). f p.0 p.1) ∙ omega (arith, length-zip xs ys)
 
-along_made : (g : ℕ → ℕ → ℕ → ℕ) (o : ℕ) (cs ws : List ℕ) → entries_along o cs (zip_with (g o) cs ws) ≡ mapped g (entries_along o cs ws)
+along_made : (g : ℕ → ℕ → ℕ → ℕ) (o : ℕ) (cs ws : List ℕ)
+    → entries_along o cs (zip_with (g o) cs ws) ≡ mapped g (entries_along o cs ws)
 along_made g o [] ws = refl
 along_made g o (c ∷ cs) [] = refl
 along_made g o (c ∷ cs) (w ∷ ws) = ap (λ es. entry_at o c (g o c w) ∷ es) (along_made g o cs ws)
 
-length_made : (g : ℕ → ℕ → ℕ → ℕ) (from : ℕ) (ends : List FiberEnd) (inner words : List ℕ) → AreFilled from ends inner words → length (made_along g from ends inner words) ≡ length inner
+length_made : (g : ℕ → ℕ → ℕ → ℕ) (from : ℕ) (ends : List FiberEnd) (inner words : List ℕ)
+    → AreFilled from ends inner words → length (made_along g from ends inner words) ≡ length inner
 unfolding made_along last_end
 length_made g from [] inner words h = let whole = h.whole in omega arith
 length_made g from (r ∷ rs) inner words h =
@@ -43,7 +45,9 @@ length_made g from (r ∷ rs) inner words h =
     omega (arith, length-append (zip_with (g r.outer) (take n inner) (take n words)) (made_along g r.end rs (drop n inner) (drop n words)), length-take n inner, length-drop n inner)
 
 -- the entries with the words that were made
-made_entries : (g : ℕ → ℕ → ℕ → ℕ) (from : ℕ) (ends : List FiberEnd) (inner words : List ℕ) → AreFilled from ends inner words → entries_from from ends inner (made_along g from ends inner words) ≡ mapped g (entries_from from ends inner words)
+made_entries : (g : ℕ → ℕ → ℕ → ℕ) (from : ℕ) (ends : List FiberEnd) (inner words : List ℕ)
+    → AreFilled from ends inner words
+    → entries_from from ends inner (made_along g from ends inner words) ≡ mapped g (entries_from from ends inner words)
 unfolding made_along outers
 made_entries g from [] inner words h = refl
 made_entries g from (r ∷ rs) inner words h =
@@ -74,9 +78,11 @@ pub record AreAnswered (g : ℕ → ℕ → ℕ → ℕ) (ends : List FiberEnd) 
   pub rises : Rises start (drop at ends)
   pub whole : last_end start (drop at ends) ≡ length inner
   pub left : drop start words ≡ drop start old
-  pub made : take start words ++ made_along g start (drop at ends) (drop start inner) (drop start old) ≡ made_along g 0 ends inner old
+  pub made : take start words ++ made_along g start (drop at ends) (drop start inner)
+      (drop start old) ≡ made_along g 0 ends inner old
 
-pub answered_none : (g : ℕ → ℕ → ℕ → ℕ) (ends : List FiberEnd) (inner old : List ℕ) → AreFlat ends inner old → AreAnswered g ends inner old old 0 0
+pub answered_none : (g : ℕ → ℕ → ℕ → ℕ) (ends : List FiberEnd) (inner old : List ℕ) → AreFlat ends inner old
+    → AreAnswered g ends inner old old 0 0
 answered_none g ends inner old flat = let whole = flat.whole in record {
   long = refl;
   rises = flat.rises;
@@ -90,7 +96,9 @@ pub record IsNext (start end count : ℕ) : Type 0 where
   pub rises : start ≤ end
   pub inside : end ≤ count
 
-pub next_answered : (g : ℕ → ℕ → ℕ → ℕ) (ends : List FiberEnd) (inner old words : List ℕ) (at start : ℕ) (r : FiberEnd) → AreAnswered g ends inner old words at start → at < length ends → r ≡ get_or ends at r → IsNext start r.end (length inner)
+pub next_answered : (g : ℕ → ℕ → ℕ → ℕ) (ends : List FiberEnd) (inner old words : List ℕ) (at start : ℕ) (r : FiberEnd)
+    → AreAnswered g ends inner old words at start → at < length ends → r ≡ get_or ends at r
+    → IsNext start r.end (length inner)
 unfolding Rises last_end
 next_answered g ends inner old words at start r h within is =
     let split : drop at ends ≡ r ∷ drop (at + 1) ends = drop_more ends at r within ∙ ap (λ (q : FiberEnd). q ∷ drop (at + 1) ends) (sym is) in
@@ -103,8 +111,11 @@ next_answered g ends inner old words at start r h within is =
       inside = omega arith;
     }
 
-pub answered_more : (g : ℕ → ℕ → ℕ → ℕ) (ends : List FiberEnd) (inner old words : List ℕ) (at start : ℕ) (r : FiberEnd) (made : List ℕ) → AreAnswered g ends inner old words at start → at < length ends → r ≡ get_or ends at r → length old ≡ length inner
-    → made ≡ zip_with (g r.outer) (slice_range inner start r.end) (slice_range words start r.end) → AreAnswered g ends inner old (put_mid start (r.end - start) words made) (at + 1) r.end
+pub answered_more : (g : ℕ → ℕ → ℕ → ℕ) (ends : List FiberEnd) (inner old words : List ℕ) (at start : ℕ) (r : FiberEnd)
+    (made : List ℕ) → AreAnswered g ends inner old words at start → at < length ends → r ≡ get_or ends at r
+    → length old ≡ length inner
+    → made ≡ zip_with (g r.outer) (slice_range inner start r.end) (slice_range words start r.end)
+    → AreAnswered g ends inner old (put_mid start (r.end - start) words made) (at + 1) r.end
 unfolding Rises last_end made_along
 answered_more g ends inner old words at start r made h within is same made_is =
     let n = r.end - start in
@@ -140,7 +151,9 @@ answered_more g ends inner old words at start r made h within is same made_is =
           ∙ ap (λ xs. take start words ++ xs) (sym left_over) ∙ h.made;
     }
 
-pub answered_all : (g : ℕ → ℕ → ℕ → ℕ) (ends : List FiberEnd) (inner old words : List ℕ) (at start : ℕ) → AreAnswered g ends inner old words at start → AreFlat ends inner old → length ends ≤ at → entries_from 0 ends inner words ≡ mapped g (entries_from 0 ends inner old)
+pub answered_all : (g : ℕ → ℕ → ℕ → ℕ) (ends : List FiberEnd) (inner old words : List ℕ) (at start : ℕ)
+    → AreAnswered g ends inner old words at start → AreFlat ends inner old → length ends ≤ at
+    → entries_from 0 ends inner words ≡ mapped g (entries_from 0 ends inner old)
 unfolding made_along last_end
 answered_all g ends inner old words at start h flat all =
     let none = drop_all at ends all in

@@ -22,14 +22,16 @@ pub record IsPaired (a b x y : List Entry) (count : ℕ) (ends : List FiberEnd) 
   pub rises : Rises 0 ends
   pub whole : last_end 0 ends ≡ count
   pub apart : AreApart ends
-  pub so_far : (f : ℕ → ℕ → ℕ) → placed (outers 0 ends) (take count inner) (zip_with f (take count lefts) (take count rights)) ++ met f x y ≡ met f a b
+  pub so_far : (f : ℕ → ℕ → ℕ) → placed (outers 0 ends) (take count inner)
+      (zip_with f (take count lefts) (take count rights)) ++ met f x y ≡ met f a b
   pub ahead : All (λ (r : FiberEnd). All (λ e. r.outer < e.row) x) ends
   pub enough : count + length x ≤ room
   pub inner_long : length inner ≡ room
   pub lefts_long : length lefts ≡ room
   pub rights_long : length rights ≡ room
 
-pub paired_none : (a b : List Entry) (inner lefts rights : List ℕ) (room : ℕ) → length a ≤ room → length inner ≡ room → length lefts ≡ room → length rights ≡ room → IsPaired a b a b 0 [] inner lefts rights room
+pub paired_none : (a b : List Entry) (inner lefts rights : List ℕ) (room : ℕ) → length a ≤ room → length inner ≡ room
+    → length lefts ≡ room → length rights ≡ room → IsPaired a b a b 0 [] inner lefts rights room
 unfolding Rises last_end outers
 paired_none a b inner lefts rights room enough i l r = record {
   rises = tt;
@@ -44,7 +46,9 @@ paired_none a b inner lefts rights room enough i l r = record {
 }
 
 -- one fiber of each side, and those behind
-met_parts : (f : ℕ → ℕ → ℕ) (outer : ℕ) (fs gs x' y' : List Entry) → All (λ e. e.row ≡ outer) fs → All (λ e. e.row ≡ outer) gs → All (λ e. outer < e.row) x' → All (λ e. outer < e.row) y' → met f (fs ++ x') (gs ++ y') ≡ met f fs gs ++ met f x' y'
+met_parts : (f : ℕ → ℕ → ℕ) (outer : ℕ) (fs gs x' y' : List Entry) → All (λ e. e.row ≡ outer) fs
+    → All (λ e. e.row ≡ outer) gs → All (λ e. outer < e.row) x' → All (λ e. outer < e.row) y'
+    → met f (fs ++ x') (gs ++ y') ≡ met f fs gs ++ met f x' y'
 met_parts f outer fs gs x' y' at_fs at_gs late_x late_y =
     let here = met_same f fs (gs ++ y') gs (All-weaker (λ (e : Entry). e.row ≡ outer) (λ (e : Entry). word_at (gs ++ y') e.row e.col ≡ word_at gs e.row e.col)
     (λ e is. word_before e.row e.col gs y' (All-weaker (λ (z : Entry). outer < z.row) (λ (z : Entry). e.row ≢ z.row) (λ z late same. absurd (omega arith)) y' late_y)) fs at_fs) in
@@ -55,15 +59,19 @@ met_parts f outer fs gs x' y' at_fs at_gs late_x late_y =
 length_zipped : (f : ℕ → ℕ → ℕ) (ls rs : List ℕ) → length rs ≡ length ls → length (zip_with f ls rs) ≡ length ls
 length_zipped f ls rs same = length-map (zip ls rs) (λ (p : ℕ × ℕ). f p.0 p.1) ∙ omega (arith, length-zip ls rs)
 
-zipped_append : (f : ℕ → ℕ → ℕ) (ls rs ls' rs' : List ℕ) → length rs ≡ length ls → zip_with f (ls ++ ls') (rs ++ rs') ≡ zip_with f ls rs ++ zip_with f ls' rs'
+zipped_append : (f : ℕ → ℕ → ℕ) (ls rs ls' rs' : List ℕ) → length rs ≡ length ls
+    → zip_with f (ls ++ ls') (rs ++ rs') ≡ zip_with f ls rs ++ zip_with f ls' rs'
 zipped_append f [] [] ls' rs' same = refl
 zipped_append f [] (r ∷ rs) ls' rs' same = absurd (omega arith)
 zipped_append f (l ∷ ls) [] ls' rs' same = absurd (omega arith)
 zipped_append f (l ∷ ls) (r ∷ rs) ls' rs' same = ap (λ zs. f l r ∷ zs) (zipped_append f ls rs ls' rs' (omega arith))
 
 -- the positions of one outer index more, which has some or none
-pub placed_more : (f : ℕ → ℕ → ℕ) (outer count n : ℕ) (os os' inner lefts rights cs ls rs : List ℕ) → length os ≡ count → length inner ≡ count → length lefts ≡ count → length rights ≡ count → length cs ≡ n → length ls ≡ n → length rs ≡ n → os' ≡ os ++ replicate n outer
-    → placed os' (inner ++ cs) (zip_with f (lefts ++ ls) (rights ++ rs)) ≡ placed os inner (zip_with f lefts rights) ++ entries_along outer cs (zip_with f ls rs)
+pub placed_more : (f : ℕ → ℕ → ℕ) (outer count n : ℕ) (os os' inner lefts rights cs ls rs : List ℕ) → length os ≡ count
+    → length inner ≡ count → length lefts ≡ count → length rights ≡ count → length cs ≡ n → length ls ≡ n
+    → length rs ≡ n → os' ≡ os ++ replicate n outer
+    → placed os' (inner ++ cs)
+    (zip_with f (lefts ++ ls) (rights ++ rs)) ≡ placed os inner (zip_with f lefts rights) ++ entries_along outer cs (zip_with f ls rs)
 placed_more f outer count n os os' inner lefts rights cs ls rs o i l r c p q is =
     let words = zip_with f lefts rights in
     let more = zip_with f ls rs in
@@ -75,11 +83,16 @@ placed_more f outer count n os os' inner lefts rights cs ls rs o i l r c p q is 
     ∙ ap (λ z. placed os inner words ++ z) (placed_at_one outer cs more)
 
 -- so far, with one outer index more
-pub far_more : (f : ℕ → ℕ → ℕ) (outer count n room : ℕ) (a b x y x' y' fs gs : List Entry) (ends ends' : List FiberEnd) (inner lefts rights cs ls rs nc nl nr : List ℕ)
-    → IsPaired a b x y count ends inner lefts rights room → x ≡ fs ++ x' → y ≡ gs ++ y' → All (λ e. e.row ≡ outer) fs → All (λ e. e.row ≡ outer) gs → All (λ e. outer < e.row) x' → All (λ e. outer < e.row) y'
-    → entries_along outer cs (zip_with f ls rs) ≡ met f fs gs → length cs ≡ n → length ls ≡ n → length rs ≡ n → outers 0 ends' ≡ outers 0 ends ++ replicate n outer
-    → take (count + n) nc ≡ take count inner ++ cs → take (count + n) nl ≡ take count lefts ++ ls → take (count + n) nr ≡ take count rights ++ rs
-    → placed (outers 0 ends') (take (count + n) nc) (zip_with f (take (count + n) nl) (take (count + n) nr)) ++ met f x' y' ≡ met f a b
+pub far_more : (f : ℕ → ℕ → ℕ) (outer count n room : ℕ) (a b x y x' y' fs gs : List Entry) (ends ends' : List FiberEnd)
+    (inner lefts rights cs ls rs nc nl nr : List ℕ)
+    → IsPaired a b x y count ends inner lefts rights room → x ≡ fs ++ x' → y ≡ gs ++ y' → All (λ e. e.row ≡ outer) fs
+    → All (λ e. e.row ≡ outer) gs → All (λ e. outer < e.row) x' → All (λ e. outer < e.row) y'
+    → entries_along outer cs (zip_with f ls rs) ≡ met f fs gs → length cs ≡ n → length ls ≡ n → length rs ≡ n
+    → outers 0 ends' ≡ outers 0 ends ++ replicate n outer
+    → take (count + n) nc ≡ take count inner ++ cs → take (count + n) nl ≡ take count lefts ++ ls
+    → take (count + n) nr ≡ take count rights ++ rs
+    → placed (outers 0 ends') (take (count + n) nc)
+    (zip_with f (take (count + n) nl) (take (count + n) nr)) ++ met f x' y' ≡ met f a b
 far_more f outer count n room a b x y x' y' fs gs ends ends' inner lefts rights cs ls rs nc nl nr here is_x is_y at_fs at_gs late_x late_y found c l r os is_c is_l is_r =
     let whole = here.whole in
     let enough = here.enough in
@@ -96,11 +109,14 @@ far_more f outer count n room a b x y x' y' fs gs ends ends' inner lefts rights 
     ∙ ap (λ z. front ++ z) (rw (is_x, is_y) refl)
     ∙ here.so_far f)
 
-still_ahead : (x fs x' : List Entry) (ends : List FiberEnd) → x ≡ fs ++ x' → All (λ (r : FiberEnd). All (λ e. r.outer < e.row) x) ends → All (λ (r : FiberEnd). All (λ e. r.outer < e.row) x') ends
+still_ahead : (x fs x' : List Entry) (ends : List FiberEnd) → x ≡ fs ++ x'
+    → All (λ (r : FiberEnd). All (λ e. r.outer < e.row) x) ends
+    → All (λ (r : FiberEnd). All (λ e. r.outer < e.row) x') ends
 still_ahead x fs x' ends is h = All-weaker (λ (r : FiberEnd). All (λ e. r.outer < e.row) x) (λ (r : FiberEnd). All (λ e. r.outer < e.row) x') (λ r p. all_append_right (λ e. r.outer < e.row) fs x' (rw is at p)) ends h
 
 -- what is ahead of a fiber that has entries is ahead of its outer index
-below_outer : (v outer : ℕ) (fs x' : List Entry) → All (λ e. e.row ≡ outer) fs → All (λ e. v < e.row) (fs ++ x') → 0 < length fs → v < outer
+below_outer : (v outer : ℕ) (fs x' : List Entry) → All (λ e. e.row ≡ outer) fs → All (λ e. v < e.row) (fs ++ x')
+    → 0 < length fs → v < outer
 below_outer v outer [] x' at_fs h some = absurd (omega arith)
 below_outer v outer (e ∷ es) x' at_fs h some = let at = All-head (λ e. e.row ≡ outer) e es at_fs in let less = All-head (λ e. v < e.row) e (es ++ x') h in omega arith
 
@@ -111,10 +127,14 @@ nothing_met f (e ∷ es) [] over = met_none f (e ∷ es) [] (λ k d within. refl
 nothing_met f (e ∷ es) (z ∷ zs) over = absurd (let none = over (omega arith) in omega arith)
 
 -- an outer index at which nothing was found
-pub paired_same : (outer count room : ℕ) (a b x y x' y' fs gs : List Entry) (ends : List FiberEnd) (inner lefts rights cs ls rs nc nl nr : List ℕ)
-    → IsPaired a b x y count ends inner lefts rights room → x ≡ fs ++ x' → y ≡ gs ++ y' → All (λ e. e.row ≡ outer) fs → All (λ e. e.row ≡ outer) gs → All (λ e. outer < e.row) x' → All (λ e. outer < e.row) y'
-    → ((f : ℕ → ℕ → ℕ) → entries_along outer cs (zip_with f ls rs) ≡ met f fs gs) → length cs ≡ 0 → length ls ≡ 0 → length rs ≡ 0
-    → take (count + 0) nc ≡ take count inner ++ cs → take (count + 0) nl ≡ take count lefts ++ ls → take (count + 0) nr ≡ take count rights ++ rs → length nc ≡ room → length nl ≡ room → length nr ≡ room
+pub paired_same : (outer count room : ℕ) (a b x y x' y' fs gs : List Entry) (ends : List FiberEnd)
+    (inner lefts rights cs ls rs nc nl nr : List ℕ)
+    → IsPaired a b x y count ends inner lefts rights room → x ≡ fs ++ x' → y ≡ gs ++ y' → All (λ e. e.row ≡ outer) fs
+    → All (λ e. e.row ≡ outer) gs → All (λ e. outer < e.row) x' → All (λ e. outer < e.row) y'
+    → ((f : ℕ → ℕ → ℕ) → entries_along outer cs (zip_with f ls rs) ≡ met f fs gs) → length cs ≡ 0 → length ls ≡ 0
+    → length rs ≡ 0
+    → take (count + 0) nc ≡ take count inner ++ cs → take (count + 0) nl ≡ take count lefts ++ ls
+    → take (count + 0) nr ≡ take count rights ++ rs → length nc ≡ room → length nl ≡ room → length nr ≡ room
     → IsPaired a b x' y' (count + 0) ends nc nl nr room
 paired_same outer count room a b x y x' y' fs gs ends inner lefts rights cs ls rs nc nl nr here is_x is_y at_fs at_gs late_x late_y found c l r is_c is_l is_r long_c long_l long_r =
     let whole = here.whole in
@@ -133,10 +153,14 @@ paired_same outer count room a b x y x' y' fs gs ends inner lefts rights cs ls r
     }
 
 -- an outer index at which some were found
-pub paired_more : (outer count n room : ℕ) (a b x y x' y' fs gs : List Entry) (ends : List FiberEnd) (inner lefts rights cs ls rs nc nl nr : List ℕ)
-    → IsPaired a b x y count ends inner lefts rights room → x ≡ fs ++ x' → y ≡ gs ++ y' → All (λ e. e.row ≡ outer) fs → All (λ e. e.row ≡ outer) gs → All (λ e. outer < e.row) x' → All (λ e. outer < e.row) y'
-    → ((f : ℕ → ℕ → ℕ) → entries_along outer cs (zip_with f ls rs) ≡ met f fs gs) → length cs ≡ n → length ls ≡ n → length rs ≡ n → 0 < n → n ≤ length fs
-    → take (count + n) nc ≡ take count inner ++ cs → take (count + n) nl ≡ take count lefts ++ ls → take (count + n) nr ≡ take count rights ++ rs → length nc ≡ room → length nl ≡ room → length nr ≡ room
+pub paired_more : (outer count n room : ℕ) (a b x y x' y' fs gs : List Entry) (ends : List FiberEnd)
+    (inner lefts rights cs ls rs nc nl nr : List ℕ)
+    → IsPaired a b x y count ends inner lefts rights room → x ≡ fs ++ x' → y ≡ gs ++ y' → All (λ e. e.row ≡ outer) fs
+    → All (λ e. e.row ≡ outer) gs → All (λ e. outer < e.row) x' → All (λ e. outer < e.row) y'
+    → ((f : ℕ → ℕ → ℕ) → entries_along outer cs (zip_with f ls rs) ≡ met f fs gs) → length cs ≡ n → length ls ≡ n
+    → length rs ≡ n → 0 < n → n ≤ length fs
+    → take (count + n) nc ≡ take count inner ++ cs → take (count + n) nl ≡ take count lefts ++ ls
+    → take (count + n) nr ≡ take count rights ++ rs → length nc ≡ room → length nl ≡ room → length nr ≡ room
     → IsPaired a b x' y' (count + n) (ends ++ end_at outer (count + n) ∷ []) nc nl nr room
 unfolding outers
 paired_more outer count n room a b x y x' y' fs gs ends inner lefts rights cs ls rs nc nl nr here is_x is_y at_fs at_gs late_x late_y found c l r some few is_c is_l is_r long_c long_l long_r =
@@ -162,7 +186,9 @@ paired_more outer count n room a b x y x' y' fs gs ends inner lefts rights cs ls
     }
 
 -- where one side has nothing left, all were found
-pub paired_all : (a b x y : List Entry) (count : ℕ) (ends : List FiberEnd) (inner lefts rights : List ℕ) (room : ℕ) → IsPaired a b x y count ends inner lefts rights room → (0 < length x → length y ≡ 0) → AreMet a b count ends inner lefts rights
+pub paired_all : (a b x y : List Entry) (count : ℕ) (ends : List FiberEnd) (inner lefts rights : List ℕ) (room : ℕ)
+    → IsPaired a b x y count ends inner lefts rights room → (0 < length x → length y ≡ 0)
+    → AreMet a b count ends inner lefts rights
 paired_all a b x y count ends inner lefts rights room here over = record {
   rises = here.rises;
   whole = here.whole;
@@ -173,7 +199,9 @@ paired_all a b x y count ends inner lefts rights room here over = record {
 }
 
 -- the positions found lie flat
-pub flat_met : (f : ℕ → ℕ → ℕ) (a b : List Entry) (count : ℕ) (ends : List FiberEnd) (inner lefts rights words : List ℕ) → AreMet a b count ends inner lefts rights → InOrder a → count ≤ length inner → count ≤ length lefts → count ≤ length rights
+pub flat_met : (f : ℕ → ℕ → ℕ) (a b : List Entry) (count : ℕ) (ends : List FiberEnd)
+    (inner lefts rights words : List ℕ) → AreMet a b count ends inner lefts rights → InOrder a → count ≤ length inner
+    → count ≤ length lefts → count ≤ length rights
     → words ≡ zip_with f (take count lefts) (take count rights) → AreFlat ends (take count inner) words
 flat_met f a b count ends inner lefts rights words m order i l r is =
     let whole = m.whole in
@@ -186,12 +214,18 @@ flat_met f a b count ends inner lefts rights words m order i l r is =
       order = rw is (subst InOrder (sym (m.each f)) (met_order f a b order));
     }
 
-pub entries_met : (f : ℕ → ℕ → ℕ) (a b : List Entry) (count : ℕ) (ends : List FiberEnd) (inner lefts rights words : List ℕ) → AreMet a b count ends inner lefts rights → words ≡ zip_with f (take count lefts) (take count rights) → entries_from 0 ends (take count inner) words ≡ met f a b
+pub entries_met : (f : ℕ → ℕ → ℕ) (a b : List Entry) (count : ℕ) (ends : List FiberEnd)
+    (inner lefts rights words : List ℕ) → AreMet a b count ends inner lefts rights
+    → words ≡ zip_with f (take count lefts) (take count rights)
+    → entries_from 0 ends (take count inner) words ≡ met f a b
 entries_met f a b count ends inner lefts rights words m is = rw is (m.each f)
 
 -- what stands in front of one side stands in front of what both have
-pub order_met : (f : ℕ → ℕ → ℕ) (front a b : List Entry) (count : ℕ) (ends : List FiberEnd) (inner lefts rights words : List ℕ) → AreMet a b count ends inner lefts rights → words ≡ zip_with f (take count lefts) (take count rights)
-    → All (λ e. All (Precedes e) a) front → All (λ e. All (Precedes e) (entries_from 0 ends (take count inner) words)) front
+pub order_met : (f : ℕ → ℕ → ℕ) (front a b : List Entry) (count : ℕ) (ends : List FiberEnd)
+    (inner lefts rights words : List ℕ) → AreMet a b count ends inner lefts rights
+    → words ≡ zip_with f (take count lefts) (take count rights)
+    → All (λ e. All (Precedes e) a) front
+    → All (λ e. All (Precedes e) (entries_from 0 ends (take count inner) words)) front
 order_met f front a b count ends inner lefts rights words m is before n d within =
     subst (All (Precedes (get_or front n d))) (sym (entries_met f a b count ends inner lefts rights words m is))
     (met_all f (λ row col. Precedes (get_or front n d) (entry_at row col 0)) a b (before n d within))

@@ -20,11 +20,14 @@ pub record IsFirst (from : ℕ) (r : FiberEnd) (rs : List FiberEnd) (inner words
   pub room : (from + (r.end - from) ≡ r.end) × (r.end - from ≤ length inner)
   pub some : 0 < length (take (r.end - from) words)
   pub lengths : length (take (r.end - from) words) ≡ length (take (r.end - from) inner)
-  pub parts : entries_from from (r ∷ rs) inner words ≡ entries_along r.outer (take (r.end - from) inner) (take (r.end - from) words) ++ entries_from r.end rs (drop (r.end - from) inner) (drop (r.end - from) words)
+  pub parts : entries_from from (r ∷ rs) inner words ≡ entries_along r.outer (take (r.end - from) inner)
+      (take (r.end - from) words) ++ entries_from r.end rs (drop (r.end - from) inner) (drop (r.end - from) words)
   pub rest : AreFilled r.end rs (drop (r.end - from) inner) (drop (r.end - from) words)
-  pub behind : All (λ e. r.outer < e.row) (entries_from r.end rs (drop (r.end - from) inner) (drop (r.end - from) words))
+  pub behind : All (λ e. r.outer < e.row)
+      (entries_from r.end rs (drop (r.end - from) inner) (drop (r.end - from) words))
 
-pub is_first : (from : ℕ) (r : FiberEnd) (rs : List FiberEnd) (inner words : List ℕ) → AreFilled from (r ∷ rs) inner words → IsFirst from r rs inner words
+pub is_first : (from : ℕ) (r : FiberEnd) (rs : List FiberEnd) (inner words : List ℕ)
+    → AreFilled from (r ∷ rs) inner words → IsFirst from r rs inner words
 unfolding Rises last_end
 is_first from r rs inner words h =
     let n = r.end - from in

@@ -28,7 +28,8 @@ all_kept P test (c ∷ cs) (w ∷ ws) h =
       | false ↦ rest
     ]
 
-kept_rise : (test : ℕ → ℕ → Bool) (cs ws : List ℕ) → AllPairs (λ a b. a < b) cs → AllPairs (λ a b. a < b) (kept_indices test cs ws)
+kept_rise : (test : ℕ → ℕ → Bool) (cs ws : List ℕ) → AllPairs (λ a b. a < b) cs
+    → AllPairs (λ a b. a < b) (kept_indices test cs ws)
 unfolding kept_indices
 kept_rise test [] ws h = all_pairs_nil (λ a b. a < b)
 kept_rise test (c ∷ cs) [] h = all_pairs_nil (λ a b. a < b)
@@ -48,7 +49,9 @@ kept_long test (c ∷ cs) (w ∷ ws) = elim (test c w) as (λ b. length (cond b 
   | false ↦ kept_long test cs ws
 ]
 
-kept_along : (test : ℕ → ℕ → ℕ → Bool) (o : ℕ) (cs ws : List ℕ) → entries_along o (kept_indices (test o) cs ws) (kept_words (test o) cs ws) ≡ filter (λ e. test e.row e.col e.word) (entries_along o cs ws)
+kept_along : (test : ℕ → ℕ → ℕ → Bool) (o : ℕ) (cs ws : List ℕ)
+    → entries_along o (kept_indices (test o) cs ws) (kept_words (test o) cs ws) ≡ filter (λ e. test e.row e.col e.word)
+    (entries_along o cs ws)
 unfolding kept_indices kept_words
 kept_along test o [] ws = refl
 kept_along test o (c ∷ cs) [] = refl
@@ -68,10 +71,13 @@ pub record ArePassing (test : ℕ → ℕ → ℕ → Bool) (from : ℕ) (ends :
   pub order : InOrder (entries_from (from + start) (drop at ends) (drop start inner) (drop start words))
   pub flat : AreFlat to to_inner to_words
   pub below : All (λ r. All (λ q. r.outer < q.outer) (drop at ends)) to
-  pub entries : entries_from 0 to to_inner to_words ++ filter (λ e. test e.row e.col e.word) (entries_from (from + start) (drop at ends) (drop start inner) (drop start words))
+  pub entries : entries_from 0 to to_inner to_words ++ filter (λ e. test e.row e.col e.word)
+      (entries_from (from + start) (drop at ends) (drop start inner) (drop start words))
       ≡ filter (λ e. test e.row e.col e.word) (entries_from from ends inner words)
 
-pub passing_none : (test : ℕ → ℕ → ℕ → Bool) (from : ℕ) (ends : List FiberEnd) (inner words : List ℕ) → AreFilled from ends inner words → InOrder (entries_from from ends inner words) → ArePassing test from ends inner words [] [] [] 0 0
+pub passing_none : (test : ℕ → ℕ → ℕ → Bool) (from : ℕ) (ends : List FiberEnd) (inner words : List ℕ)
+    → AreFilled from ends inner words → InOrder (entries_from from ends inner words)
+    → ArePassing test from ends inner words [] [] [] 0 0
 unfolding outers
 passing_none test from ends inner words filled order =
     let same : from + 0 ≡ from = omega arith in
@@ -89,11 +95,14 @@ pub record IsNextPart (from start end count : ℕ) : Type 0 where
   pub rises : start ≤ end - from
   pub inside : end - from ≤ count
 
-split_at : (ends : List FiberEnd) (at : ℕ) (r : FiberEnd) → at < length ends → r ≡ get_or ends at r → drop at ends ≡ r ∷ drop (at + 1) ends
+split_at : (ends : List FiberEnd) (at : ℕ) (r : FiberEnd) → at < length ends → r ≡ get_or ends at r
+    → drop at ends ≡ r ∷ drop (at + 1) ends
 split_at ends at r within is = drop_more ends at r within ∙ ap (λ (q : FiberEnd). q ∷ drop (at + 1) ends) (sym is)
 
-pub next_part : (test : ℕ → ℕ → ℕ → Bool) (from : ℕ) (ends : List FiberEnd) (inner words : List ℕ) (to : List FiberEnd) (to_inner to_words : List ℕ) (at start : ℕ) (r : FiberEnd)
-    → ArePassing test from ends inner words to to_inner to_words at start → start ≤ length inner → at < length ends → r ≡ get_or ends at r → IsNextPart from start r.end (length inner)
+pub next_part : (test : ℕ → ℕ → ℕ → Bool) (from : ℕ) (ends : List FiberEnd) (inner words : List ℕ) (to : List FiberEnd)
+    (to_inner to_words : List ℕ) (at start : ℕ) (r : FiberEnd)
+    → ArePassing test from ends inner words to to_inner to_words at start → start ≤ length inner → at < length ends
+    → r ≡ get_or ends at r → IsNextPart from start r.end (length inner)
 next_part test from ends inner words to to_inner to_words at start r h room within is =
     let filled : AreFilled (from + start) (r ∷ drop (at + 1) ends) (drop start inner) (drop start words) = rw (split_at ends at r within is) at h.left in
     let f = is_first (from + start) r (drop (at + 1) ends) (drop start inner) (drop start words) filled in
@@ -102,10 +111,15 @@ next_part test from ends inner words to to_inner to_words at start r h room with
     let behind = length-drop start inner in
     record { low = omega arith; rises = omega arith; inside = omega arith }
 
-pub passing_more : (test : ℕ → ℕ → ℕ → Bool) (from : ℕ) (ends : List FiberEnd) (inner words : List ℕ) (to : List FiberEnd) (to_inner to_words : List ℕ) (at start : ℕ) (r : FiberEnd) (next : List FiberEnd) (next_inner next_words : List ℕ)
-    → ArePassing test from ends inner words to to_inner to_words at start → start ≤ length inner → at < length ends → r ≡ get_or ends at r
-    → next_inner ≡ to_inner ++ kept_indices (test r.outer) (slice_range inner start (r.end - from)) (slice_range words start (r.end - from))
-    → next_words ≡ to_words ++ kept_words (test r.outer) (slice_range inner start (r.end - from)) (slice_range words start (r.end - from))
+pub passing_more : (test : ℕ → ℕ → ℕ → Bool) (from : ℕ) (ends : List FiberEnd) (inner words : List ℕ)
+    (to : List FiberEnd) (to_inner to_words : List ℕ) (at start : ℕ) (r : FiberEnd) (next : List FiberEnd)
+    (next_inner next_words : List ℕ)
+    → ArePassing test from ends inner words to to_inner to_words at start → start ≤ length inner → at < length ends
+    → r ≡ get_or ends at r
+    → next_inner ≡ to_inner ++ kept_indices (test r.outer) (slice_range inner start (r.end - from))
+    (slice_range words start (r.end - from))
+    → next_words ≡ to_words ++ kept_words (test r.outer) (slice_range inner start (r.end - from))
+    (slice_range words start (r.end - from))
     → next ≡ cond (eqb (length to_inner) (length next_inner)) to (to ++ end_at r.outer (length next_inner) ∷ [])
     → ArePassing test from ends inner words next next_inner next_words (at + 1) (r.end - from)
 passing_more test from ends inner words to to_inner to_words at start r next next_inner next_words h room within is inner_is words_is next_is =
@@ -152,8 +166,10 @@ passing_more test from ends inner words to to_inner to_words at start r next nex
           ∙ h.entries);
     }
 
-pub passing_all : (test : ℕ → ℕ → ℕ → Bool) (from : ℕ) (ends : List FiberEnd) (inner words : List ℕ) (to : List FiberEnd) (to_inner to_words : List ℕ) (at start : ℕ)
-    → ArePassing test from ends inner words to to_inner to_words at start → length ends ≤ at → entries_from 0 to to_inner to_words ≡ filter (λ e. test e.row e.col e.word) (entries_from from ends inner words)
+pub passing_all : (test : ℕ → ℕ → ℕ → Bool) (from : ℕ) (ends : List FiberEnd) (inner words : List ℕ)
+    (to : List FiberEnd) (to_inner to_words : List ℕ) (at start : ℕ)
+    → ArePassing test from ends inner words to to_inner to_words at start → length ends ≤ at
+    → entries_from 0 to to_inner to_words ≡ filter (λ e. test e.row e.col e.word) (entries_from from ends inner words)
 unfolding outers
 passing_all test from ends inner words to to_inner to_words at start h all =
     let p = λ (e : Entry). test e.row e.col e.word in

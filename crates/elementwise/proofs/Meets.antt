@@ -31,7 +31,8 @@ abbrev pub meets : (ℕ → ℕ → ℕ) → Entry → Option ℕ → List Entry
 meets f e None es = es
 meets f e (Some word) es = entry_at e.row e.col (f e.word word) ∷ es
 
-pub met_cons : (f : ℕ → ℕ → ℕ) (e : Entry) (es b : List Entry) → met f (e ∷ es) b ≡ meets f e (word_at b e.row e.col) (met f es b)
+pub met_cons : (f : ℕ → ℕ → ℕ) (e : Entry) (es b : List Entry)
+    → met f (e ∷ es) b ≡ meets f e (word_at b e.row e.col) (met f es b)
 met_cons f e es b =
     elim (word_at b e.row e.col) as (λ o. cons_option (option_map (λ word. entry_at e.row e.col (f e.word word)) o) (met f es b) ≡ meets f e o (met f es b)) [
       | None ↦ refl
@@ -45,18 +46,22 @@ nothing_both : (f : ℕ → ℕ → ℕ) (x : Option ℕ) → of_both f x None �
 nothing_both f None = refl
 nothing_both f (Some x) = refl
 
-word_misses : (f : ℕ → ℕ → ℕ) (e : Entry) (o : Option ℕ) (es : List Entry) (i j : ℕ) → (eqb i e.row && eqb j e.col) ≡ false → word_at (meets f e o es) i j ≡ word_at es i j
+word_misses : (f : ℕ → ℕ → ℕ) (e : Entry) (o : Option ℕ) (es : List Entry) (i j : ℕ)
+    → (eqb i e.row && eqb j e.col) ≡ false → word_at (meets f e o es) i j ≡ word_at es i j
 unfolding word_at
 word_misses f e None es i j away = refl
 word_misses f e (Some word) es i j away = rw away refl
 
 -- at the entry's own position
-at_entry : (f : ℕ → ℕ → ℕ) (e : Entry) (o : Option ℕ) (es : List Entry) (i j : ℕ) (x : Option ℕ) → (eqb i e.row && eqb j e.col) ≡ true → word_at es i j ≡ of_both f x o → word_at (meets f e o es) i j ≡ of_both f (Some e.word) o
+at_entry : (f : ℕ → ℕ → ℕ) (e : Entry) (o : Option ℕ) (es : List Entry) (i j : ℕ) (x : Option ℕ)
+    → (eqb i e.row && eqb j e.col) ≡ true → word_at es i j ≡ of_both f x o
+    → word_at (meets f e o es) i j ≡ of_both f (Some e.word) o
 unfolding word_at
 at_entry f e None es i j x at rest = rest ∙ nothing_both f x
 at_entry f e (Some word) es i j x at rest = rw at refl
 
-pub met_words : (f : ℕ → ℕ → ℕ) (a b : List Entry) (i j : ℕ) → word_at (met f a b) i j ≡ of_both f (word_at a i j) (word_at b i j)
+pub met_words : (f : ℕ → ℕ → ℕ) (a b : List Entry) (i j : ℕ)
+    → word_at (met f a b) i j ≡ of_both f (word_at a i j) (word_at b i j)
 unfolding word_at
 met_words f [] b i j = refl
 met_words f (e ∷ es) b i j =
@@ -72,7 +77,8 @@ met_words f (e ∷ es) b i j =
 
 -- ---- positions
 
-pub met_all : (f : ℕ → ℕ → ℕ) (P : ℕ → ℕ → Type 0) (a b : List Entry) → All (λ e. P e.row e.col) a → All (λ e. P e.row e.col) (met f a b)
+pub met_all : (f : ℕ → ℕ → ℕ) (P : ℕ → ℕ → Type 0) (a b : List Entry) → All (λ e. P e.row e.col) a
+    → All (λ e. P e.row e.col) (met f a b)
 met_all f P [] b h = All-nil (λ e. P e.row e.col)
 met_all f P (e ∷ es) b h =
     let rest = met_all f P es b (All-tail (λ e. P e.row e.col) e es h) in
@@ -99,7 +105,8 @@ met_order f (e ∷ es) b h =
 pub met_append : (f : ℕ → ℕ → ℕ) (xs ys b : List Entry) → met f (xs ++ ys) b ≡ met f xs b ++ met f ys b
 met_append f xs ys b = filter_map-append (λ (e : Entry). option_map (λ word. entry_at e.row e.col (f e.word word)) (word_at b e.row e.col)) xs ys
 
-pub met_same : (f : ℕ → ℕ → ℕ) (a b b' : List Entry) → All (λ (e : Entry). word_at b e.row e.col ≡ word_at b' e.row e.col) a → met f a b ≡ met f a b'
+pub met_same : (f : ℕ → ℕ → ℕ) (a b b' : List Entry)
+    → All (λ (e : Entry). word_at b e.row e.col ≡ word_at b' e.row e.col) a → met f a b ≡ met f a b'
 met_same f [] b b' h = refl
 met_same f (e ∷ es) b b' h =
     met_cons f e es b
@@ -116,7 +123,8 @@ met_none f (e ∷ es) b h =
 
 -- ---- by rows and columns
 
-met_along : (f : ℕ → ℕ → ℕ) (cols : ℕ) (a b : List Entry) (i j : ℕ) → word_at (along cols (met f a b)) i j ≡ of_both f (word_at (along cols a) i j) (word_at (along cols b) i j)
+met_along : (f : ℕ → ℕ → ℕ) (cols : ℕ) (a b : List Entry) (i j : ℕ)
+    → word_at (along cols (met f a b)) i j ≡ of_both f (word_at (along cols a) i j) (word_at (along cols b) i j)
 met_along f cols a b i j =
     elim (cases_Bool (eqb cols 1)) [
       | inl one ↦ rw (as_column cols (met f a b) one, as_column cols a one, as_column cols b one) (word_at-transposed (met f a b) i j ∙ met_words f a b j i ∙ rw (word_at-transposed a i j, word_at-transposed b i j) refl)
@@ -124,7 +132,8 @@ met_along f cols a b i j =
     ]
 
 -- the same where both sides have their entries at the same positions
-pub beside_along : (f : ℕ → ℕ → ℕ) (cols : ℕ) (a b : List Entry) (i j : ℕ) → HaveSamePlaces a b → word_at (along cols (beside f a b)) i j ≡ of_both f (word_at (along cols a) i j) (word_at (along cols b) i j)
+pub beside_along : (f : ℕ → ℕ → ℕ) (cols : ℕ) (a b : List Entry) (i j : ℕ) → HaveSamePlaces a b
+    → word_at (along cols (beside f a b)) i j ≡ of_both f (word_at (along cols a) i j) (word_at (along cols b) i j)
 beside_along f cols a b i j same =
     elim (cases_Bool (eqb cols 1)) [
       | inl one ↦ rw (as_column cols (beside f a b) one, as_column cols a one, as_column cols b one) (word_at-transposed (beside f a b) i j ∙ beside_both f a b j i same ∙ rw (word_at-transposed a i j, word_at-transposed b i j) refl)
@@ -132,8 +141,11 @@ beside_along f cols a b i j same =
     ]
 
 -- the intersection of the rows of two sides, from that of their fibers
-pub part_met : (op : BinaryOp) (first past cols : ℕ) (a b : List Entry) (c d : Content) (old new : FiberLists) → HasMeet op a b old new → AreIn first past cols (along cols a)
-    → ((i j : ℕ) → first ≤ i → i < past → word_at (along cols a) i j ≡ c i j) → ((i j : ℕ) → first ≤ i → i < past → word_at (along cols b) i j ≡ d i j) → HasPart (met_content op c d) first past cols old new
+pub part_met : (op : BinaryOp) (first past cols : ℕ) (a b : List Entry) (c d : Content) (old new : FiberLists)
+    → HasMeet op a b old new → AreIn first past cols (along cols a)
+    → ((i j : ℕ) → first ≤ i → i < past → word_at (along cols a) i j ≡ c i j)
+    → ((i j : ℕ) → first ≤ i → i < past → word_at (along cols b) i j ≡ d i j)
+    → HasPart (met_content op c d) first past cols old new
 part_met op first past cols a b c d old new h in_a words_a words_b =
     let f = eval_of op.kind op.domain in
     record {
@@ -146,8 +158,10 @@ part_met op first past cols a b c d old new h in_a words_a words_b =
 
 -- ---- fibers with the same inner indices
 
-pub same_met : (f : ℕ → ℕ → ℕ) (outer : ℕ) (cols lefts rights : List ℕ) → length lefts ≡ length cols → length rights ≡ length cols → AllPairs (λ p q. p < q) cols
-    → entries_along outer cols (zip_with f lefts rights) ≡ met f (entries_along outer cols lefts) (entries_along outer cols rights)
+pub same_met : (f : ℕ → ℕ → ℕ) (outer : ℕ) (cols lefts rights : List ℕ) → length lefts ≡ length cols
+    → length rights ≡ length cols → AllPairs (λ p q. p < q) cols
+    → entries_along outer cols (zip_with f lefts rights) ≡ met f (entries_along outer cols lefts)
+    (entries_along outer cols rights)
 same_met f outer [] [] [] sl sr rises = refl
 same_met f outer [] (l ∷ lefts) rights sl sr rises = absurd (omega arith)
 same_met f outer [] [] (r ∷ rights) sl sr rises = absurd (omega arith)

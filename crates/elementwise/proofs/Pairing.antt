@@ -15,7 +15,9 @@ use Rattle.elementwise.proofs.Meets.{meets, met_cons, met_none}
 
 -- the first i indices of a were looked at and the first j of b, and k of them were found
 pub record IsPairing (a aw b bw : List ℕ) (i j k : ℕ) (inner lefts rights : List ℕ) : Type 0 where
-  pub so_far : (outer : ℕ) (f : ℕ → ℕ → ℕ) → entries_along outer (take k inner) (zip_with f (take k lefts) (take k rights)) ++ met f (drop i (entries_along outer a aw)) (entries_along outer b bw) ≡ met f (entries_along outer a aw) (entries_along outer b bw)
+  pub so_far : (outer : ℕ) (f : ℕ → ℕ → ℕ) → entries_along outer (take k inner)
+      (zip_with f (take k lefts) (take k rights)) ++ met f (drop i (entries_along outer a aw))
+      (entries_along outer b bw) ≡ met f (entries_along outer a aw) (entries_along outer b bw)
   pub below : (n m : ℕ) → n < j → i ≤ m → m < length a → get_or b n 0 < get_or a m 0
   pub few : k ≤ i
   pub a_in : i ≤ length a
@@ -31,7 +33,8 @@ pairing_none a aw b bw inner lefts rights = record {
 }
 
 along_more : (outer : ℕ) (f : ℕ → ℕ → ℕ) (xs ls rs : List ℕ) (x l r : ℕ) → length ls ≡ length xs → length rs ≡ length xs
-    → entries_along outer (xs ++ x ∷ []) (zip_with f (ls ++ l ∷ []) (rs ++ r ∷ [])) ≡ entries_along outer xs (zip_with f ls rs) ++ entry_at outer x (f l r) ∷ []
+    → entries_along outer (xs ++ x ∷ [])
+    (zip_with f (ls ++ l ∷ []) (rs ++ r ∷ [])) ≡ entries_along outer xs (zip_with f ls rs) ++ entry_at outer x (f l r) ∷ []
 along_more outer f [] [] [] x l r sl sr = refl
 along_more outer f [] (q ∷ ls) rs x l r sl sr = absurd (omega arith)
 along_more outer f [] [] (q ∷ rs) x l r sl sr = absurd (omega arith)
@@ -40,7 +43,9 @@ along_more outer f (y ∷ xs) (q ∷ ls) [] x l r sl sr = absurd (omega arith)
 along_more outer f (y ∷ xs) (q ∷ ls) (p ∷ rs) x l r sl sr = ap (λ es. entry_at outer y (f q p) ∷ es) (along_more outer f xs ls rs x l r (omega arith) (omega arith))
 
 -- the numbers up to a place of the other side are below an index
-first_from : (a b : List ℕ) (i j m : ℕ) → ((n m : ℕ) → n < j → i ≤ m → m < length a → get_or b n 0 < get_or a m 0) → i ≤ m → m < length a → j ≤ length b → (j < length b → get_or a m 0 ≤ get_or b j 0) → IsFirstFrom (get_or a m 0) b j
+first_from : (a b : List ℕ) (i j m : ℕ) → ((n m : ℕ) → n < j → i ≤ m → m < length a → get_or b n 0 < get_or a m 0)
+    → i ≤ m → m < length a → j ≤ length b → (j < length b → get_or a m 0 ≤ get_or b j 0)
+    → IsFirstFrom (get_or a m 0) b j
 first_from a b i j m below from within bound next = record {
   bound = bound;
   before = λ n d inside.
@@ -50,8 +55,10 @@ first_from a b i j m below from within bound next = record {
 }
 
 -- an index of a that b doesn't have
-pub pass_left : (a aw b bw : List ℕ) (i j k : ℕ) (inner lefts rights : List ℕ) (x l r : ℕ) → IsPairing a aw b bw i j k inner lefts rights
-    → length aw ≡ length a → length bw ≡ length b → AllPairs (λ p q. p < q) a → AllPairs (λ p q. p < q) b → i < length a → j < length b → get_or a i 0 < get_or b j 0
+pub pass_left : (a aw b bw : List ℕ) (i j k : ℕ) (inner lefts rights : List ℕ) (x l r : ℕ)
+    → IsPairing a aw b bw i j k inner lefts rights
+    → length aw ≡ length a → length bw ≡ length b → AllPairs (λ p q. p < q) a → AllPairs (λ p q. p < q) b
+    → i < length a → j < length b → get_or a i 0 < get_or b j 0
     → IsPairing a aw b bw (i + 1) j k (set inner k x) (set lefts k l) (set rights k r)
 pass_left a aw b bw i j k inner lefts rights x l r here sa sb ra rb some some' less =
     let few = here.few in
@@ -77,7 +84,8 @@ pass_left a aw b bw i j k inner lefts rights x l r here sa sb ra rb some some' l
     }
 
 -- an index of b that a doesn't have
-pub pass_right : (a aw b bw : List ℕ) (i j k : ℕ) (inner lefts rights : List ℕ) (x l r : ℕ) → IsPairing a aw b bw i j k inner lefts rights
+pub pass_right : (a aw b bw : List ℕ) (i j k : ℕ) (inner lefts rights : List ℕ) (x l r : ℕ)
+    → IsPairing a aw b bw i j k inner lefts rights
     → AllPairs (λ p q. p < q) a → AllPairs (λ p q. p < q) b → i < length a → j < length b → get_or b j 0 < get_or a i 0
     → IsPairing a aw b bw i (j + 1) k (set inner k x) (set lefts k l) (set rights k r)
 pass_right a aw b bw i j k inner lefts rights x l r here ra rb some some' less = record {
@@ -98,9 +106,13 @@ pass_right a aw b bw i j k inner lefts rights x l r here ra rb some some' less =
 }
 
 -- an index that both have
-pub pair_more : (a aw b bw : List ℕ) (i j k : ℕ) (inner lefts rights : List ℕ) → IsPairing a aw b bw i j k inner lefts rights
-    → length aw ≡ length a → length bw ≡ length b → AllPairs (λ p q. p < q) a → AllPairs (λ p q. p < q) b → length a ≤ length inner → length lefts ≡ length inner → length rights ≡ length inner → i < length a → j < length b → get_or a i 0 ≡ get_or b j 0
-    → IsPairing a aw b bw (i + 1) (j + 1) (k + 1) (set inner k (get_or a i 0)) (set lefts k (get_or aw i 0)) (set rights k (get_or bw j 0))
+pub pair_more : (a aw b bw : List ℕ) (i j k : ℕ) (inner lefts rights : List ℕ)
+    → IsPairing a aw b bw i j k inner lefts rights
+    → length aw ≡ length a → length bw ≡ length b → AllPairs (λ p q. p < q) a → AllPairs (λ p q. p < q) b
+    → length a ≤ length inner → length lefts ≡ length inner → length rights ≡ length inner → i < length a
+    → j < length b → get_or a i 0 ≡ get_or b j 0
+    → IsPairing a aw b bw (i + 1) (j + 1) (k + 1) (set inner k (get_or a i 0)) (set lefts k (get_or aw i 0))
+    (set rights k (get_or bw j 0))
 pair_more a aw b bw i j k inner lefts rights here sa sb ra rb space sl sr some some' same =
     let few = here.few in
     record {
@@ -133,10 +145,15 @@ pair_more a aw b bw i j k inner lefts rights here sa sb ra rb space sl sr some s
     }
 
 -- what the next two indices choose
-pub pairing_step : (a aw b bw : List ℕ) (i j k : ℕ) (inner lefts rights : List ℕ) (by_i by_j by_k : ℕ) (number : Bool → ℕ) → IsPairing a aw b bw i j k inner lefts rights
-    → length aw ≡ length a → length bw ≡ length b → AllPairs (λ p q. p < q) a → AllPairs (λ p q. p < q) b → length a ≤ length inner → length lefts ≡ length inner → length rights ≡ length inner → i < length a → j < length b
-    → by_k ≡ number (eqb (get_or a i 0) (get_or b j 0)) → by_i ≡ number (leb (get_or a i 0) (get_or b j 0)) → by_j ≡ number (leb (get_or b j 0) (get_or a i 0)) → number true ≡ 1 → number false ≡ 0
-    → IsPairing a aw b bw (i + by_i) (j + by_j) (k + by_k) (set inner k (get_or a i 0)) (set lefts k (get_or aw i 0)) (set rights k (get_or bw j 0))
+pub pairing_step : (a aw b bw : List ℕ) (i j k : ℕ) (inner lefts rights : List ℕ) (by_i by_j by_k : ℕ)
+    (number : Bool → ℕ) → IsPairing a aw b bw i j k inner lefts rights
+    → length aw ≡ length a → length bw ≡ length b → AllPairs (λ p q. p < q) a → AllPairs (λ p q. p < q) b
+    → length a ≤ length inner → length lefts ≡ length inner → length rights ≡ length inner → i < length a
+    → j < length b
+    → by_k ≡ number (eqb (get_or a i 0) (get_or b j 0)) → by_i ≡ number (leb (get_or a i 0) (get_or b j 0))
+    → by_j ≡ number (leb (get_or b j 0) (get_or a i 0)) → number true ≡ 1 → number false ≡ 0
+    → IsPairing a aw b bw (i + by_i) (j + by_j) (k + by_k) (set inner k (get_or a i 0)) (set lefts k (get_or aw i 0))
+    (set rights k (get_or bw j 0))
 pairing_step a aw b bw i j k inner lefts rights by_i by_j by_k number here sa sb ra rb space sl sr some some' step_k step_i step_j is_1 is_0 =
     let p = get_or a i 0 in
     let q = get_or b j 0 in
@@ -172,8 +189,11 @@ pairing_step a aw b bw i j k inner lefts rights by_i by_j by_k number here sa sb
     ]
 
 -- where one side is at its end all are found
-pub pairing_all : (a aw b bw : List ℕ) (i j k : ℕ) (inner lefts rights : List ℕ) → IsPairing a aw b bw i j k inner lefts rights → length aw ≡ length a → length bw ≡ length b → AllPairs (λ p q. p < q) b → (i < length a → length b ≤ j)
-    → (outer : ℕ) (f : ℕ → ℕ → ℕ) → entries_along outer (take k inner) (zip_with f (take k lefts) (take k rights)) ≡ met f (entries_along outer a aw) (entries_along outer b bw)
+pub pairing_all : (a aw b bw : List ℕ) (i j k : ℕ) (inner lefts rights : List ℕ)
+    → IsPairing a aw b bw i j k inner lefts rights → length aw ≡ length a → length bw ≡ length b
+    → AllPairs (λ p q. p < q) b → (i < length a → length b ≤ j)
+    → (outer : ℕ) (f : ℕ → ℕ → ℕ) → entries_along outer (take k inner)
+    (zip_with f (take k lefts) (take k rights)) ≡ met f (entries_along outer a aw) (entries_along outer b bw)
 pairing_all a aw b bw i j k inner lefts rights here sa sb rb over outer f =
     let es = entries_along outer a aw in
     let fs = entries_along outer b bw in

@@ -10,12 +10,18 @@ pub record ArePassed (test : ℕ → ℕ → Bool) (inner words : List ℕ) (cou
   pub fewer : kept ≤ count + k
   pub inner_long : length to_inner ≡ length was_inner
   pub words_long : length to_words ≡ length was_words
-  pub indices : take kept to_inner ++ kept_indices test (drop k inner) (drop k words) ≡ take count was_inner ++ kept_indices test inner words
-  pub beside : take kept to_words ++ kept_words test (drop k inner) (drop k words) ≡ take count was_words ++ kept_words test inner words
+  pub indices : take kept to_inner ++ kept_indices test (drop k inner)
+      (drop k words) ≡ take count was_inner ++ kept_indices test inner words
+  pub beside : take kept to_words ++ kept_words test (drop k inner)
+      (drop k words) ≡ take count was_words ++ kept_words test inner words
 
-pub passed_more : (test : ℕ → ℕ → Bool) (inner words : List ℕ) (count : ℕ) (was_inner was_words to_inner to_words : List ℕ) (k kept : ℕ) (passes : Bool) (byte : Bool → ℕ)
-    → byte true ≡ 1 → byte false ≡ 0 → ArePassed test inner words count was_inner was_words to_inner to_words k kept → k < length inner → length words ≡ length inner → kept < length to_inner → kept < length to_words → passes ≡ test (get_or inner k 0) (get_or words k 0)
-    → ArePassed test inner words count was_inner was_words (set to_inner kept (get_or inner k 0)) (set to_words kept (get_or words k 0)) (k + 1) (kept + byte passes)
+pub passed_more : (test : ℕ → ℕ → Bool) (inner words : List ℕ) (count : ℕ)
+    (was_inner was_words to_inner to_words : List ℕ) (k kept : ℕ) (passes : Bool) (byte : Bool → ℕ)
+    → byte true ≡ 1 → byte false ≡ 0 → ArePassed test inner words count was_inner was_words to_inner to_words k kept
+    → k < length inner → length words ≡ length inner → kept < length to_inner → kept < length to_words
+    → passes ≡ test (get_or inner k 0) (get_or words k 0)
+    → ArePassed test inner words count was_inner was_words (set to_inner kept (get_or inner k 0))
+    (set to_words kept (get_or words k 0)) (k + 1) (kept + byte passes)
 unfolding kept_indices kept_words
 passed_more test inner words count was_inner was_words to_inner to_words k kept passes byte one_is none_is h within same a b is =
     let c = get_or inner k 0 in
@@ -47,7 +53,8 @@ passed_more test inner words count was_inner was_words to_inner to_words k kept 
           }))
     ]
 
-pub passed_none : (test : ℕ → ℕ → Bool) (inner words : List ℕ) (count : ℕ) (to_inner to_words : List ℕ) → ArePassed test inner words count to_inner to_words to_inner to_words 0 count
+pub passed_none : (test : ℕ → ℕ → Bool) (inner words : List ℕ) (count : ℕ) (to_inner to_words : List ℕ)
+    → ArePassed test inner words count to_inner to_words to_inner to_words 0 count
 passed_none test inner words count to_inner to_words = record {
   fewer = omega arith;
   inner_long = refl;
@@ -56,15 +63,19 @@ passed_none test inner words count to_inner to_words = record {
   beside = refl;
 }
 
-pub passed_indices : (test : ℕ → ℕ → Bool) (inner words : List ℕ) (count : ℕ) (was_inner was_words to_inner to_words : List ℕ) (k kept : ℕ)
-    → ArePassed test inner words count was_inner was_words to_inner to_words k kept → length inner ≤ k → take kept to_inner ≡ take count was_inner ++ kept_indices test inner words
+pub passed_indices : (test : ℕ → ℕ → Bool) (inner words : List ℕ) (count : ℕ)
+    (was_inner was_words to_inner to_words : List ℕ) (k kept : ℕ)
+    → ArePassed test inner words count was_inner was_words to_inner to_words k kept → length inner ≤ k
+    → take kept to_inner ≡ take count was_inner ++ kept_indices test inner words
 unfolding kept_indices
 passed_indices test inner words count was_inner was_words to_inner to_words k kept h all =
     let none : kept_indices test (drop k inner) (drop k words) ≡ [] = ap (λ xs. kept_indices test xs (drop k words)) (drop_all k inner all) in
     sym (append-nil (take kept to_inner)) ∙ ap (λ xs. take kept to_inner ++ xs) (sym none) ∙ h.indices
 
-pub passed_words : (test : ℕ → ℕ → Bool) (inner words : List ℕ) (count : ℕ) (was_inner was_words to_inner to_words : List ℕ) (k kept : ℕ)
-    → ArePassed test inner words count was_inner was_words to_inner to_words k kept → length inner ≤ k → take kept to_words ≡ take count was_words ++ kept_words test inner words
+pub passed_words : (test : ℕ → ℕ → Bool) (inner words : List ℕ) (count : ℕ)
+    (was_inner was_words to_inner to_words : List ℕ) (k kept : ℕ)
+    → ArePassed test inner words count was_inner was_words to_inner to_words k kept → length inner ≤ k
+    → take kept to_words ≡ take count was_words ++ kept_words test inner words
 unfolding kept_words
 passed_words test inner words count was_inner was_words to_inner to_words k kept h all =
     let none : kept_words test (drop k inner) (drop k words) ≡ [] = ap (λ xs. kept_words test xs (drop k words)) (drop_all k inner all) in
@@ -72,7 +83,9 @@ passed_words test inner words count was_inner was_words to_inner to_words k kept
 
 -- ---- part by part
 
-pub indices_append : (test : ℕ → ℕ → Bool) (n : ℕ) (inner words : List ℕ) → length words ≡ length inner → kept_indices test (take n inner) (take n words) ++ kept_indices test (drop n inner) (drop n words) ≡ kept_indices test inner words
+pub indices_append : (test : ℕ → ℕ → Bool) (n : ℕ) (inner words : List ℕ) → length words ≡ length inner
+    → kept_indices test (take n inner) (take n words) ++ kept_indices test (drop n inner)
+    (drop n words) ≡ kept_indices test inner words
 unfolding kept_indices
 indices_append test zero inner words same = refl
 indices_append test (suc n) [] words same = refl
@@ -84,7 +97,9 @@ indices_append test (suc n) (c ∷ cs) (w ∷ ws) same =
       | false ↦ rest
     ]
 
-pub words_append : (test : ℕ → ℕ → Bool) (n : ℕ) (inner words : List ℕ) → length words ≡ length inner → kept_words test (take n inner) (take n words) ++ kept_words test (drop n inner) (drop n words) ≡ kept_words test inner words
+pub words_append : (test : ℕ → ℕ → Bool) (n : ℕ) (inner words : List ℕ) → length words ≡ length inner
+    → kept_words test (take n inner) (take n words) ++ kept_words test (drop n inner)
+    (drop n words) ≡ kept_words test inner words
 unfolding kept_words
 words_append test zero inner words same = refl
 words_append test (suc n) [] words same = refl
@@ -97,8 +112,11 @@ words_append test (suc n) (c ∷ cs) (w ∷ ws) same =
     ]
 
 -- a part more of a fiber
-pub part_indices : (test : ℕ → ℕ → Bool) (inner words before now next : List ℕ) (start past : ℕ) → length words ≡ length inner → start ≤ past → now ++ kept_indices test (drop start inner) (drop start words) ≡ before ++ kept_indices test inner words
-    → next ≡ now ++ kept_indices test (slice_range inner start past) (slice_range words start past) → next ++ kept_indices test (drop past inner) (drop past words) ≡ before ++ kept_indices test inner words
+pub part_indices : (test : ℕ → ℕ → Bool) (inner words before now next : List ℕ) (start past : ℕ)
+    → length words ≡ length inner → start ≤ past → now ++ kept_indices test (drop start inner)
+    (drop start words) ≡ before ++ kept_indices test inner words
+    → next ≡ now ++ kept_indices test (slice_range inner start past) (slice_range words start past)
+    → next ++ kept_indices test (drop past inner) (drop past words) ≡ before ++ kept_indices test inner words
 part_indices test inner words before now next start past same up is more =
     let n = past - start in
     let end : start + n ≡ past = omega arith in
@@ -109,8 +127,11 @@ part_indices test inner words before now next start past same up is more =
     ∙ ap (λ xs. (now ++ part) ++ kept_indices test xs (drop past words)) (behind inner) ∙ ap (λ xs. (now ++ part) ++ kept_indices test (drop n (drop start inner)) xs) (behind words)
     ∙ append_assoc now part rest ∙ ap (λ xs. now ++ xs) (indices_append test n (drop start inner) (drop start words) (omega (arith, length-drop start inner, length-drop start words))) ∙ is
 
-pub part_words : (test : ℕ → ℕ → Bool) (inner words before now next : List ℕ) (start past : ℕ) → length words ≡ length inner → start ≤ past → now ++ kept_words test (drop start inner) (drop start words) ≡ before ++ kept_words test inner words
-    → next ≡ now ++ kept_words test (slice_range inner start past) (slice_range words start past) → next ++ kept_words test (drop past inner) (drop past words) ≡ before ++ kept_words test inner words
+pub part_words : (test : ℕ → ℕ → Bool) (inner words before now next : List ℕ) (start past : ℕ)
+    → length words ≡ length inner → start ≤ past → now ++ kept_words test (drop start inner)
+    (drop start words) ≡ before ++ kept_words test inner words
+    → next ≡ now ++ kept_words test (slice_range inner start past) (slice_range words start past)
+    → next ++ kept_words test (drop past inner) (drop past words) ≡ before ++ kept_words test inner words
 part_words test inner words before now next start past same up is more =
     let n = past - start in
     let end : start + n ≡ past = omega arith in
@@ -121,12 +142,16 @@ part_words test inner words before now next start past same up is more =
     ∙ ap (λ xs. (now ++ part) ++ kept_words test xs (drop past words)) (behind inner) ∙ ap (λ xs. (now ++ part) ++ kept_words test (drop n (drop start inner)) xs) (behind words)
     ∙ append_assoc now part rest ∙ ap (λ xs. now ++ xs) (words_append test n (drop start inner) (drop start words) (omega (arith, length-drop start inner, length-drop start words))) ∙ is
 
-pub fiber_indices : (test : ℕ → ℕ → Bool) (inner words before now : List ℕ) (start : ℕ) → length inner ≤ start → now ++ kept_indices test (drop start inner) (drop start words) ≡ before ++ kept_indices test inner words → now ≡ before ++ kept_indices test inner words
+pub fiber_indices : (test : ℕ → ℕ → Bool) (inner words before now : List ℕ) (start : ℕ) → length inner ≤ start
+    → now ++ kept_indices test (drop start inner) (drop start words) ≡ before ++ kept_indices test inner words
+    → now ≡ before ++ kept_indices test inner words
 unfolding kept_indices
 fiber_indices test inner words before now start all is =
     sym (append-nil now) ∙ ap (λ xs. now ++ kept_indices test xs (drop start words)) (sym (drop_all start inner all)) ∙ is
 
-pub fiber_words : (test : ℕ → ℕ → Bool) (inner words before now : List ℕ) (start : ℕ) → length inner ≤ start → now ++ kept_words test (drop start inner) (drop start words) ≡ before ++ kept_words test inner words → now ≡ before ++ kept_words test inner words
+pub fiber_words : (test : ℕ → ℕ → Bool) (inner words before now : List ℕ) (start : ℕ) → length inner ≤ start
+    → now ++ kept_words test (drop start inner) (drop start words) ≡ before ++ kept_words test inner words
+    → now ≡ before ++ kept_words test inner words
 unfolding kept_words
 fiber_words test inner words before now start all is =
     sym (append-nil now) ∙ ap (λ xs. now ++ kept_words test xs (drop start words)) (sym (drop_all start inner all)) ∙ is

@@ -17,9 +17,11 @@ pub record AreSummed (kind : MonoidKind) (d : Domain) (from : ℕ) (ends : List 
   pub rises : Rises (from + start) (drop at ends)
   pub whole : last_end (from + start) (drop at ends) ≡ from + length words
   pub rows_are : take at rows ≡ map (λ (r : FiberEnd). r.outer) (take at ends)
-  pub sums_are : take at sums ++ sums_of kind d (from + start) (drop at ends) (drop start words) ≡ sums_of kind d from ends words
+  pub sums_are : take at sums ++ sums_of kind d (from + start) (drop at ends)
+      (drop start words) ≡ sums_of kind d from ends words
 
-pub summed_none : (kind : MonoidKind) (d : Domain) (from : ℕ) (ends : List FiberEnd) (words rows sums : List ℕ) → Rises from ends → last_end from ends ≡ from + length words → AreSummed kind d from ends words rows sums 0 0
+pub summed_none : (kind : MonoidKind) (d : Domain) (from : ℕ) (ends : List FiberEnd) (words rows sums : List ℕ)
+    → Rises from ends → last_end from ends ≡ from + length words → AreSummed kind d from ends words rows sums 0 0
 summed_none kind d from ends words rows sums rises whole =
     let same : from + 0 ≡ from = omega arith in
     record {
@@ -35,7 +37,9 @@ pub record IsNextSum (from start end count : ℕ) : Type 0 where
   pub rises : start ≤ end - from
   pub inside : end - from ≤ count
 
-pub next_sum : (kind : MonoidKind) (d : Domain) (from : ℕ) (ends : List FiberEnd) (words rows sums : List ℕ) (at start : ℕ) (r : FiberEnd) → AreSummed kind d from ends words rows sums at start → at < length ends → r ≡ get_or ends at r → IsNextSum from start r.end (length words)
+pub next_sum : (kind : MonoidKind) (d : Domain) (from : ℕ) (ends : List FiberEnd) (words rows sums : List ℕ)
+    (at start : ℕ) (r : FiberEnd) → AreSummed kind d from ends words rows sums at start → at < length ends
+    → r ≡ get_or ends at r → IsNextSum from start r.end (length words)
 unfolding Rises last_end
 next_sum kind d from ends words rows sums at start r h within is =
     let split : drop at ends ≡ r ∷ drop (at + 1) ends = drop_more ends at r within ∙ ap (λ (q : FiberEnd). q ∷ drop (at + 1) ends) (sym is) in
@@ -49,8 +53,11 @@ next_sum kind d from ends words rows sums at start r h within is =
       inside = omega arith;
     }
 
-pub summed_more : (kind : MonoidKind) (d : Domain) (from : ℕ) (ends : List FiberEnd) (words rows sums : List ℕ) (at start sum : ℕ) (r : FiberEnd) → AreSummed kind d from ends words rows sums at start → at < length ends → r ≡ get_or ends at r → at < length rows → at < length sums
-    → sum ≡ fold_of kind d (slice_range words start (r.end - from)) → AreSummed kind d from ends words (set rows at r.outer) (set sums at sum) (at + 1) (r.end - from)
+pub summed_more : (kind : MonoidKind) (d : Domain) (from : ℕ) (ends : List FiberEnd) (words rows sums : List ℕ)
+    (at start sum : ℕ) (r : FiberEnd) → AreSummed kind d from ends words rows sums at start → at < length ends
+    → r ≡ get_or ends at r → at < length rows → at < length sums
+    → sum ≡ fold_of kind d (slice_range words start (r.end - from))
+    → AreSummed kind d from ends words (set rows at r.outer) (set sums at sum) (at + 1) (r.end - from)
 unfolding Rises last_end sums_of
 summed_more kind d from ends words rows sums at start sum r h within is room room' sum_is =
     let rest = drop (at + 1) ends in
@@ -82,11 +89,15 @@ summed_more kind d from ends words rows sums at start sum r h within is room roo
           ∙ ap (λ ss. take at sums ++ ss) (sym sums_left) ∙ h.sums_are);
     }
 
-pub summed_rows : (kind : MonoidKind) (d : Domain) (from : ℕ) (ends : List FiberEnd) (words rows sums : List ℕ) (at start : ℕ) → AreSummed kind d from ends words rows sums at start → length ends ≤ at → length rows ≤ at → rows ≡ map (λ (r : FiberEnd). r.outer) ends
+pub summed_rows : (kind : MonoidKind) (d : Domain) (from : ℕ) (ends : List FiberEnd) (words rows sums : List ℕ)
+    (at start : ℕ) → AreSummed kind d from ends words rows sums at start → length ends ≤ at → length rows ≤ at
+    → rows ≡ map (λ (r : FiberEnd). r.outer) ends
 summed_rows kind d from ends words rows sums at start h all all' =
     sym (take_all at rows all') ∙ h.rows_are ∙ ap (map (λ (r : FiberEnd). r.outer)) (take_all at ends all)
 
-pub summed_sums : (kind : MonoidKind) (d : Domain) (from : ℕ) (ends : List FiberEnd) (words rows sums : List ℕ) (at start : ℕ) → AreSummed kind d from ends words rows sums at start → length ends ≤ at → length sums ≤ at → sums ≡ sums_of kind d from ends words
+pub summed_sums : (kind : MonoidKind) (d : Domain) (from : ℕ) (ends : List FiberEnd) (words rows sums : List ℕ)
+    (at start : ℕ) → AreSummed kind d from ends words rows sums at start → length ends ≤ at → length sums ≤ at
+    → sums ≡ sums_of kind d from ends words
 unfolding sums_of
 summed_sums kind d from ends words rows sums at start h all all' =
     let none : sums_of kind d (from + start) (drop at ends) (drop start words) ≡ [] = ap (λ es. sums_of kind d (from + start) es (drop start words)) (drop_all at ends all) in

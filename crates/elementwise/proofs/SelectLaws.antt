@@ -13,7 +13,8 @@ use Rattle.store.proofs.Order.{all_pairs_head, all_pairs_tail}
 use Rattle.store.proofs.Positions.{word_at-none}
 
 -- no later entry stands at the same position
-none_later : (i j : ℕ) (e : Entry) (es : List Entry) → InOrder (e ∷ es) → (eqb i e.row && eqb j e.col) ≡ true → word_at es i j ≡ None
+none_later : (i j : ℕ) (e : Entry) (es : List Entry) → InOrder (e ∷ es) → (eqb i e.row && eqb j e.col) ≡ true
+    → word_at es i j ≡ None
 none_later i j e es order here =
     let row : i ≡ e.row = grind (arith, nat_tests) in
     let col : j ≡ e.col = grind (arith, nat_tests) in
@@ -24,7 +25,8 @@ none_later i j e es order here =
     ]) es (all_pairs_head Precedes e es order))
 
 -- the map of the entries that pass
-pub word_at-filter : (test : ℕ → ℕ → ℕ → Bool) (es : List Entry) (i j : ℕ) → InOrder es → word_at (filter (λ e. test e.row e.col e.word) es) i j ≡ kept_where test (word_at es) i j
+pub word_at-filter : (test : ℕ → ℕ → ℕ → Bool) (es : List Entry) (i j : ℕ) → InOrder es
+    → word_at (filter (λ e. test e.row e.col e.word) es) i j ≡ kept_where test (word_at es) i j
 unfolding word_at
 word_at-filter test [] i j order = refl
 word_at-filter test (e ∷ es) i j order =
@@ -46,7 +48,8 @@ word_at-filter test (e ∷ es) i j order =
       ]
     ]
 
-transposed-filter : (test : ℕ → ℕ → ℕ → Bool) (es : List Entry) → transposed (filter (λ e. test e.col e.row e.word) es) ≡ filter (λ e. test e.row e.col e.word) (transposed es)
+transposed-filter : (test : ℕ → ℕ → ℕ → Bool) (es : List Entry)
+    → transposed (filter (λ e. test e.col e.row e.word) es) ≡ filter (λ e. test e.row e.col e.word) (transposed es)
 transposed-filter test [] = refl
 transposed-filter test (e ∷ es) =
     elim (test e.col e.row e.word) as (λ b. transposed (cond b (e ∷ filter (λ e. test e.col e.row e.word) es) (filter (λ e. test e.col e.row e.word) es))

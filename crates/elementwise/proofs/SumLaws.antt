@@ -30,23 +30,28 @@ use Rattle.store.proofs.RowEntries.{entries_between-row, row_words-entries}
 use Rattle.elementwise.proofs.Filled.{AreFilled, is_first}
 use Rattle.elementwise.specs.Sums.{folded, row_sum, sums_of}
 
-pub length_sums : (kind : MonoidKind) (d : Domain) (from : ℕ) (ends : List FiberEnd) (words : List ℕ) → length (sums_of kind d from ends words) ≡ length ends
+pub length_sums : (kind : MonoidKind) (d : Domain) (from : ℕ) (ends : List FiberEnd) (words : List ℕ)
+    → length (sums_of kind d from ends words) ≡ length ends
 unfolding sums_of
 length_sums kind d from [] words = refl
 length_sums kind d from (r ∷ rs) words = ap suc (length_sums kind d r.end rs (drop (r.end - from) words))
 
-words_of_row : (outer : ℕ) (cs ws : List ℕ) → length ws ≡ length cs → map (λ (e : Entry). e.word) (entries_along outer cs ws) ≡ ws
+words_of_row : (outer : ℕ) (cs ws : List ℕ) → length ws ≡ length cs
+    → map (λ (e : Entry). e.word) (entries_along outer cs ws) ≡ ws
 words_of_row outer [] [] same = refl
 words_of_row outer [] (w ∷ ws) same = absurd (omega arith)
 words_of_row outer (c ∷ cs) [] same = absurd (omega arith)
 words_of_row outer (c ∷ cs) (w ∷ ws) same = ap (λ xs. w ∷ xs) (words_of_row outer cs ws (omega arith))
 
-folded_some : (monoid : Monoid) (ws : List ℕ) → 0 < length ws → folded monoid ws ≡ Some (fold_of monoid.kind monoid.op.domain ws)
+folded_some : (monoid : Monoid) (ws : List ℕ) → 0 < length ws
+    → folded monoid ws ≡ Some (fold_of monoid.kind monoid.op.domain ws)
 folded_some monoid [] some = absurd (omega arith)
 folded_some monoid (w ∷ ws) some = refl
 
 -- of entries of which the first are a row
-row_here : (monoid : Monoid) (i : ℕ) (cs ws : List ℕ) (rest : List Entry) → length ws ≡ length cs → 0 < length ws → All (λ e. i < e.row) rest → row_sum monoid i (entries_along i cs ws ++ rest) ≡ Some (fold_of monoid.kind monoid.op.domain ws)
+row_here : (monoid : Monoid) (i : ℕ) (cs ws : List ℕ) (rest : List Entry) → length ws ≡ length cs → 0 < length ws
+    → All (λ e. i < e.row) rest
+    → row_sum monoid i (entries_along i cs ws ++ rest) ≡ Some (fold_of monoid.kind monoid.op.domain ws)
 row_here monoid i cs ws rest same some behind =
     let here = entries_along i cs ws in
     let is_row = λ (e : Entry). eqb e.row i in
@@ -55,7 +60,8 @@ row_here monoid i cs ws rest same some behind =
     ap (λ es. folded monoid (map (λ (e : Entry). e.word) es)) (filter-append is_row here rest ∙ rw (whole, none) (append-nil here))
     ∙ ap (folded monoid) (words_of_row i cs ws same) ∙ folded_some monoid ws some
 
-row_there : (monoid : Monoid) (i outer : ℕ) (cs ws : List ℕ) (rest : List Entry) → (outer ≡ i → ⊥) → row_sum monoid i (entries_along outer cs ws ++ rest) ≡ row_sum monoid i rest
+row_there : (monoid : Monoid) (i outer : ℕ) (cs ws : List ℕ) (rest : List Entry) → (outer ≡ i → ⊥)
+    → row_sum monoid i (entries_along outer cs ws ++ rest) ≡ row_sum monoid i rest
 row_there monoid i outer cs ws rest away =
     let here = entries_along outer cs ws in
     let is_row = λ (e : Entry). eqb e.row i in
@@ -63,7 +69,8 @@ row_there monoid i outer cs ws rest away =
     ap (λ es. folded monoid (map (λ (e : Entry). e.word) es)) (filter-append is_row here rest ∙ rw none refl)
 
 -- the column of the sums is the map of the sums of the rows
-pub sums_at : (monoid : Monoid) (from : ℕ) (ends : List FiberEnd) (inner words : List ℕ) (i j : ℕ) → AreFilled from ends inner words
+pub sums_at : (monoid : Monoid) (from : ℕ) (ends : List FiberEnd) (inner words : List ℕ) (i j : ℕ)
+    → AreFilled from ends inner words
     → word_at (entries_down (map (λ (r : FiberEnd). r.outer) ends) (sums_of monoid.kind monoid.op.domain from ends words)) i j ≡ cond (eqb j 0) (row_sum monoid i (entries_from from ends inner words)) None
 unfolding sums_of word_at outers
 sums_at monoid from [] inner words i j h =
@@ -89,14 +96,17 @@ sums_at monoid from (r ∷ rs) inner words i j h =
           rw (row, ne_eqb i r.outer away) later
     ]
 
-first_holds : (P : ℕ → Type 0) (outer : ℕ) (cs ws : List ℕ) → length ws ≡ length cs → 0 < length ws → All (λ e. P e.row) (entries_along outer cs ws) → P outer
+first_holds : (P : ℕ → Type 0) (outer : ℕ) (cs ws : List ℕ) → length ws ≡ length cs → 0 < length ws
+    → All (λ e. P e.row) (entries_along outer cs ws) → P outer
 first_holds P outer [] [] same some all = absurd (omega arith)
 first_holds P outer [] (w ∷ ws) same some all = absurd (omega arith)
 first_holds P outer (c ∷ cs) [] same some all = absurd (omega arith)
 first_holds P outer (c ∷ cs) (w ∷ ws) same some all = All-head (λ e. P e.row) (entry_at outer c w) (entries_along outer cs ws) all
 
 -- what holds of the rows of the entries holds of the outer indices
-pub outers_hold : (P : ℕ → Type 0) (from : ℕ) (ends : List FiberEnd) (inner words : List ℕ) → AreFilled from ends inner words → All (λ e. P e.row) (entries_from from ends inner words) → All (λ r. P r.outer) ends
+pub outers_hold : (P : ℕ → Type 0) (from : ℕ) (ends : List FiberEnd) (inner words : List ℕ)
+    → AreFilled from ends inner words → All (λ e. P e.row) (entries_from from ends inner words)
+    → All (λ r. P r.outer) ends
 outers_hold P from [] inner words h all = All-nil (λ (r : FiberEnd). P r.outer)
 outers_hold P from (r ∷ rs) inner words h all =
     let n = r.end - from in
@@ -109,7 +119,8 @@ outers_hold P from (r ∷ rs) inner words h all =
 
 -- ---- the column
 
-down_in : (first past : ℕ) (rows sums : List ℕ) → All (λ o. (first ≤ o) × (o < past)) rows → AreIn first past 1 (entries_down rows sums)
+down_in : (first past : ℕ) (rows sums : List ℕ) → All (λ o. (first ≤ o) × (o < past)) rows
+    → AreIn first past 1 (entries_down rows sums)
 down_in first past [] sums h = All-nil (λ (e : Entry). ((first ≤ e.row) × (e.row < past)) × (e.col < 1))
 down_in first past (r ∷ rows) [] h = All-nil (λ (e : Entry). ((first ≤ e.row) × (e.row < past)) × (e.col < 1))
 down_in first past (r ∷ rows) (w ∷ sums) h =
@@ -119,11 +130,15 @@ down_in first past (r ∷ rows) (w ∷ sums) h =
 -- lists are the column of the sums of rows with these entries
 pub record IsSumColumn (monoid : Monoid) (es : List Entry) (ends : List FiberEnd) (rows sums : List ℕ) : Type 0 where
   pub flat : AreFlat ends rows sums
-  pub inside : (first past : ℕ) → All (λ e. (first ≤ e.row) × (e.row < past)) es → AreIn first past 1 (transposed (entries_from 0 ends rows sums))
-  pub words : (i j : ℕ) → word_at (transposed (entries_from 0 ends rows sums)) i j ≡ cond (eqb j 0) (row_sum monoid i es) None
+  pub inside : (first past : ℕ) → All (λ e. (first ≤ e.row) × (e.row < past)) es
+      → AreIn first past 1 (transposed (entries_from 0 ends rows sums))
+  pub words : (i j : ℕ) → word_at (transposed (entries_from 0 ends rows sums)) i j ≡ cond (eqb j 0)
+      (row_sum monoid i es) None
 
-pub sum_column : (monoid : Monoid) (from : ℕ) (ends : List FiberEnd) (inner words : List ℕ) (made : List FiberEnd) (rows sums : List ℕ) → AreFilled from ends inner words
-    → rows ≡ map (λ (r : FiberEnd). r.outer) ends → sums ≡ sums_of monoid.kind monoid.op.domain from ends words → made ≡ closed [] 0 (length rows)
+pub sum_column : (monoid : Monoid) (from : ℕ) (ends : List FiberEnd) (inner words : List ℕ) (made : List FiberEnd)
+    (rows sums : List ℕ) → AreFilled from ends inner words
+    → rows ≡ map (λ (r : FiberEnd). r.outer) ends → sums ≡ sums_of monoid.kind monoid.op.domain from ends words
+    → made ≡ closed [] 0 (length rows)
     → IsSumColumn monoid (entries_from from ends inner words) made rows sums
 unfolding outers
 sum_column monoid from ends inner words made rows sums h rows_are sums_are made_is =
@@ -139,17 +154,22 @@ sum_column monoid from ends inner words made rows sums h rows_are sums_are made_
     }
 
 -- the sum of a row among the entries of some rows is that of the map's
-pub row_sum_is : (monoid : Monoid) (first past cols : ℕ) (c : Content) (i : ℕ) (es : List Entry) → es ≡ entries_between first past cols c → first ≤ i → i < past → row_sum monoid i es ≡ folded monoid (row_words cols c i)
+pub row_sum_is : (monoid : Monoid) (first past cols : ℕ) (c : Content) (i : ℕ) (es : List Entry)
+    → es ≡ entries_between first past cols c → first ≤ i → i < past
+    → row_sum monoid i es ≡ folded monoid (row_words cols c i)
 row_sum_is monoid first past cols c i es is low high =
     ap (row_sum monoid i) is ∙ ap (λ row. folded monoid (map (λ (e : Entry). e.word) row)) (entries_between-row first past cols c i low high) ∙ ap (folded monoid) (sym (row_words-entries cols c i))
 
-one_word : (monoid : Monoid) (o : Option ℕ) → option_map (eval_of (combines_by monoid.kind) monoid.op.domain (identity_of monoid.kind monoid.op.domain)) o ≡ folded monoid (cons_option o [])
+one_word : (monoid : Monoid) (o : Option ℕ)
+    → option_map (eval_of (combines_by monoid.kind) monoid.op.domain (identity_of monoid.kind monoid.op.domain)) o ≡ folded monoid (cons_option o [])
 one_word monoid None = refl
 one_word monoid (Some w) = refl
 
 -- the sum of a row of one column is that of its one word
-pub column_sum_is : (monoid : Monoid) (rows : ℕ) (c : Content) (i j : ℕ) (es : List Entry) → IsInside rows 1 (transposed es) → ((k : ℕ) → word_at (transposed es) i k ≡ c i k)
-    → option_map (eval_of (combines_by monoid.kind) monoid.op.domain (identity_of monoid.kind monoid.op.domain)) (word_at (transposed es) i j) ≡ cond (eqb j 0) (folded monoid (row_words 1 c i)) None
+pub column_sum_is : (monoid : Monoid) (rows : ℕ) (c : Content) (i j : ℕ) (es : List Entry)
+    → IsInside rows 1 (transposed es) → ((k : ℕ) → word_at (transposed es) i k ≡ c i k)
+    → option_map (eval_of (combines_by monoid.kind) monoid.op.domain (identity_of monoid.kind monoid.op.domain))
+    (word_at (transposed es) i j) ≡ cond (eqb j 0) (folded monoid (row_words 1 c i)) None
 unfolding count_from
 column_sum_is monoid rows c i j es inside words =
     let f = eval_of (combines_by monoid.kind) monoid.op.domain (identity_of monoid.kind monoid.op.domain) in

@@ -35,7 +35,8 @@ one_text-command_line c words m id is has =
     one_text-rows (found_of m) id
     ∙ ap (one_of id) ((has (ap is_simple is ∙ simple)).0 ∙ ap (λ (a : App). matches_of a words) is)
 
-pub fails_by_command_line : {T : Type 0} (c : Command) (words : List Text) (r : Result T Error) → app_of c ≡ command_line
+pub fails_by_command_line : {T : Type 0} (c : Command) (words : List Text) (r : Result T Error)
+    → app_of c ≡ command_line
     → (is_simple_and_free (app_of c) ≡ true → FailsBy (fault_of (app_of c) words) r)
     → FailsBy (fault_of command_line words) r
 fails_by_command_line c words r is fails =

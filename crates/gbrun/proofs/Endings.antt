@@ -23,7 +23,8 @@ IsWordsFault (CommandLine text) = Unit {0}
 IsWordsFault BadOrder = Unit {0}
 IsWordsFault _ = ⊥
 
-never_finishes : (ended : Result (Unit {0}) NoMemory) (answers : List ℕ) (old new : Option (List ℕ)) (fault : Fault) → IsWordsFault fault → Finishes ended answers old new (Err fault) → ⊥
+never_finishes : (ended : Result (Unit {0}) NoMemory) (answers : List ℕ) (old new : Option (List ℕ)) (fault : Fault)
+    → IsWordsFault fault → Finishes ended answers old new (Err fault) → ⊥
 never_finishes (Ok done) answers old new (CommandLine text) is ends = ends
 never_finishes (Ok done) answers old new BadOrder is ends = ends
 never_finishes (Ok done) answers old new UnreadableScript is ends = is
@@ -37,7 +38,8 @@ never_finishes (Err refused) answers old new OutOfMemory is ends = is
 never_finishes (Err refused) answers old new OutOfMemoryUndelivered is ends = is
 never_finishes (Err refused) answers old new UnwritableOutput is ends = is
 
-map_or-map : {A B C : Type 0} (f : B → C) (g : A → B) (o : Option A) (d : C) → option_map_or (λ a. f (g a)) o d ≡ option_map_or f (option_map g o) d
+map_or-map : {A B C : Type 0} (f : B → C) (g : A → B) (o : Option A) (d : C)
+    → option_map_or (λ a. f (g a)) o d ≡ option_map_or f (option_map g o) d
 map_or-map f g None d = refl
 map_or-map f g (Some a) d = refl
 
@@ -47,8 +49,10 @@ Any-map P f xs found =
     (found.0, f found.1, inside, get_or-map f xs found.0 found.1 (f found.1) found.2 ∙ ap f found.3, found.4)
 
 -- words of which some isn't text
-pub no_text_ends : (admits : Admits) (words : List Text) (given : Given) (made : Option Made) (old : Option (List ℕ)) (fault : Fault) → made ≡ None
-    → (fault ≡ OutOfMemory) ⊎ (IsCommandLine fault × Any (λ word. ¬ (IsUtf8 word)) words) → Ends admits words given made old old (Err fault)
+pub no_text_ends : (admits : Admits) (words : List Text) (given : Given) (made : Option Made) (old : Option (List ℕ))
+    (fault : Fault) → made ≡ None
+    → (fault ≡ OutOfMemory) ⊎ (IsCommandLine fault × Any (λ word. ¬ (IsUtf8 word)) words)
+    → Ends admits words given made old old (Err fault)
 no_text_ends admits words given made old (CommandLine text) none (inl gone) = cc
 no_text_ends admits words given made old (CommandLine text) none (inr wrong) = (inl wrong.1, (none, Keeps-refl old))
 no_text_ends admits words given made old BadOrder none (inl gone) = cc
@@ -62,7 +66,8 @@ no_text_ends admits words given made old UnwritableOutput none (inl gone) = cc
 no_text_ends admits words given made old UnwritableOutput none (inr wrong) = absurd wrong.0
 
 -- words that are refused
-pub refused_ends : (admits : Admits) (words : List Text) (given : Given) (made : Option Made) (old : Option (List ℕ)) (fault : Fault) → made ≡ None
+pub refused_ends : (admits : Admits) (words : List Text) (given : Given) (made : Option Made) (old : Option (List ℕ))
+    (fault : Fault) → made ≡ None
     → All IsUtf8 words → ComesOf words (Err fault) → Ends admits words given made old old (Err fault)
 refused_ends admits words given made old (CommandLine text) none utf8 comes = (inr (utf8, comes), (none, Keeps-refl old))
 refused_ends admits words given made old BadOrder none utf8 comes = ((utf8, comes.0, comes.1), (none, Keeps-refl old))
@@ -72,7 +77,8 @@ refused_ends admits words given made old OutOfMemoryUndelivered none utf8 comes 
 refused_ends admits words given made old UnwritableOutput none utf8 comes = absurd comes
 
 -- words that ask for a text
-pub text_ends : (admits : Admits) (words : List Text) (given : Given) (made : Option Made) (old new : Option (List ℕ)) (end : Result (Unit {0}) Fault) → made ≡ None
+pub text_ends : (admits : Admits) (words : List Text) (given : Given) (made : Option Made) (old new : Option (List ℕ))
+    (end : Result (Unit {0}) Fault) → made ≡ None
     → AsksText words → TextEnds old new end → Ends admits words given made old new end
 text_ends admits words given made old new (Ok done) none asks ends = inl (asks, none, ends)
 text_ends admits words given made old new (Err (CommandLine text)) none asks ends = absurd ends
@@ -83,7 +89,8 @@ text_ends admits words given made old new (Err OutOfMemoryUndelivered) none asks
 text_ends admits words given made old new (Err UnwritableOutput) none asks ends = inl (asks, none, ends)
 
 -- a run doesn't end by a fault of the command line
-no_words_fault : (admits : Admits) (chosen : Options → Type 0) (given : Given) (made : Option Made) (old new : Option (List ℕ)) (fault : Fault)
+no_words_fault : (admits : Admits) (chosen : Options → Type 0) (given : Given) (made : Option Made)
+    (old new : Option (List ℕ)) (fault : Fault)
     → IsWordsFault fault → RunEnds admits chosen given made old new (Err fault) → ⊥
 no_words_fault admits chosen given None old new (CommandLine text) is ends = ends
 no_words_fault admits chosen given None old new BadOrder is ends = ends
@@ -93,7 +100,8 @@ no_words_fault admits chosen given None old new OutOfMemoryUndelivered is ends =
 no_words_fault admits chosen given None old new UnwritableOutput is ends = is
 no_words_fault admits chosen given (Some run) old new fault is ends = never_finishes run.ended run.appended old new fault is ends.1
 
-run_of_script_ends : (admits : Admits) (words : List Text) (given : Given) (made : Option Made) (old new : Option (List ℕ)) (end : Result (Unit {0}) Fault)
+run_of_script_ends : (admits : Admits) (words : List Text) (given : Given) (made : Option Made)
+    (old new : Option (List ℕ)) (end : Result (Unit {0}) Fault)
     → AsksRun words → RunEnds admits (ChoosesOf words) given made old new end → Ends admits words given made old new end
 run_of_script_ends admits words given made old new (Ok done) asks ends = inr (asks, ends)
 run_of_script_ends admits words given made old new (Err (CommandLine text)) asks ends = absurd (no_words_fault admits (ChoosesOf words) given made old new (CommandLine text) tt ends)
@@ -104,8 +112,10 @@ run_of_script_ends admits words given made old new (Err OutOfMemoryUndelivered) 
 run_of_script_ends admits words given made old new (Err UnwritableOutput) asks ends = inr (asks, ends)
 
 -- a run with options that the words choose
-choice_ends : (admits : Admits) (words : List Text) (options : Options) (given : Given) (made : Option Made) (old new : Option (List ℕ)) (end : Result (Unit {0}) Fault)
-    → ChoosesOf words options → RunEnds admits (λ chosen. chosen ≡ options) given made old new end → RunEnds admits (ChoosesOf words) given made old new end
+choice_ends : (admits : Admits) (words : List Text) (options : Options) (given : Given) (made : Option Made)
+    (old new : Option (List ℕ)) (end : Result (Unit {0}) Fault)
+    → ChoosesOf words options → RunEnds admits (λ chosen. chosen ≡ options) given made old new end
+    → RunEnds admits (ChoosesOf words) given made old new end
 choice_ends admits words options given None old new (Ok done) is ends = ends
 choice_ends admits words options given None old new (Err (CommandLine text)) is ends = ends
 choice_ends admits words options given None old new (Err BadOrder) is ends = ends
@@ -129,7 +139,9 @@ choice_ends admits words options given (Some run) old new end is ends =
     )
 
 -- words that ask for a run: it is of the script that they name
-pub run_ends : (admits : Admits) (words : List Text) (options : Options) (content : List ℕ → Option (List ℕ)) (readable : List ℕ → Type 0) (input : Option (List ℕ)) (made : Option Made) (old new : Option (List ℕ)) (end : Result (Unit {0}) Fault)
+pub run_ends : (admits : Admits) (words : List Text) (options : Options) (content : List ℕ → Option (List ℕ))
+    (readable : List ℕ → Type 0) (input : Option (List ℕ)) (made : Option Made) (old new : Option (List ℕ))
+    (end : Result (Unit {0}) Fault)
     → All IsUtf8 words → ComesOf words (Ok (Run options)) → (let given : Given = record { content = content; readable = readable; script = option_map_or (λ name. content name.now) options.script input } in RunEnds admits (λ chosen. chosen ≡ options) given made old new end)
     → Ends admits words (given_in content readable input words) made old new end
 run_ends admits words options content readable input made old new end utf8 comes ends =
@@ -141,14 +153,18 @@ run_ends admits words options content readable input made old new end utf8 comes
     (choice_ends admits words options (given_in content readable input words) made old new end comes.1 of_words)
 
 -- a run whose answers were finished with
-pub finished_ends : (admits : Admits) (options : Options) (given : Given) (bytes answers : List ℕ) (sources : Sources) (ended : Result (Unit {0}) NoMemory) (made : Option Made) (old new : Option (List ℕ)) (result : Result (Unit {0}) Fault)
-    → IsKnown given.script bytes → AreFiles given.content sources → HasReadable given.readable bytes sources → IsMade (admits sources bytes options) ended made → IfSome made (λ run. answers ≡ run.appended)
+pub finished_ends : (admits : Admits) (options : Options) (given : Given) (bytes answers : List ℕ) (sources : Sources)
+    (ended : Result (Unit {0}) NoMemory) (made : Option Made) (old new : Option (List ℕ))
+    (result : Result (Unit {0}) Fault)
+    → IsKnown given.script bytes → AreFiles given.content sources → HasReadable given.readable bytes sources
+    → IsMade (admits sources bytes options) ended made → IfSome made (λ run. answers ≡ run.appended)
     → Finishes ended answers old new result → RunEnds admits (λ chosen. chosen ≡ options) given made old new result
 finished_ends admits options given bytes answers sources ended None old new result is are has run same finished = absurd run
 finished_ends admits options given bytes answers sources ended (Some made) old new result is are has run same finished =
     (record { script = bytes; sources = sources; options = options; is_script = is; are_files = are; has_readable = has; are_options = refl; is_run = run.1 }, rw (run.0, ← same) finished)
 
 -- memory ran out before the run
-pub unread_files_end : (admits : Admits) (chosen : Options → Type 0) (given : Given) (made : Option Made) (old : Option (List ℕ)) (result : Result (Unit {0}) Fault) → made ≡ None → result ≡ Err OutOfMemory
+pub unread_files_end : (admits : Admits) (chosen : Options → Type 0) (given : Given) (made : Option Made)
+    (old : Option (List ℕ)) (result : Result (Unit {0}) Fault) → made ≡ None → result ≡ Err OutOfMemory
     → RunEnds admits chosen given made old old result
 unread_files_end admits chosen given made old result none ended = rw (none, ended) (Keeps-refl old)

@@ -11,8 +11,10 @@ use Rattle.gbrun.specs.Orders.{seed_of}
 own : IsNumeralModel (λ ds. list_all is_ascii_digit ds ≡ true) (digits_value 10)
 own = numerals_by_value _ (search rules)
 
-from_outcome : {E : Type 0} (digits : List ℕ) (r : Result ℕ E) → list_all is_ascii_digit digits ≡ true → length digits ≤ 20
-    → OkIff r ((0 < length digits) × (digits_value 10 digits < 2 ^ 64)) (digits_value 10 digits) → result_ok r ≡ seed_of digits
+from_outcome : {E : Type 0} (digits : List ℕ) (r : Result ℕ E) → list_all is_ascii_digit digits ≡ true
+    → length digits ≤ 20
+    → OkIff r ((0 < length digits) × (digits_value 10 digits < 2 ^ 64)) (digits_value 10 digits)
+    → result_ok r ≡ seed_of digits
 from_outcome digits (Ok x) plain short fits = search rules
 from_outcome digits (Err e) plain short fails = search rules
 

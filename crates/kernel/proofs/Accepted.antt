@@ -38,7 +38,8 @@ use Rattle.model.proofs.WriteBackLaws.{accepted-accumulator, accepted-compatible
 use Rattle.store.specs.Stored.{Stored}
 
 -- what the names of operators say doesn't depend on how objects are named
-offered_as : {K L : Type 0} (f : Role → K) (g : Role → L) (op : Operation Role) → is_offered (renamed_operation f op) ≡ is_offered (renamed_operation g op)
+offered_as : {K L : Type 0} (f : Role → K) (g : Role → L) (op : Operation Role)
+    → is_offered (renamed_operation f op) ≡ is_offered (renamed_operation g op)
 offered_as f g (Fill value region) = refl
 offered_as f g (OfOne computes a) = refl
 offered_as f g (OfTwo computes a b) = refl
@@ -77,12 +78,14 @@ recipe-accepts recipe straight =
 
 -- ..of a step that is known
 pub step-accepts : (recipe : Recipe) (step : Step) → IsStraight recipe.out.desc → recipe.step ≡ step
-    → Accepts (plan_of (output_of recipe) (renamed_operation (role_of recipe.signatures) (called step))) (output_of recipe)
+    → Accepts (plan_of (output_of recipe) (renamed_operation (role_of recipe.signatures) (called step)))
+    (output_of recipe)
 step-accepts recipe step straight is =
     subst (λ (s : Step). Accepts (plan_of (output_of recipe) (renamed_operation (role_of recipe.signatures) (called s))) (output_of recipe)) is (recipe-accepts recipe straight)
 
 -- its operators are offered
-pub recipe-offered : (recipe : Recipe) (object : Role → Object) → is_offered (renamed_operation object (called recipe.step)) ≡ true
+pub recipe-offered : (recipe : Recipe) (object : Role → Object)
+    → is_offered (renamed_operation object (called recipe.step)) ≡ true
 recipe-offered recipe object =
     let out = renamed_out (role_of recipe.signatures) recipe.out in
     let op = renamed_operation (role_of recipe.signatures) (called recipe.step) in
@@ -124,11 +127,14 @@ recipe-means recipe stored straight i j =
 
 -- ---- what a recipe leaves is an object
 
-mask_signature : (sig : Role → Signature) (object : Role → Object) (mask : Option Role) → ((role : Role) → signature_of (object role) ≡ sig role) → option_map signature_of (option_map object mask) ≡ option_map sig mask
+mask_signature : (sig : Role → Signature) (object : Role → Object) (mask : Option Role)
+    → ((role : Role) → signature_of (object role) ≡ sig role)
+    → option_map signature_of (option_map object mask) ≡ option_map sig mask
 mask_signature sig object None same = refl
 mask_signature sig object (Some role) same = ap Some (same role)
 
-pub inputs_are : (object : Role → Object) (op : Operation Role) → ((role : Role) → IsObject (object role)) → All IsObject (inputs_of (renamed_operation object op))
+pub inputs_are : (object : Role → Object) (op : Operation Role) → ((role : Role) → IsObject (object role))
+    → All IsObject (inputs_of (renamed_operation object op))
 inputs_are object (Fill value region) are = All-nil IsObject
 inputs_are object (OfOne computes a) are = All-cons IsObject (object a) [] (are a) (All-nil IsObject)
 inputs_are object (OfTwo computes a b) are =
@@ -147,7 +153,8 @@ recipe-leaves recipe stored are =
     result-is_object (renamed_out object recipe.out) (renamed_operation object (called recipe.step)) accepted (are.objects recipe.out.c) (inputs_are object (called recipe.step) are.objects)
 
 -- what it computes are words of the domain that the table gives
-pub computed-words : (recipe : Recipe) (stored : Role → Stored) → AreStraight recipe stored → AreWordsOf (plan_in recipe).domain (computed recipe (object_in recipe stored))
+pub computed-words : (recipe : Recipe) (stored : Role → Stored) → AreStraight recipe stored
+    → AreWordsOf (plan_in recipe).domain (computed recipe (object_in recipe stored))
 computed-words recipe stored are =
     let object = object_in recipe stored in
     let op = called recipe.step in

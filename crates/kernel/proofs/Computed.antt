@@ -43,7 +43,8 @@ use Rattle.model.proofs.StoredLaws.{applied-stored, intersection-stored, multipl
 use Rattle.store.specs.Stored.{Stored, content_of}
 
 -- what a step that is known computes
-pub of_step : (recipe : Recipe) (step : Step) (object : Role → Object) → recipe.step ≡ step → (i j : ℕ) → operation (output_of recipe) (renamed_operation object (called step)) i j ≡ computed recipe object i j
+pub of_step : (recipe : Recipe) (step : Step) (object : Role → Object) → recipe.step ≡ step → (i j : ℕ)
+    → operation (output_of recipe) (renamed_operation object (called step)) i j ≡ computed recipe object i j
 of_step recipe step object is i j = ap (λ (s : Step). operation (output_of recipe) (renamed_operation object (called s)) i j) (sym is)
 
 module _ (recipe : Recipe) (stored : Role → Stored) (are : AreStraight recipe stored) where
@@ -63,7 +64,8 @@ module _ (recipe : Recipe) (stored : Role → Stored) (are : AreStraight recipe 
         fit_together form (stored role.First) (stored role.Second) (signature role.First).shape (signature role.Second).shape (output_of recipe).shape
         (shaped role.First) (shaped role.Second) accepts.kinds (eqb-true _ _ accepts.fits) accepts.shape
 
-    pub product-computed : (i j : ℕ) → multiplied form (semiring_named semiring) (inner_of form (stored role.First)) (content_of (stored role.First)) (content_of (stored role.Second)) i j
+    pub product-computed : (i j : ℕ) → multiplied form (semiring_named semiring) (inner_of form (stored role.First))
+        (content_of (stored role.First)) (content_of (stored role.Second)) i j
         ≡ computed recipe object i j
     unfolding operation
     product-computed i j =
@@ -75,17 +77,20 @@ module _ (recipe : Recipe) (stored : Role → Stored) (are : AreStraight recipe 
         ∙ of_step recipe (Multiply form semiring) object is i j
 
   module _ (op : BinaryOp) where
-    pub same_cols : (positions : Positions) → recipe.step ≡ Combine positions op → (stored role.First).cols ≡ (stored role.Second).cols
+    pub same_cols : (positions : Positions) → recipe.step ≡ Combine positions op
+        → (stored role.First).cols ≡ (stored role.Second).cols
     same_cols positions is =
         let accepts = step-accepts recipe (Combine positions op) are.desc is in
         are.cols role.First ∙ (same_shape-rows (signature role.First).shape (signature role.Second).shape accepts.fits).1 ∙ sym (are.cols role.Second)
 
-    pub combined-cols : (positions : Positions) → recipe.step ≡ Combine positions op → (stored role.First).cols ≡ cols_of (output_of recipe).shape
+    pub combined-cols : (positions : Positions) → recipe.step ≡ Combine positions op
+        → (stored role.First).cols ≡ cols_of (output_of recipe).shape
     combined-cols positions is =
         are.cols role.First ∙ (same_shape-rows (signature role.First).shape (output_of recipe).shape (step-accepts recipe (Combine positions op) are.desc is).shape).1
 
     pub union-computed : recipe.step ≡ Combine Union op → (i j : ℕ)
-        → of_either (alone_by op) (alone_by op) (eval_of op.kind op.domain) (content_of (stored role.First) i j) (content_of (stored role.Second) i j) ≡ computed recipe object i j
+        → of_either (alone_by op) (alone_by op) (eval_of op.kind op.domain) (content_of (stored role.First) i j)
+        (content_of (stored role.Second) i j) ≡ computed recipe object i j
     unfolding operation
     union-computed is i j =
         let accepts = step-accepts recipe (Combine Union op) are.desc is in
@@ -94,7 +99,8 @@ module _ (recipe : Recipe) (stored : Role → Stored) (are : AreStraight recipe 
         ∙ of_step recipe (Combine Union op) object is i j
 
     pub intersection-computed : recipe.step ≡ Combine Intersection op → (i j : ℕ)
-        → of_both (eval_of op.kind op.domain) (content_of (stored role.First) i j) (content_of (stored role.Second) i j) ≡ computed recipe object i j
+        → of_both (eval_of op.kind op.domain) (content_of (stored role.First) i j)
+        (content_of (stored role.Second) i j) ≡ computed recipe object i j
     unfolding operation
     intersection-computed is i j =
         let accepts = step-accepts recipe (Combine Intersection op) are.desc is in
@@ -109,18 +115,21 @@ module _ (recipe : Recipe) (stored : Role → Stored) (are : AreStraight recipe 
       sym (applied-stored (function_named function) (object role.First) (step-accepts recipe (Apply function) are.desc is).compatible (are.objects role.First).words i j)
       ∙ of_step recipe (Apply function) object is i j
 
-  pub applied-cols : (function : Function) → recipe.step ≡ Apply function → (stored role.First).cols ≡ cols_of (output_of recipe).shape
+  pub applied-cols : (function : Function) → recipe.step ≡ Apply function
+      → (stored role.First).cols ≡ cols_of (output_of recipe).shape
   applied-cols function is =
       are.cols role.First ∙ (same_shape-rows (signature role.First).shape (output_of recipe).shape (step-accepts recipe (Apply function) are.desc is).shape).1
 
   pub selected-computed : (op : IndexOp) (scalar : ℤ) → recipe.step ≡ Select op scalar → (i j : ℕ)
-      → kept_where (passes_by op (word_of (scalar_domain op.kind op.domain) scalar)) (content_of (stored role.First)) i j ≡ computed recipe object i j
+      → kept_where (passes_by op (word_of (scalar_domain op.kind op.domain) scalar))
+      (content_of (stored role.First)) i j ≡ computed recipe object i j
   unfolding operation
   selected-computed op scalar is i j =
       sym (selected-stored (index_named op) (word_of (scalar_domain op.kind op.domain) scalar) (object role.First) (step-accepts recipe (Select op scalar) are.desc is).compatible (are.objects role.First).words i j)
       ∙ of_step recipe (Select op scalar) object is i j
 
-  pub selected-cols : (op : IndexOp) (scalar : ℤ) → recipe.step ≡ Select op scalar → (stored role.First).cols ≡ cols_of (output_of recipe).shape
+  pub selected-cols : (op : IndexOp) (scalar : ℤ) → recipe.step ≡ Select op scalar
+      → (stored role.First).cols ≡ cols_of (output_of recipe).shape
   selected-cols op scalar is =
       are.cols role.First ∙ (same_shape-rows (signature role.First).shape (output_of recipe).shape (step-accepts recipe (Select op scalar) are.desc is).shape).1
 
@@ -129,13 +138,15 @@ module _ (recipe : Recipe) (stored : Role → Stored) (are : AreStraight recipe 
     sums-cols = (same_shape-rows (One (rows_of (signature role.First).shape)) (output_of recipe).shape (step-accepts recipe (ReduceRows monoid) are.desc is).shape).1
 
     -- the sum of a row, of its words as they are stored
-    row_sum : (words : List ℕ) → All (IsWordOf (signature role.First).domain) words → folded monoid words ≡ sum_of monoid.kind monoid.op.domain (map (cast_of (signature role.First).domain monoid.op.domain) words)
+    row_sum : (words : List ℕ) → All (IsWordOf (signature role.First).domain) words
+        → folded monoid words ≡ sum_of monoid.kind monoid.op.domain (map (cast_of (signature role.First).domain monoid.op.domain) words)
     row_sum [] all = refl
     row_sum (word ∷ words) all =
         let offered : offers (combines_by monoid.kind) monoid.op.domain ≡ true = rw (← monoid.combines) monoid.op.offered in
         sym (sum-stored monoid.kind (signature role.First).domain monoid.op.domain word words offered (step-accepts recipe (ReduceRows monoid) are.desc is).compatible all)
 
-    pub sums-computed : (i j : ℕ) → cond (j == 0) (folded monoid (row_words (stored role.First).cols (content_of (stored role.First)) i)) None ≡ computed recipe object i j
+    pub sums-computed : (i j : ℕ) → cond (j == 0)
+        (folded monoid (row_words (stored role.First).cols (content_of (stored role.First)) i)) None ≡ computed recipe object i j
     unfolding operation
     sums-computed i j =
         let a = object role.First in

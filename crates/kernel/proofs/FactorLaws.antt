@@ -25,7 +25,8 @@ pub record FitTogether (form : Form) (a b : Stored) (c : Shape) : Type 0 where
   pub cols : cols_of_product form b ≡ cols_of c
 
 pub fit_together : (form : Form) (a b : Stored) (first second c : Shape) → IsShaped a first → IsShaped b second
-    → are_factors form first second ≡ true → inner_size form first ≡ rows_of second → same_shape (product_shape form first second) c ≡ true → FitTogether form a b c
+    → are_factors form first second ≡ true → inner_size form first ≡ rows_of second
+    → same_shape (product_shape form first second) c ≡ true → FitTogether form a b c
 fit_together MatrixMatrix a b first second c is_a is_b kinds inner shape =
     let same = same_shape-rows (Two (rows_of first) (cols_of second)) c shape in
     record {
@@ -48,7 +49,8 @@ fit_together VectorMatrix a b first second c is_a is_b kinds inner shape =
       cols = same.1;
     }
 
-pub inner-shaped : (form : Form) (a : Stored) (shape : Shape) → IsShaped a shape → inner_of form a ≡ inner_size form shape
+pub inner-shaped : (form : Form) (a : Stored) (shape : Shape) → IsShaped a shape
+    → inner_of form a ≡ inner_size form shape
 inner-shaped MatrixMatrix a shape is = is.cols
 inner-shaped MatrixVector a shape is = is.cols
 inner-shaped VectorMatrix a shape is = is.rows

@@ -68,7 +68,8 @@ pub flipped-kind : (kind flipped : BinaryKind) → flipped_kind kind ≡ Some fl
 flipped-kind kind flipped is = subst (λ o. IfSome o (TakesExchanged kind)) is (partner kind)
 
 -- ..for all words
-pub flipped-word : (kind flipped : BinaryKind) → flipped_kind kind ≡ Some flipped → (d : Domain) (x y : ℕ) → eval_of flipped d x y ≡ eval_of kind d y x
+pub flipped-word : (kind flipped : BinaryKind) → flipped_kind kind ≡ Some flipped → (d : Domain) (x y : ℕ)
+    → eval_of flipped d x y ≡ eval_of kind d y x
 flipped-word kind flipped is d x y =
     let takes = flipped-kind kind flipped is in
     ap (λ answer. word_of answer (formula flipped (value_of d x) (value_of d y))) (takes.answer d)
@@ -94,11 +95,13 @@ module _ (semiring : SemiringName) (kind : BinaryKind) (is : flipped_kind semiri
   factors_exchanged (Some x) None = refl
   factors_exchanged (Some x) (Some y) = ap Some (sym (flipped-word semiring.multiply kind is semiring.domain y x))
 
-  terms_exchanged : (n : ℕ) (a b : Content) (i j : ℕ) → terms semiring n a b i j ≡ terms flipped n (transposed_content b) (transposed_content a) j i
+  terms_exchanged : (n : ℕ) (a b : Content) (i j : ℕ)
+      → terms semiring n a b i j ≡ terms flipped n (transposed_content b) (transposed_content a) j i
   terms_exchanged n a b i j = λ t. filter_map (λ k. factors_exchanged (a i k) (b k j) t) (below n)
 
   -- the product transposed is the product of the transposed factors in exchanged order
-  pub product-flipped : (n : ℕ) (a b : Content) (i j : ℕ) → product semiring n a b i j ≡ product flipped n (transposed_content b) (transposed_content a) j i
+  pub product-flipped : (n : ℕ) (a b : Content) (i j : ℕ)
+      → product semiring n a b i j ≡ product flipped n (transposed_content b) (transposed_content a) j i
   unfolding product
   product-flipped n a b i j =
       ap (sum_of semiring) (terms_exchanged n a b i j)

@@ -79,7 +79,8 @@ module _ (semiring : SemiringName) (kind : BinaryKind) (is : flipped_kind semiri
   abbrev flipped : SemiringName
   flipped = multiplying_by semiring kind
 
-  compatible_comm : (a b : Domain) → (are_compatible b semiring.domain && are_compatible a semiring.domain) ≡ (are_compatible a semiring.domain && are_compatible b semiring.domain)
+  compatible_comm : (a b : Domain)
+      → (are_compatible b semiring.domain && are_compatible a semiring.domain) ≡ (are_compatible a semiring.domain && are_compatible b semiring.domain)
   compatible_comm a b = and_comm (are_compatible b semiring.domain) (are_compatible a semiring.domain)
 
   -- the flag of a vector has no effect
@@ -118,22 +119,27 @@ module _ (semiring : SemiringName) (kind : BinaryKind) (is : flipped_kind semiri
   vector_matrix (One k) (Two n m) by from false fit = transposed_second m n k from by (sym (eqb-true k m fit.fits))
 
   -- where the flag of the matrix says so
-  by_first : (first second : Bool) (other : Form) (a b : Signature) → (if first then Some VectorMatrix else None) ≡ Some other
-      → Fits (plan_transposed MatrixVector semiring first second a b) → IsAlike MatrixVector other semiring flipped first second a b
+  by_first : (first second : Bool) (other : Form) (a b : Signature)
+      → (if first then Some VectorMatrix else None) ≡ Some other
+      → Fits (plan_transposed MatrixVector semiring first second a b)
+      → IsAlike MatrixVector other semiring flipped first second a b
   by_first false second other a b which fit = absurd (cc)
   by_first true second other a b which fit =
       let same : VectorMatrix ≡ other = cc in
       subst (λ (o : Form). IsAlike MatrixVector o semiring flipped true second a b) same (matrix_vector a.shape b.shape a.domain b.domain second fit)
 
-  by_second : (first second : Bool) (other : Form) (a b : Signature) → (if second then Some MatrixVector else None) ≡ Some other
-      → Fits (plan_transposed VectorMatrix semiring first second a b) → IsAlike VectorMatrix other semiring flipped first second a b
+  by_second : (first second : Bool) (other : Form) (a b : Signature)
+      → (if second then Some MatrixVector else None) ≡ Some other
+      → Fits (plan_transposed VectorMatrix semiring first second a b)
+      → IsAlike VectorMatrix other semiring flipped first second a b
   by_second first false other a b which fit = absurd (cc)
   by_second first true other a b which fit =
       let same : MatrixVector ≡ other = cc in
       subst (λ (o : Form). IsAlike VectorMatrix o semiring flipped first true a b) same (vector_matrix a.shape b.shape a.domain b.domain first fit)
 
   alike : (form other : Form) (desc : Desc) (a b : Signature) → flipped_form form desc ≡ Some other
-      → Fits (plan_transposed form semiring desc.transpose_first desc.transpose_second a b) → IsAlike form other semiring flipped desc.transpose_first desc.transpose_second a b
+      → Fits (plan_transposed form semiring desc.transpose_first desc.transpose_second a b)
+      → IsAlike form other semiring flipped desc.transpose_first desc.transpose_second a b
   alike MatrixMatrix other desc a b which fit = absurd (cc)
   alike MatrixVector other desc a b which fit = by_first desc.transpose_first desc.transpose_second other a b which fit
   alike VectorMatrix other desc a b which fit = by_second desc.transpose_first desc.transpose_second other a b which fit
@@ -141,7 +147,8 @@ module _ (semiring : SemiringName) (kind : BinaryKind) (is : flipped_kind semiri
   -- it leaves the same
   result_alike : (out : Out Object) (form other : Form) (a b : Object) → flipped_form form out.desc ≡ Some other
       → Fits (plan_transposed form semiring out.desc.transpose_first out.desc.transpose_second (signature_of a) (signature_of b))
-      → (i j : ℕ) → result_of (straight_out out) (OfTwo (Multiply other flipped) b a) i j ≡ result_of out (OfTwo (Multiply form semiring) a b) i j
+      → (i j : ℕ) → result_of (straight_out out)
+      (OfTwo (Multiply other flipped) b a) i j ≡ result_of out (OfTwo (Multiply form semiring) a b) i j
   unfolding result_of operation
   result_alike out form other a b which fit i j =
       let same = alike form other out.desc (signature_of a) (signature_of b) which fit in
@@ -160,19 +167,23 @@ unfolding operation_fault fails_by
 fault_by out computes a b = refl
 
 fault_straight : (out : Out Signature) (computes : TwoInputs) (a b : Signature)
-    → operation_fault (straight_out out) (OfTwo computes a b) ≡ first_of (fails_by out (offers_two computes) (plan_of_two computes a b))
+    → operation_fault (straight_out out)
+    (OfTwo computes a b) ≡ first_of (fails_by out (offers_two computes) (plan_of_two computes a b))
 unfolding operation_fault fails_by
 fault_straight out computes a b = refl
 
 -- its factors fit, since it has no fault
-accepted-fits : (out : Out Signature) (form : Form) (semiring : SemiringName) (a b : Signature) → operation_fault out (OfTwo (Multiply form semiring) a b) ≡ None
+accepted-fits : (out : Out Signature) (form : Form) (semiring : SemiringName) (a b : Signature)
+    → operation_fault out (OfTwo (Multiply form semiring) a b) ≡ None
     → Fits (plan_transposed form semiring out.desc.transpose_first out.desc.transpose_second a b)
 accepted-fits out form semiring a b accepted =
     let op = OfTwo (Multiply form semiring) a b in
     record { kinds = accepted-kinds out op accepted; fits = (accepted-shapes out op accepted).1 }
 
-fault_alike : (semiring : SemiringName) (kind : BinaryKind) → flipped_kind semiring.multiply ≡ Some kind → (out : Out Signature) (form other : Form) (a b : Signature) → flipped_form form out.desc ≡ Some other
-    → operation_fault out (OfTwo (Multiply form semiring) a b) ≡ None → operation_fault (straight_out out) (OfTwo (Multiply other (multiplying_by semiring kind)) b a) ≡ None
+fault_alike : (semiring : SemiringName) (kind : BinaryKind) → flipped_kind semiring.multiply ≡ Some kind
+    → (out : Out Signature) (form other : Form) (a b : Signature) → flipped_form form out.desc ≡ Some other
+    → operation_fault out (OfTwo (Multiply form semiring) a b) ≡ None
+    → operation_fault (straight_out out) (OfTwo (Multiply other (multiplying_by semiring kind)) b a) ≡ None
 fault_alike semiring kind is out form other a b which accepted =
     let same = alike semiring kind is form other out.desc a b which (accepted-fits out form semiring a b accepted) in
     fault_straight out (Multiply other (multiplying_by semiring kind)) b a
@@ -192,7 +203,8 @@ pub record IsProduct (s : Step) (desc : Desc) (op : Operation Role) : Type 0 whe
   pub kind_is : flipped_kind semiring.multiply.kind ≡ Some kind
   pub op_is : called_of_two (Multiply other (multiplying_by (semiring_named semiring) kind)) ≡ op
 
-product_parts : (form : Form) (semiring : Semiring) (desc : Desc) (op : Operation Role) (other : Option Form) (kind : Option BinaryKind)
+product_parts : (form : Form) (semiring : Semiring) (desc : Desc) (op : Operation Role) (other : Option Form)
+    (kind : Option BinaryKind)
     → flipped_form form desc ≡ other → flipped_kind semiring.multiply.kind ≡ kind
     → option_and_then (λ other. option_map (λ flipped. called_of_two (Multiply other flipped)) (option_map (multiplying_by (semiring_named semiring)) kind)) other ≡ Some op
     → IsProduct (step.Multiply form semiring) desc op
@@ -207,14 +219,16 @@ is_product _ desc op is = absurd (cc)
 
 -- the operation of a known step was accepted
 accepted-step : (recipe : Recipe) (s : Step) → recipe.step ≡ s
-    → operation_fault (renamed_out (role_of recipe.signatures) recipe.out) (renamed_operation (role_of recipe.signatures) (called s)) ≡ None
+    → operation_fault (renamed_out (role_of recipe.signatures) recipe.out)
+    (renamed_operation (role_of recipe.signatures) (called s)) ≡ None
 accepted-step recipe s is =
     let sig = role_of recipe.signatures in
     subst (λ (s : Step). operation_fault (renamed_out sig recipe.out) (renamed_operation sig (called s)) ≡ None) is recipe.accepted
 
 -- ..and that of the factors in exchanged order has no fault
 pub flipped-accepted : (recipe : Recipe) (op : Operation Role) → flipped_product recipe.step recipe.out.desc ≡ Some op
-    → operation_fault (renamed_out (role_of (exchanged recipe.signatures)) (straight_out recipe.out)) (renamed_operation (role_of (exchanged recipe.signatures)) op) ≡ None
+    → operation_fault (renamed_out (role_of (exchanged recipe.signatures)) (straight_out recipe.out))
+    (renamed_operation (role_of (exchanged recipe.signatures)) op) ≡ None
 flipped-accepted recipe op is =
     let sig = role_of recipe.signatures in
     let new = role_of (exchanged recipe.signatures) in
@@ -225,9 +239,11 @@ flipped-accepted recipe op is =
     (accepted-step recipe (step.Multiply p.form p.semiring) p.step_is)
 
 -- it leaves of exchanged objects what the recipe leaves
-exchanged-result : (recipe : Recipe) (stored : Role → Stored) (op : Operation Role) (g : Role → Object) → flipped_product recipe.step recipe.out.desc ≡ Some op
+exchanged-result : (recipe : Recipe) (stored : Role → Stored) (op : Operation Role) (g : Role → Object)
+    → flipped_product recipe.step recipe.out.desc ≡ Some op
     → g First ≡ object_in recipe stored Second → g Second ≡ object_in recipe stored First
-    → (i j : ℕ) → result_of (straight_out (renamed_out (object_in recipe stored) recipe.out)) (renamed_operation g op) i j ≡ meaning recipe (object_in recipe stored) i j
+    → (i j : ℕ) → result_of (straight_out (renamed_out (object_in recipe stored) recipe.out))
+    (renamed_operation g op) i j ≡ meaning recipe (object_in recipe stored) i j
 exchanged-result recipe stored op g is first second i j =
     let f = object_in recipe stored in
     let sig = role_of recipe.signatures in

@@ -16,7 +16,8 @@ use Rattle.model.specs.WriteBack.{accumulated, accumulated_by, landed, mask_set,
 use Rattle.store.specs.Stored.{Block, block_content}
 
 -- rows of what a mask lets through of a map that is the same
-pub agrees-masked : (mask : Mask) (first past cols cols' : ℕ) (c d : Content) (block : Block) → cols ≡ cols' → ((i j : ℕ) → c i j ≡ d i j)
+pub agrees-masked : (mask : Mask) (first past cols cols' : ℕ) (c d : Content) (block : Block) → cols ≡ cols'
+    → ((i j : ℕ) → c i j ≡ d i j)
     → HasRows first past cols (inside_of mask c) block → AgreesUnder mask first past cols' d block
 agrees-masked mask first past cols cols' c d block same_cols same has = record {
   first_is = has.first_is;
@@ -25,7 +26,8 @@ agrees-masked mask first past cols cols' c d block same_cols same has = record {
   words = λ i j low high inside. has.words i j low high ∙ ap (λ test. cond test (c i j) None) inside ∙ same i j;
 }
 
-written-same : (mask : Mask) (out : Out Object) (t all : Content) (i j : ℕ) → (lets_through mask i j ≡ true → t i j ≡ all i j)
+written-same : (mask : Mask) (out : Out Object) (t all : Content) (i j : ℕ)
+    → (lets_through mask i j ≡ true → t i j ≡ all i j)
     → let write = written_at out.accum out.desc.replace in
     write (lets_through mask i j) (out.c.content i j) (t i j) ≡ write (lets_through mask i j) (out.c.content i j) (all i j)
 written-same mask out t all i j same =
@@ -39,7 +41,8 @@ written-same mask out t all i j same =
 abbrev pub written_all : Out Object → Content → Content
 written_all out all = masked out (landed out (λ i j. true) all)
 
-pub written-masked : (mask : Mask) (out : Out Object) (t all : Content) (i j : ℕ) → mask_set out i j ≡ lets_through mask i j
+pub written-masked : (mask : Mask) (out : Out Object) (t all : Content) (i j : ℕ)
+    → mask_set out i j ≡ lets_through mask i j
     → (lets_through mask i j ≡ true → t i j ≡ all i j)
     → written_by mask out.accum out.desc.replace out.c.content t i j ≡ written_all out all i j
 written-masked mask out t all i j same is =
@@ -47,9 +50,12 @@ written-masked mask out t all i j same is =
     ∙ ap (λ is_in. written_at out.accum out.desc.replace is_in (out.c.content i j) (all i j)) (sym same)
 
 -- rows that agree with a map everywhere, where there is memory for them
-pub agrees-everywhere : {E : Type 0} (result : Result Block E) (mask : Mask) (first past cols cols' : ℕ) (c d : Content) → cols ≡ cols' → ((i j : ℕ) → c i j ≡ d i j)
-    → IfOk result (λ block. block.first ≡ first) → IfOk result (λ block. block.past ≡ past) → IfOk result (λ block. block.cols ≡ cols)
-    → IfOk result (λ block. (i j : ℕ) → first ≤ i → i < past → block_content block i j ≡ c i j) → IfOk result (AgreesUnder mask first past cols' d)
+pub agrees-everywhere : {E : Type 0} (result : Result Block E) (mask : Mask) (first past cols cols' : ℕ)
+    (c d : Content) → cols ≡ cols' → ((i j : ℕ) → c i j ≡ d i j)
+    → IfOk result (λ block. block.first ≡ first) → IfOk result (λ block. block.past ≡ past)
+    → IfOk result (λ block. block.cols ≡ cols)
+    → IfOk result (λ block. (i j : ℕ) → first ≤ i → i < past → block_content block i j ≡ c i j)
+    → IfOk result (AgreesUnder mask first past cols' d)
 agrees-everywhere (Ok block) mask first past cols cols' c d same_cols same is_first is_past is_cols words = record {
   first_is = is_first;
   past_is = is_past;
@@ -59,7 +65,8 @@ agrees-everywhere (Ok block) mask first past cols cols' c d same_cols same is_fi
 agrees-everywhere (Err e) mask first past cols cols' c d same_cols same is_first is_past is_cols words = tt
 
 -- ..in another domain
-pub agrees-cast : (mask : Mask) (first past cols : ℕ) (from to : Domain) (c : Content) (block result : Block) → AreWordsOf from c → AgreesUnder mask first past cols c block
+pub agrees-cast : (mask : Mask) (first past cols : ℕ) (from to : Domain) (c : Content) (block result : Block)
+    → AreWordsOf from c → AgreesUnder mask first past cols c block
     → result.first ≡ block.first → result.past ≡ block.past → result.cols ≡ block.cols
     → ((i j : ℕ) → ((word : ℕ) → block_content block i j ≡ Some word → IsWordOf from word) → block_content result i j ≡ cast_content from to (block_content block) i j)
     → AgreesUnder mask first past cols (cast_content from to c) result
@@ -82,7 +89,8 @@ accumulated-nothing op None = refl
 accumulated-nothing op (Some x) = refl
 
 -- what stays outside a region is what is accumulated there
-landed-at : (here : Bool) (accum : Option OpName) (old new : Option ℕ) → (if here then accumulated_by accum old new else old) ≡ accumulated_by accum old (spread_at here accum old new)
+landed-at : (here : Bool) (accum : Option OpName) (old new : Option ℕ)
+    → (if here then accumulated_by accum old new else old) ≡ accumulated_by accum old (spread_at here accum old new)
 landed-at true accum old new = refl
 landed-at false None old new = refl
 landed-at false (Some op) old new = accumulated-nothing op old
@@ -93,7 +101,8 @@ landed-spread out is_written values i j =
     ap (λ z. if mask_set out i j then z else if out.desc.replace then None else out.c.content i j) (landed-at (is_written i j) out.accum (out.c.content i j) (values i j))
 
 -- rows of a map that is the same
-pub agrees-rows : (mask : Mask) (first past cols cols' : ℕ) (c d : Content) (block : Block) → cols ≡ cols' → ((i j : ℕ) → c i j ≡ d i j)
+pub agrees-rows : (mask : Mask) (first past cols cols' : ℕ) (c d : Content) (block : Block) → cols ≡ cols'
+    → ((i j : ℕ) → c i j ≡ d i j)
     → HasRows first past cols c block → AgreesUnder mask first past cols' d block
 agrees-rows mask first past cols cols' c d block same_cols same has = record {
   first_is = has.first_is;
@@ -103,7 +112,8 @@ agrees-rows mask first past cols cols' c d block same_cols same has = record {
 }
 
 -- rows of what is computed, and outside a region what is there
-pub agrees-over : (mask : Mask) (first past cols : ℕ) (is_written : ℕ → ℕ → Bool) (old c d : Content) (block new : Block) → AgreesUnder mask first past cols c block
+pub agrees-over : (mask : Mask) (first past cols : ℕ) (is_written : ℕ → ℕ → Bool) (old c d : Content)
+    (block new : Block) → AgreesUnder mask first past cols c block
     → new.first ≡ block.first → new.past ≡ block.past → new.cols ≡ block.cols
     → ((i j : ℕ) → block.first ≤ i → i < block.past → block_content new i j ≡ (if is_written i j then block_content block i j else old i j))
     → ((i j : ℕ) → (if is_written i j then c i j else old i j) ≡ d i j)
@@ -118,8 +128,10 @@ agrees-over mask first past cols is_written old c d block new agrees is_first is
 }
 
 -- ..where there is memory for them
-pub if_over : {E : Type 0} (result : Result Block E) (mask : Mask) (first past cols : ℕ) (is_written : ℕ → ℕ → Bool) (old c d : Content) (block : Block) → AgreesUnder mask first past cols c block
-    → IfOk result (λ new. new.first ≡ block.first) → IfOk result (λ new. new.past ≡ block.past) → IfOk result (λ new. new.cols ≡ block.cols)
+pub if_over : {E : Type 0} (result : Result Block E) (mask : Mask) (first past cols : ℕ) (is_written : ℕ → ℕ → Bool)
+    (old c d : Content) (block : Block) → AgreesUnder mask first past cols c block
+    → IfOk result (λ new. new.first ≡ block.first) → IfOk result (λ new. new.past ≡ block.past)
+    → IfOk result (λ new. new.cols ≡ block.cols)
     → IfOk result (λ new. (i j : ℕ) → block.first ≤ i → i < block.past → block_content new i j ≡ (if is_written i j then block_content block i j else old i j))
     → ((i j : ℕ) → (if is_written i j then c i j else old i j) ≡ d i j)
     → IfOk result (AgreesUnder mask first past cols d)

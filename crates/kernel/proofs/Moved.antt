@@ -21,7 +21,8 @@ use Rattle.model.proofs.ObjectLaws.{same_shape-rows}
 use Rattle.model.proofs.RegionLaws.{shape_in-counts}
 use Rattle.store.specs.Stored.{Stored, content_of}
 
-transposed_sizes : (shape : Shape) → is_matrix shape ≡ true → (rows_of (transposed_shape shape) ≡ cols_of shape) × (cols_of (transposed_shape shape) ≡ rows_of shape)
+transposed_sizes : (shape : Shape) → is_matrix shape ≡ true
+    → (rows_of (transposed_shape shape) ≡ cols_of shape) × (cols_of (transposed_shape shape) ≡ rows_of shape)
 transposed_sizes (Two m n) is = (refl, refl)
 transposed_sizes (One n) is = absurd (cc)
 
@@ -44,7 +45,8 @@ module _ (recipe : Recipe) (stored : Role → Stored) (are : AreStraight recipe 
     pub fill-low : (are_below (rows_of shape) (rows_in region.now) ≡ true) × (are_below (cols_of shape) (cols_in region.now) ≡ true)
     fill-low = and_parts _ _ (step-accepts recipe (Fill value region) are.desc is).inside
 
-    pub fill-computed : (i j : ℕ) → filled (rows_of shape) (cols_of shape) (rows_in region.now) (cols_in region.now) (word_of (output_of recipe).domain value) i j
+    pub fill-computed : (i j : ℕ) → filled (rows_of shape) (cols_of shape) (rows_in region.now) (cols_in region.now)
+        (word_of (output_of recipe).domain value) i j
         ≡ computed recipe object i j
     unfolding operation
     fill-computed i j = of_step recipe (Fill value region) object is i j
@@ -77,7 +79,8 @@ module _ (recipe : Recipe) (stored : Role → Stored) (are : AreStraight recipe 
         let counts = shape_in-counts from region.now accepts.kinds in
         rw (are.rows role.First, are.cols role.First) (sym same.0 ∙ sym counts.0, counts.1 ∙ same.1)
 
-    pub extract-computed : (i j : ℕ) → extracted first.rows first.cols (rows_in region.now) (cols_in region.now) (content_of first) i j ≡ computed recipe object i j
+    pub extract-computed : (i j : ℕ) → extracted first.rows first.cols (rows_in region.now) (cols_in region.now)
+        (content_of first) i j ≡ computed recipe object i j
     unfolding operation
     extract-computed i j =
         ap (λ m. extracted m first.cols (rows_in region.now) (cols_in region.now) (content_of first) i j) (are.rows role.First)
@@ -101,6 +104,7 @@ module _ (recipe : Recipe) (stored : Role → Stored) (are : AreStraight recipe 
         let counts = shape_in-counts shape region.now kinds.1 in
         (are.rows role.First ∙ same.0 ∙ sym counts.0, are.cols role.First ∙ same.1 ∙ sym counts.1)
 
-    pub assign-computed : (i j : ℕ) → placed (rows_of shape) (cols_of shape) (rows_in region.now) (cols_in region.now) (content_of first) i j ≡ computed recipe object i j
+    pub assign-computed : (i j : ℕ) → placed (rows_of shape) (cols_of shape) (rows_in region.now) (cols_in region.now)
+        (content_of first) i j ≡ computed recipe object i j
     unfolding operation
     assign-computed i j = of_step recipe (Assign region) object is i j

@@ -28,7 +28,8 @@ both_found c None col none = refl
 both_found c (Some i) None none = refl
 both_found c (Some i) (Some j) none = absurd (cc)
 
-unwritten : (sig : Signature) (s : Step) (object : Role → Object) (i j : ℕ) → is_written_by sig.shape (called s) i j ≡ false
+unwritten : (sig : Signature) (s : Step) (object : Role → Object) (i j : ℕ)
+    → is_written_by sig.shape (called s) i j ≡ false
     → operation sig (renamed_operation object (called s)) i j ≡ None
 unfolding operation
 unwritten sig (Fill value region) object i j none = rw none refl
@@ -67,7 +68,8 @@ listed_written shape (ReduceRows monoid) r i j is = absurd (cc)
 listed_written shape Transpose r i j is = absurd (cc)
 listed_written shape (Extract region) r i j is = absurd (cc)
 
-region_low : (recipe : Recipe) (s : Step) (r : Region) (straight : IsStraight recipe.out.desc) → recipe.step ≡ s → region_of s ≡ Some r
+region_low : (recipe : Recipe) (s : Step) (r : Region) (straight : IsStraight recipe.out.desc) → recipe.step ≡ s
+    → region_of s ≡ Some r
     → (are_below (rows_of (output_of recipe).shape) (rows_in r) ≡ true) × (are_below (cols_of (output_of recipe).shape) (cols_in r) ≡ true)
 region_low recipe (Fill value region) r straight is some =
     let same : region.now ≡ r = cc in rw (← same) (and_parts _ _ (step-accepts recipe (Fill value region) straight is).inside)
@@ -97,7 +99,8 @@ module _ (recipe : Recipe) (stored : Role → Stored) (are : AreStraight recipe 
   cast_none f o none = rw none refl
 
   -- with an accumulator, what is computed alone
-  pub spread-accumulated : is_some recipe.out.accum ≡ true → (i j : ℕ) → computed_in recipe object i j ≡ spread recipe object i j
+  pub spread-accumulated : is_some recipe.out.accum ≡ true → (i j : ℕ)
+      → computed_in recipe object i j ≡ spread recipe object i j
   spread-accumulated some i j =
       elim (cases_Bool (is_written_in recipe i j)) [
         | inl here ↦ rw here refl
@@ -108,7 +111,8 @@ module _ (recipe : Recipe) (stored : Role → Stored) (are : AreStraight recipe 
       ]
 
   -- without a region, what is computed everywhere
-  pub spread-everywhere : region_of recipe.step ≡ None → (i j : ℕ) → computed_in recipe object i j ≡ spread recipe object i j
+  pub spread-everywhere : region_of recipe.step ≡ None → (i j : ℕ)
+      → computed_in recipe object i j ≡ spread recipe object i j
   spread-everywhere none i j = rw (all_written (output_of recipe).shape recipe.step i j none) refl
 
   -- without an accumulator, what is there outside the region

@@ -44,7 +44,8 @@ transposes_none Transpose desc is = is.0
 transposes_none (Extract region) desc is = is.0
 transposes_none (Assign region) desc is = is.0
 
-pub transposed-none : {K : Type 0} (transpose : K → K) (desc : Desc) (op : Operation K) → IsStraight desc → transposed transpose desc op ≡ op
+pub transposed-none : {K : Type 0} (transpose : K → K) (desc : Desc) (op : Operation K) → IsStraight desc
+    → transposed transpose desc op ≡ op
 transposed-none transpose desc (Fill value region) is = refl
 transposed-none transpose desc (OfOne computes a) is = ap (λ flag. OfOne computes (transposed_if transpose flag a)) (transposes_none computes desc is)
 transposed-none transpose desc (OfTwo computes a b) is = rw (is.0, is.1) refl
@@ -63,7 +64,8 @@ straight-fault out (OfOne computes a) = rw (transposes_none computes (straight_d
 straight-fault out (OfTwo computes a b) = refl
 
 -- which positions it writes doesn't depend on how objects are named
-pub written-renamed : {K L : Type 0} (shape : Shape) (f : K → L) (op : Operation K) (i j : ℕ) → is_written_by shape (renamed_operation f op) i j ≡ is_written_by shape op i j
+pub written-renamed : {K L : Type 0} (shape : Shape) (f : K → L) (op : Operation K) (i j : ℕ)
+    → is_written_by shape (renamed_operation f op) i j ≡ is_written_by shape op i j
 written-renamed shape f (Fill value region) i j = refl
 written-renamed shape f (OfOne (Apply function) a) i j = refl
 written-renamed shape f (OfOne (Select op scalar) a) i j = refl
@@ -74,7 +76,8 @@ written-renamed shape f (OfOne (Assign region) a) i j = refl
 written-renamed shape f (OfTwo computes a b) i j = refl
 
 -- ..nor on whether they are transposed
-written-transposed : {K : Type 0} (shape : Shape) (transpose : K → K) (desc : Desc) (op : Operation K) (i j : ℕ) → is_written_by shape (transposed transpose desc op) i j ≡ is_written_by shape op i j
+written-transposed : {K : Type 0} (shape : Shape) (transpose : K → K) (desc : Desc) (op : Operation K) (i j : ℕ)
+    → is_written_by shape (transposed transpose desc op) i j ≡ is_written_by shape op i j
 written-transposed shape transpose desc (Fill value region) i j = refl
 written-transposed shape transpose desc (OfOne computes a) i j = sym (written-renamed shape (λ k. a) (OfOne computes (transposed_if transpose (transposes_one computes desc) a)) i j)
 written-transposed shape transpose desc (OfTwo computes a b) i j = refl
@@ -98,7 +101,8 @@ straight-result out op i j =
 
 -- the operation of a recipe, whose inputs are transposed before
 called_transposed : {K : Type 0} (transpose : K → K) (s : Step) (desc : Desc) (f g : Role → K)
-    → g First ≡ transposed_if transpose (transposes_first (called s) desc) (f First) → g Second ≡ transposed_if transpose (transposes_second (called s) desc) (f Second)
+    → g First ≡ transposed_if transpose (transposes_first (called s) desc) (f First)
+    → g Second ≡ transposed_if transpose (transposes_second (called s) desc) (f Second)
     → renamed_operation g (called s) ≡ transposed transpose desc (renamed_operation f (called s))
 called_transposed transpose (step.Fill value region) desc f g first second = refl
 called_transposed transpose (step.Multiply form semiring) desc f g first second = rw (first, second) refl
@@ -110,12 +114,14 @@ called_transposed transpose step.Transpose desc f g first second = rw first refl
 called_transposed transpose (step.Extract region) desc f g first second = rw first refl
 called_transposed transpose (step.Assign region) desc f g first second = rw first refl
 
-mask_kept : {K : Type 0} (f g : Role → K) (mask : Option Role) → ((role : Role) → mask ≡ Some role → g role ≡ f role) → option_map g mask ≡ option_map f mask
+mask_kept : {K : Type 0} (f g : Role → K) (mask : Option Role) → ((role : Role) → mask ≡ Some role → g role ≡ f role)
+    → option_map g mask ≡ option_map f mask
 mask_kept f g None same = refl
 mask_kept f g (Some role) same = ap Some (same role refl)
 
 -- its output, which isn't transposed
-pub out_kept : {K : Type 0} (recipe : Recipe) (f g : Role → K) → g Old ≡ f Old → g Mask ≡ f Mask → renamed_out g (straight_out recipe.out) ≡ straight_out (renamed_out f recipe.out)
+pub out_kept : {K : Type 0} (recipe : Recipe) (f g : Role → K) → g Old ≡ f Old → g Mask ≡ f Mask
+    → renamed_out g (straight_out recipe.out) ≡ straight_out (renamed_out f recipe.out)
 out_kept {K = K} recipe f g old mask =
     let kept : (role : Role) → recipe.out.mask ≡ Some role → g role ≡ f role = λ role is. rw (recipe.masked role is) mask in
     let first : g recipe.out.c ≡ f recipe.out.c = rw recipe.own old in
@@ -123,7 +129,8 @@ out_kept {K = K} recipe f g old mask =
 
 -- it has no fault
 pub straight-accepted : (recipe : Recipe)
-    → operation_fault (renamed_out (role_of (transposed_in recipe)) (straight_out recipe.out)) (renamed_operation (role_of (transposed_in recipe)) (called recipe.step)) ≡ None
+    → operation_fault (renamed_out (role_of (transposed_in recipe)) (straight_out recipe.out))
+    (renamed_operation (role_of (transposed_in recipe)) (called recipe.step)) ≡ None
 straight-accepted recipe =
     let sig = role_of recipe.signatures in
     let new = role_of (transposed_in recipe) in
@@ -133,8 +140,10 @@ straight-accepted recipe =
     ∙ straight-fault (renamed_out sig recipe.out) (renamed_operation sig op) ∙ recipe.accepted
 
 -- it means of transposed inputs what the recipe means of the inputs
-pub straight-meaning : (recipe straight : Recipe) (f g : Role → Object) → IsStraightened recipe straight → g Old ≡ f Old → g Mask ≡ f Mask
-    → g First ≡ transposed_if transposed_object (transposes recipe First) (f First) → g Second ≡ transposed_if transposed_object (transposes recipe Second) (f Second)
+pub straight-meaning : (recipe straight : Recipe) (f g : Role → Object) → IsStraightened recipe straight
+    → g Old ≡ f Old → g Mask ≡ f Mask
+    → g First ≡ transposed_if transposed_object (transposes recipe First) (f First)
+    → g Second ≡ transposed_if transposed_object (transposes recipe Second) (f Second)
     → (i j : ℕ) → meaning straight g i j ≡ meaning recipe f i j
 straight-meaning recipe straight f g is old mask first second i j =
     ap (λ (o : Out Role). result_of (renamed_out g o) (renamed_operation g (called straight.step)) i j) is.out
@@ -145,11 +154,13 @@ straight-meaning recipe straight f g is old mask first second i j =
 
 -- ---- objects
 
-rows_transposed : (flag : Bool) (s : Signature) → rows_of (transposed_if transposed_shape flag s.shape) ≡ rows_of (transposed_if transposed_signature flag s).shape
+rows_transposed : (flag : Bool) (s : Signature)
+    → rows_of (transposed_if transposed_shape flag s.shape) ≡ rows_of (transposed_if transposed_signature flag s).shape
 rows_transposed true s = refl
 rows_transposed false s = refl
 
-cols_transposed : (flag : Bool) (s : Signature) → cols_of (transposed_if transposed_shape flag s.shape) ≡ cols_of (transposed_if transposed_signature flag s).shape
+cols_transposed : (flag : Bool) (s : Signature)
+    → cols_of (transposed_if transposed_shape flag s.shape) ≡ cols_of (transposed_if transposed_signature flag s).shape
 cols_transposed true s = refl
 cols_transposed false s = refl
 
@@ -157,7 +168,8 @@ cols_transposed false s = refl
 abbrev object_as : Signature → Stored → Object
 object_as s stored = record { domain = s.domain; shape = s.shape; content = content_of stored }
 
-content_transposed : (flag matrix : Bool) (c : Content) (i j : ℕ) → (if flag && matrix then transposed_content c else c) i j ≡ (if flag then (if matrix then transposed_content c else c) else c) i j
+content_transposed : (flag matrix : Bool) (c : Content) (i j : ℕ)
+    → (if flag && matrix then transposed_content c else c) i j ≡ (if flag then (if matrix then transposed_content c else c) else c) i j
 content_transposed true matrix c i j = refl
 content_transposed false matrix c i j = refl
 

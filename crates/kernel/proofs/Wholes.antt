@@ -10,7 +10,8 @@ use Rattle.model.specs.Object.{IsWithin, rows_of}
 use Rattle.store.specs.Stored.{Block, Stored, block_content, content_of}
 
 -- it has nothing outside the rows, and nor has the result
-pub whole_store : (recipe : Recipe) (stored : Role → Stored) (block : Block) (store : Stored) → AreInputs recipe stored → store.rows ≡ rows_of (output_of recipe).shape → IsWithin store.rows store.cols (content_of store)
+pub whole_store : (recipe : Recipe) (stored : Role → Stored) (block : Block) (store : Stored) → AreInputs recipe stored
+    → store.rows ≡ rows_of (output_of recipe).shape → IsWithin store.rows store.cols (content_of store)
     → ((i j : ℕ) → content_of store i j ≡ block_content block i j)
     → ((i j : ℕ) → 0 ≤ i → i < rows_of (output_of recipe).shape → block_content block i j ≡ meaning recipe (object_in recipe stored) i j)
     → (i j : ℕ) → content_of store i j ≡ meaning recipe (object_in recipe stored) i j

@@ -44,7 +44,8 @@ IsUtf8-file_name word h =
 abbrev answered : Option (Reading (List ℕ)) → Type 0
 answered o = IsAnswered (option_map_or (λ reading. reading) o Malformed)
 
-answered_by : {A : Type 0} (o : Option A) (f : A → Option (Reading (List ℕ))) → ((a : A) → answered (f a)) → answered (o >>= f)
+answered_by : {A : Type 0} (o : Option A) (f : A → Option (Reading (List ℕ))) → ((a : A) → answered (f a))
+    → answered (o >>= f)
 answered_by None f h = tt
 answered_by (Some a) f h = h a
 
@@ -69,23 +70,28 @@ answered_command words = elim (cases_Bool (is_called words (codes "load"))) [
   | inr other ↦ rw other (answered_call (call_of words))
 ]
 
-reading-command : (line : List ℕ) → is_silent (words_of line) ≡ false → is_well_formed line ≡ true → reading_of line ≡ option_map_or (λ reading. reading) (command_of (words_of line)) Malformed
+reading-command : (line : List ℕ) → is_silent (words_of line) ≡ false → is_well_formed line ≡ true
+    → reading_of line ≡ option_map_or (λ reading. reading) (command_of (words_of line)) Malformed
 unfolding reading_of
 reading-command line loud formed = rw (loud, formed) refl
 
 -- what was read of a line's words is its reading
-read_command : (o : Option (Reading (List ℕ))) (r : Result Line LineFault) → answered o → IsRead reading_in o r → Reads r (option_map_or (λ reading. reading) o Malformed)
+read_command : (o : Option (Reading (List ℕ))) (r : Result Line LineFault) → answered o → IsRead reading_in o r
+    → Reads r (option_map_or (λ reading. reading) o Malformed)
 read_command o (Ok line) h is = rw is refl
 read_command o (Err fault.Syntax) h is = rw is refl
 read_command o (Err fault.NoMemory) h is = h
 
-pub reads_command : (line : List ℕ) (r : Result Line LineFault) → is_silent (words_of line) ≡ false → is_well_formed line ≡ true → IsRead reading_in (command_of (words_of line)) r → Reads r (reading_of line)
+pub reads_command : (line : List ℕ) (r : Result Line LineFault) → is_silent (words_of line) ≡ false
+    → is_well_formed line ≡ true → IsRead reading_in (command_of (words_of line)) r → Reads r (reading_of line)
 reads_command line r loud formed is = rw (reading-command line loud formed) (read_command (command_of (words_of line)) r (answered_command (words_of line)) is)
 
-pub unread_command : (line : List ℕ) → is_silent (words_of line) ≡ false → is_well_formed line ≡ true → IsAnswered (reading_of line)
+pub unread_command : (line : List ℕ) → is_silent (words_of line) ≡ false → is_well_formed line ≡ true
+    → IsAnswered (reading_of line)
 unread_command line loud formed = rw (reading-command line loud formed) (answered_command (words_of line))
 
-pub unread_where : (r : Result Line LineFault) (reading : Reading (List ℕ)) → r ≡ Err fault.NoMemory → IsAnswered reading → Reads r reading
+pub unread_where : (r : Result Line LineFault) (reading : Reading (List ℕ)) → r ≡ Err fault.NoMemory
+    → IsAnswered reading → Reads r reading
 unread_where r reading is h = rw is h
 
 -- ---- the file that a line names
@@ -94,15 +100,18 @@ no_file : (o : Option (Call Name Name)) → option_and_then file_named (o >>= λ
 no_file None = refl
 no_file (Some call) = refl
 
-pub not_load : (words : List (List ℕ)) → is_called words (codes "load") ≡ false → option_and_then file_named (command_of words) ≡ None
+pub not_load : (words : List (List ℕ)) → is_called words (codes "load") ≡ false
+    → option_and_then file_named (command_of words) ≡ None
 unfolding command_of
 not_load words other = rw other (no_file (call_of words))
 
-pub file_of_load : (words : List (List ℕ)) → is_called words (codes "load") ≡ true → option_and_then file_named (command_of words) ≡ option_and_then file_named (load_of words)
+pub file_of_load : (words : List (List ℕ)) → is_called words (codes "load") ≡ true
+    → option_and_then file_named (command_of words) ≡ option_and_then file_named (load_of words)
 unfolding command_of
 file_of_load words load = rw load refl
 
-pub no_words : {X : Type 0} (bytes : X → List ℕ) (words : List X) → length words ≡ 0 → is_called (map bytes words) (codes "load") ≡ false
+pub no_words : {X : Type 0} (bytes : X → List ℕ) (words : List X) → length words ≡ 0
+    → is_called (map bytes words) (codes "load") ≡ false
 no_words bytes [] h = refl
 no_words bytes (word ∷ words) h = absurd (omega arith)
 
@@ -115,11 +124,13 @@ silent_not_load (word ∷ words) h = elim (cases_Bool (bytes_eq word (codes "loa
   | inr apart ↦ apart
 ]
 
-named : (o : Option (Reading (List ℕ))) → file_named (option_map_or (λ reading. reading) o Malformed) ≡ option_and_then file_named o
+named : (o : Option (Reading (List ℕ)))
+    → file_named (option_map_or (λ reading. reading) o Malformed) ≡ option_and_then file_named o
 named None = refl
 named (Some reading) = refl
 
-pub line_file : (line : List ℕ) → file_named (reading_of line) ≡ cond (is_well_formed line) (option_and_then file_named (command_of (words_of line))) None
+pub line_file : (line : List ℕ) → file_named (reading_of line) ≡ cond (is_well_formed line)
+    (option_and_then file_named (command_of (words_of line))) None
 unfolding reading_of
 line_file line = elim (cases_Bool (is_silent (words_of line))) [
   | inl silent ↦ elim (cases_Bool (is_well_formed line)) [
@@ -134,14 +145,16 @@ line_file line = elim (cases_Bool (is_silent (words_of line))) [
 
 -- ---- the first byte of a load
 
-first_of_word : (byte : ℕ) (parts : List (List ℕ)) → is_called (filter (λ word. not (length word == 0)) (onto_first byte parts)) (codes "load") ≡ true → byte ≡ 108
+first_of_word : (byte : ℕ) (parts : List (List ℕ))
+    → is_called (filter (λ word. not (length word == 0)) (onto_first byte parts)) (codes "load") ≡ true → byte ≡ 108
 first_of_word byte [] h = ap (λ word. slice_index word 0) ((bytes_eq-Decides (byte ∷ []) (codes "load")).0 h)
 first_of_word byte (part ∷ parts) h =
     let some : (length (byte ∷ part) == 0) ≡ false = grind (arith, nat_tests) in
     let is : byte ∷ part ≡ codes "load" = (bytes_eq-Decides (byte ∷ part) (codes "load")).0 (rw some at h) in
     ap (λ word. slice_index word 0) is
 
-pub first_byte_of_load : (line : List ℕ) → is_called (words_of line) (codes "load") ≡ true → find (λ byte. not (is_blank byte)) line ≡ Some 108
+pub first_byte_of_load : (line : List ℕ) → is_called (words_of line) (codes "load") ≡ true
+    → find (λ byte. not (is_blank byte)) line ≡ Some 108
 first_byte_of_load [] h = absurd (true≢false (sym h))
 first_byte_of_load (byte ∷ bytes) h = elim (cases_Bool (is_blank byte)) [
   | inl blank ↦ rw blank (first_byte_of_load bytes (rw blank at h))

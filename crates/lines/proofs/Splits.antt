@@ -9,7 +9,8 @@ use Rattle.std.proofs.lemmas.List.Splits.{slice_split_first, slice_split_none, l
 use Rattle.std.proofs.lemmas.List.Sums.{fails_before_first}
 
 -- the first part stands before the first place, and the others are those of what stands after it
-pub first_part : {X : Type 0} (p : X → Bool) (xs : List X) (d : X) (n : ℕ) → position p xs ≡ Some n → slice_split p xs ≡ take n xs ∷ slice_split p (drop (n + 1) xs)
+pub first_part : {X : Type 0} (p : X → Bool) (xs : List X) (d : X) (n : ℕ) → position p xs ≡ Some n
+    → slice_split p xs ≡ take n xs ∷ slice_split p (drop (n + 1) xs)
 first_part p xs d n e =
     let parts = cond_some (nat_lt (position_or_len p xs) (length xs)) (position_or_len p xs) n e in
     rw (← parts.1) (slice_split_first p xs d (ltb-true _ _ parts.0))

@@ -32,7 +32,8 @@ abbrev pub either_word : Option ℕ → Option ℕ → Option ℕ
 either_word None o = o
 either_word (Some w) o = Some w
 
-pub word_at_both : (xs ys : List Entry) (i j : ℕ) → word_at (xs ++ ys) i j ≡ either_word (word_at xs i j) (word_at ys i j)
+pub word_at_both : (xs ys : List Entry) (i j : ℕ) → word_at (xs ++ ys) i j ≡ either_word (word_at xs i j)
+    (word_at ys i j)
 unfolding word_at
 word_at_both [] ys i j = refl
 word_at_both (x ∷ xs) ys i j =
@@ -41,11 +42,13 @@ word_at_both (x ∷ xs) ys i j =
       | inr away ↦ rw away (word_at_both xs ys i j)
     ]
 
-not_there : (e f : Entry) (i j : ℕ) → Precedes e f → (eqb i e.row && eqb j e.col) ≡ true → (eqb i f.row && eqb j f.col) ≡ false
+not_there : (e f : Entry) (i j : ℕ) → Precedes e f → (eqb i e.row && eqb j e.col) ≡ true
+    → (eqb i f.row && eqb j f.col) ≡ false
 not_there e f i j before at = grind (arith, nat_tests)
 
 -- where entries have a word, those behind all of them have none
-pub none_behind : (xs ys : List Entry) (i j w : ℕ) → All (λ e. All (Precedes e) ys) xs → word_at xs i j ≡ Some w → word_at ys i j ≡ None
+pub none_behind : (xs ys : List Entry) (i j w : ℕ) → All (λ e. All (Precedes e) ys) xs → word_at xs i j ≡ Some w
+    → word_at ys i j ≡ None
 unfolding word_at
 none_behind [] ys i j w before is = cc
 none_behind (x ∷ xs) ys i j w before is =
@@ -54,8 +57,10 @@ none_behind (x ∷ xs) ys i j w before is =
       | inr away ↦ none_behind xs ys i j w (All-tail (λ e. All (Precedes e) ys) x xs before) (rw away at is)
     ]
 
-either_join : (alone : ℕ → ℕ) (f : ℕ → ℕ → ℕ) (a a' b b' : Option ℕ) → ((w : ℕ) → a ≡ Some w → (a' ≡ None) × (b' ≡ None)) → ((w : ℕ) → b ≡ Some w → (a' ≡ None) × (b' ≡ None))
-    → either_word (of_either alone alone f a b) (of_either alone alone f a' b') ≡ of_either alone alone f (either_word a a') (either_word b b')
+either_join : (alone : ℕ → ℕ) (f : ℕ → ℕ → ℕ) (a a' b b' : Option ℕ)
+    → ((w : ℕ) → a ≡ Some w → (a' ≡ None) × (b' ≡ None)) → ((w : ℕ) → b ≡ Some w → (a' ≡ None) × (b' ≡ None))
+    → either_word (of_either alone alone f a b)
+    (of_either alone alone f a' b') ≡ of_either alone alone f (either_word a a') (either_word b b')
 either_join alone f None a' None b' p q = refl
 either_join alone f (Some w) a' None b' p q = let none = p w refl in rw none.1 refl
 either_join alone f None a' (Some v) b' p q = let none = q v refl in rw none.0 refl
@@ -63,7 +68,9 @@ either_join alone f (Some w) a' (Some v) b' p q = refl
 
 -- ---- joins one behind the other
 
-join_more : (by : Joining) (a b c a' b' c' : List Entry) → IsJoin by a b c → IsJoin by a' b' c' → All (λ e. All (Precedes e) a') a → All (λ e. All (Precedes e) b') a → All (λ e. All (Precedes e) a') b → All (λ e. All (Precedes e) b') b → All (λ e. All (Precedes e) c') c
+join_more : (by : Joining) (a b c a' b' c' : List Entry) → IsJoin by a b c → IsJoin by a' b' c'
+    → All (λ e. All (Precedes e) a') a → All (λ e. All (Precedes e) b') a → All (λ e. All (Precedes e) a') b
+    → All (λ e. All (Precedes e) b') b → All (λ e. All (Precedes e) c') c
     → IsJoin by (a ++ a') (b ++ b') (c ++ c')
 join_more by a b c a' b' c' first second aa ab ba bb cs = record {
   order = all_pairs_append Precedes c c' first.order second.order cs;
@@ -74,11 +81,13 @@ join_more by a b c a' b' c' first second aa ab ba bb cs = record {
       (λ w is. (none_behind b a' i j w ba is, none_behind b b' i j w bb is)));
 }
 
-alone_word : (by : Joining) (o : Option ℕ) → ((word : ℕ) → alone_of by word ≡ word) → o ≡ of_either (alone_of by) (alone_of by) (both_of by) o None
+alone_word : (by : Joining) (o : Option ℕ) → ((word : ℕ) → alone_of by word ≡ word)
+    → o ≡ of_either (alone_of by) (alone_of by) (both_of by) o None
 alone_word by None alone = refl
 alone_word by (Some w) alone = ap Some (sym (alone w))
 
-other_word : (by : Joining) (o : Option ℕ) → ((word : ℕ) → alone_of by word ≡ word) → o ≡ of_either (alone_of by) (alone_of by) (both_of by) None o
+other_word : (by : Joining) (o : Option ℕ) → ((word : ℕ) → alone_of by word ≡ word)
+    → o ≡ of_either (alone_of by) (alone_of by) (both_of by) None o
 other_word by None alone = refl
 other_word by (Some w) alone = ap Some (sym (alone w))
 
@@ -104,7 +113,8 @@ right_join by e alone = record {
 }
 
 -- an entry of both
-both_join : (by : Joining) (o x v w : ℕ) → IsJoin by (entry_at o x v ∷ []) (entry_at o x w ∷ []) (entry_at o x (both_of by v w) ∷ [])
+both_join : (by : Joining) (o x v w : ℕ) → IsJoin by (entry_at o x v ∷ []) (entry_at o x w ∷ [])
+    (entry_at o x (both_of by v w) ∷ [])
 unfolding word_at
 both_join by o x v w = record {
   order = one_order (entry_at o x (both_of by v w));
@@ -120,14 +130,16 @@ both_join by o x v w = record {
 nothing_behind : (es : List Entry) → All (λ e. All (Precedes e) []) es
 nothing_behind es k d within = All-nil (Precedes (get_or es k d))
 
-one_along : (o x v : ℕ) (ys ws : List ℕ) → length ws ≡ length ys → All (λ y. x < y) ys → All (Precedes (entry_at o x v)) (entries_along o ys ws)
+one_along : (o x v : ℕ) (ys ws : List ℕ) → length ws ≡ length ys → All (λ y. x < y) ys
+    → All (Precedes (entry_at o x v)) (entries_along o ys ws)
 one_along o x v [] ws long below = All-nil (Precedes (entry_at o x v))
 one_along o x v (y ∷ ys) [] long below = absurd (omega arith)
 one_along o x v (y ∷ ys) (w ∷ ws) long below =
     All-cons (Precedes (entry_at o x v)) (entry_at o y w) (entries_along o ys ws) (inr (refl, All-head (λ y. x < y) y ys below))
     (one_along o x v ys ws (omega arith) (All-tail (λ y. x < y) y ys below))
 
-pub below_along : (o : ℕ) (xs vs ys ws : List ℕ) → length vs ≡ length xs → length ws ≡ length ys → AreBelow xs ys → All (λ e. All (Precedes e) (entries_along o ys ws)) (entries_along o xs vs)
+pub below_along : (o : ℕ) (xs vs ys ws : List ℕ) → length vs ≡ length xs → length ws ≡ length ys → AreBelow xs ys
+    → All (λ e. All (Precedes e) (entries_along o ys ws)) (entries_along o xs vs)
 below_along o [] vs ys ws long long' below = All-nil (λ e. All (Precedes e) (entries_along o ys ws))
 below_along o (x ∷ xs) [] ys ws long long' below = absurd (omega arith)
 below_along o (x ∷ xs) (v ∷ vs) ys ws long long' below =
@@ -135,7 +147,8 @@ below_along o (x ∷ xs) (v ∷ vs) ys ws long long' below =
     (one_along o x v ys ws long' (All-head (λ x. All (λ y. x < y) ys) x xs below))
     (below_along o xs vs ys ws (omega arith) long' (All-tail (λ x. All (λ y. x < y) ys) x xs below))
 
-pub fiber_order : (o : ℕ) (xs vs : List ℕ) → length vs ≡ length xs → AllPairs (λ x y. x < y) xs → InOrder (entries_along o xs vs)
+pub fiber_order : (o : ℕ) (xs vs : List ℕ) → length vs ≡ length xs → AllPairs (λ x y. x < y) xs
+    → InOrder (entries_along o xs vs)
 fiber_order o [] vs long rises = all_pairs_nil Precedes
 fiber_order o (x ∷ xs) [] long rises = absurd (omega arith)
 fiber_order o (x ∷ xs) (v ∷ vs) long rises =
@@ -180,7 +193,8 @@ below_part xs ys i n low below = below_front xs (slice_range ys i n) (drop n ys)
 pub rising_split : (xs : List ℕ) (i : ℕ) → AllPairs (λ x y. x < y) xs → AreBelow (take i xs) (drop i xs)
 rising_split xs i rises = all_pairs_across (λ x y. x < y) (take i xs) (drop i xs) (subst (AllPairs (λ x y. x < y)) (sym (take-append-drop i xs)) rises)
 
-rising_here : (xs : List ℕ) (i : ℕ) → i < length xs → AllPairs (λ x y. x < y) xs → AreBelow (get_or xs i 0 ∷ []) (drop (i + 1) xs)
+rising_here : (xs : List ℕ) (i : ℕ) → i < length xs → AllPairs (λ x y. x < y) xs
+    → AreBelow (get_or xs i 0 ∷ []) (drop (i + 1) xs)
 rising_here xs i within rises = all_append_right (λ x. All (λ y. x < y) (drop (i + 1) xs)) (take i xs) (get_or xs i 0 ∷ []) (subst (λ zs. AreBelow zs (drop (i + 1) xs)) (take_more xs i 0 within) (rising_split xs (i + 1) rises))
 
 part_rises : (xs : List ℕ) (i n : ℕ) → i ≤ n → AllPairs (λ x y. x < y) xs → AllPairs (λ x y. x < y) (slice_range xs i n)
@@ -192,7 +206,8 @@ part_below : (xs ys : List ℕ) (i n : ℕ) → i ≤ n → AreBelow (take n xs)
 part_below xs ys i n low below = all_append_right (λ x. All (λ y. x < y) ys) (take i xs) (slice_range xs i n) (subst (λ zs. AreBelow zs ys) (take_split xs i n low) below)
 
 -- numbers below one of a list that rises are below it and those behind it
-pub before_rest : (xs ys : List ℕ) (k : ℕ) → k < length ys → AllPairs (λ x y. x < y) ys → All (λ x. x < get_or ys k 0) xs → AreBelow xs (drop k ys)
+pub before_rest : (xs ys : List ℕ) (k : ℕ) → k < length ys → AllPairs (λ x y. x < y) ys
+    → All (λ x. x < get_or ys k 0) xs → AreBelow xs (drop k ys)
 before_rest xs ys k within rises less =
     let later : All (λ y. get_or ys k 0 < y) (drop (k + 1) ys) = All-head (λ x. All (λ y. x < y) (drop (k + 1) ys)) (get_or ys k 0) [] (rising_here ys k within rises) in
     rw (drop_more ys k 0 within) (All-weaker (λ x. x < get_or ys k 0) (λ x. All (λ y. x < y) (get_or ys k 0 ∷ drop (k + 1) ys))
@@ -202,7 +217,8 @@ pub first_less : (xs ys : List ℕ) (k : ℕ) → k < length ys → AreBelow xs 
 first_less xs ys k within below = All-weaker (λ x. All (λ y. x < y) (get_or ys k 0 ∷ [])) (λ x. x < get_or ys k 0) (λ x p. All-head (λ y. x < y) (get_or ys k 0) [] p) xs (below_first xs ys k within below)
 
 -- a number that isn't at a place up to which all are less is before those from there on
-pub next_left : (x : ℕ) (ys : List ℕ) (k : ℕ) → AllPairs (λ x y. x < y) ys → All (λ y. x ≤ y) (drop k ys) → (k < length ys → get_or ys k 0 ≢ x) → AreBelow (x ∷ []) (drop k ys)
+pub next_left : (x : ℕ) (ys : List ℕ) (k : ℕ) → AllPairs (λ x y. x < y) ys → All (λ y. x ≤ y) (drop k ys)
+    → (k < length ys → get_or ys k 0 ≢ x) → AreBelow (x ∷ []) (drop k ys)
 next_left x ys k rises left away =
     All-cons (λ x. All (λ y. x < y) (drop k ys)) x []
     (elim (cases_Bool (ltb k (length ys))) [
@@ -224,8 +240,11 @@ next_left x ys k rises left away =
 -- ---- steps
 
 -- the left side's entries up to a place, which are all before the right one's next
-pub run_more : (by : Joining) (left lw right rw' : List ℕ) (i n k : ℕ) (cs ws : List ℕ) → ((word : ℕ) → alone_of by word ≡ word) → length lw ≡ length left → length rw' ≡ length right → k ≤ length right → AllPairs (λ x y. x < y) left → i ≤ n → n ≤ length left → AreBelow (take n left) (drop k right)
-    → IsJoinSoFar by left lw right rw' i k cs ws → IsJoinSoFar by left lw right rw' n k (cs ++ slice_range left i n) (ws ++ slice_range lw i n)
+pub run_more : (by : Joining) (left lw right rw' : List ℕ) (i n k : ℕ) (cs ws : List ℕ)
+    → ((word : ℕ) → alone_of by word ≡ word) → length lw ≡ length left → length rw' ≡ length right → k ≤ length right
+    → AllPairs (λ x y. x < y) left → i ≤ n → n ≤ length left → AreBelow (take n left) (drop k right)
+    → IsJoinSoFar by left lw right rw' i k cs ws → IsJoinSoFar by left lw right rw' n k (cs ++ slice_range left i n)
+    (ws ++ slice_range lw i n)
 run_more by left lw right rw' i n k cs ws alone long long' k_in rises low high below here =
     let run = slice_range left i n in
     let runs = slice_range lw i n in
@@ -253,8 +272,11 @@ run_more by left lw right rw' i n k cs ws alone long long' k_in rises low high b
     }
 
 -- an entry at which both sides are
-pub both_more : (by : Joining) (left lw right rw' : List ℕ) (i k : ℕ) (cs ws : List ℕ) → length lw ≡ length left → length rw' ≡ length right → AllPairs (λ x y. x < y) left → AllPairs (λ x y. x < y) right → i < length left → k < length right → get_or left i 0 ≡ get_or right k 0
-    → IsJoinSoFar by left lw right rw' i k cs ws → IsJoinSoFar by left lw right rw' (i + 1) (k + 1) (cs ++ get_or right k 0 ∷ []) (ws ++ both_of by (get_or lw i 0) (get_or rw' k 0) ∷ [])
+pub both_more : (by : Joining) (left lw right rw' : List ℕ) (i k : ℕ) (cs ws : List ℕ) → length lw ≡ length left
+    → length rw' ≡ length right → AllPairs (λ x y. x < y) left → AllPairs (λ x y. x < y) right → i < length left
+    → k < length right → get_or left i 0 ≡ get_or right k 0
+    → IsJoinSoFar by left lw right rw' i k cs ws → IsJoinSoFar by left lw right rw' (i + 1) (k + 1)
+    (cs ++ get_or right k 0 ∷ []) (ws ++ both_of by (get_or lw i 0) (get_or rw' k 0) ∷ [])
 both_more by left lw right rw' i k cs ws long long' rises rises' some some' same here =
     let x = get_or right k 0 in
     let v = get_or lw i 0 in
@@ -298,8 +320,11 @@ both_more by left lw right rw' i k cs ws long long' rises rises' some some' same
     }
 
 -- an entry of the right side alone, which is before what is left of the other
-pub right_more : (by : Joining) (left lw right rw' : List ℕ) (i k : ℕ) (cs ws : List ℕ) → ((word : ℕ) → alone_of by word ≡ word) → length lw ≡ length left → length rw' ≡ length right → AllPairs (λ x y. x < y) right → k < length right → AreBelow (get_or right k 0 ∷ []) (drop i left)
-    → IsJoinSoFar by left lw right rw' i k cs ws → IsJoinSoFar by left lw right rw' i (k + 1) (cs ++ get_or right k 0 ∷ []) (ws ++ get_or rw' k 0 ∷ [])
+pub right_more : (by : Joining) (left lw right rw' : List ℕ) (i k : ℕ) (cs ws : List ℕ)
+    → ((word : ℕ) → alone_of by word ≡ word) → length lw ≡ length left → length rw' ≡ length right
+    → AllPairs (λ x y. x < y) right → k < length right → AreBelow (get_or right k 0 ∷ []) (drop i left)
+    → IsJoinSoFar by left lw right rw' i k cs ws → IsJoinSoFar by left lw right rw' i (k + 1)
+    (cs ++ get_or right k 0 ∷ []) (ws ++ get_or rw' k 0 ∷ [])
 right_more by left lw right rw' i k cs ws alone long long' rises' some' before here =
     let x = get_or right k 0 in
     let w = get_or rw' k 0 in
@@ -344,7 +369,9 @@ join_none by left lw right rw' = record {
 }
 
 -- all joined
-join_all : (by : Joining) (o : ℕ) (left lw right rw' : List ℕ) (i k : ℕ) (cs ws : List ℕ) → length lw ≡ length left → length rw' ≡ length right → length left ≤ i → length right ≤ k → IsJoinSoFar by left lw right rw' i k cs ws → IsJoin by (entries_along o left lw) (entries_along o right rw') (entries_along o cs ws)
+join_all : (by : Joining) (o : ℕ) (left lw right rw' : List ℕ) (i k : ℕ) (cs ws : List ℕ) → length lw ≡ length left
+    → length rw' ≡ length right → length left ≤ i → length right ≤ k → IsJoinSoFar by left lw right rw' i k cs ws
+    → IsJoin by (entries_along o left lw) (entries_along o right rw') (entries_along o cs ws)
 join_all by o left lw right rw' i k cs ws long long' high high' here =
     let all = take_all i left high in
     let all_words = take_all i lw (omega arith) in
@@ -354,7 +381,8 @@ join_all by o left lw right rw' i k cs ws long long' high high' here =
 
 -- ---- the fiber that they are
 
-all_behind : (o c w : ℕ) (cs ws : List ℕ) → length ws ≡ length cs → All (Precedes (entry_at o c w)) (entries_along o cs ws) → All (λ d. c < d) cs
+all_behind : (o c w : ℕ) (cs ws : List ℕ) → length ws ≡ length cs
+    → All (Precedes (entry_at o c w)) (entries_along o cs ws) → All (λ d. c < d) cs
 all_behind o c w [] ws long behind = All-nil (λ d. c < d)
 all_behind o c w (d ∷ cs) [] long behind = absurd (omega arith)
 all_behind o c w (d ∷ cs) (v ∷ ws) long behind =
@@ -362,7 +390,8 @@ all_behind o c w (d ∷ cs) (v ∷ ws) long behind =
     let less : c < d = elim first [ inl row ↦ absurd (omega arith) | inr col ↦ col.1 ] in
     All-cons (λ d. c < d) d cs less (all_behind o c w cs ws (omega arith) (All-tail (Precedes (entry_at o c w)) (entry_at o d v) (entries_along o cs ws) behind))
 
-rises_along : (o : ℕ) (cs ws : List ℕ) → length ws ≡ length cs → InOrder (entries_along o cs ws) → AllPairs (λ x y. x < y) cs
+rises_along : (o : ℕ) (cs ws : List ℕ) → length ws ≡ length cs → InOrder (entries_along o cs ws)
+    → AllPairs (λ x y. x < y) cs
 rises_along o [] ws long order = all_pairs_nil (λ x y. x < y)
 rises_along o (c ∷ cs) [] long order = absurd (omega arith)
 rises_along o (c ∷ cs) (w ∷ ws) long order =
@@ -370,7 +399,9 @@ rises_along o (c ∷ cs) (w ∷ ws) long order =
     (rises_along o cs ws (omega arith) (all_pairs_tail Precedes (entry_at o c w) (entries_along o cs ws) order))
 
 -- all of both sides joined, in a fiber that was closed
-pub closed_join : (by : Joining) (o : ℕ) (left lw right rw' : List ℕ) (i k : ℕ) (ends : List FiberEnd) (cs ws : List ℕ) → length lw ≡ length left → length rw' ≡ length right → length left ≤ i → length right ≤ k → ends ≡ closed [] o (length cs) → IsJoinSoFar by left lw right rw' i k cs ws
+pub closed_join : (by : Joining) (o : ℕ) (left lw right rw' : List ℕ) (i k : ℕ) (ends : List FiberEnd) (cs ws : List ℕ)
+    → length lw ≡ length left → length rw' ≡ length right → length left ≤ i → length right ≤ k
+    → ends ≡ closed [] o (length cs) → IsJoinSoFar by left lw right rw' i k cs ws
     → AreFlat ends cs ws × IsJoin by (entries_along o left lw) (entries_along o right rw') (entries_from 0 ends cs ws)
 unfolding outers
 closed_join by o left lw right rw' i k ends cs ws long long' high high' are here =
@@ -384,7 +415,8 @@ no_more xs ys k past n d within m e inside = absurd (omega (arith, length-drop k
 -- ---- the rows that they are
 
 -- what holds of each entry's position holds of one that has a word
-word_holds : (P : ℕ → ℕ → Type 0) (es : List Entry) (i j w : ℕ) → All (λ e. P e.row e.col) es → word_at es i j ≡ Some w → P i j
+word_holds : (P : ℕ → ℕ → Type 0) (es : List Entry) (i j w : ℕ) → All (λ e. P e.row e.col) es → word_at es i j ≡ Some w
+    → P i j
 unfolding word_at
 word_holds P [] i j w all is = cc
 word_holds P (e ∷ es) i j w all is =
@@ -395,13 +427,15 @@ word_holds P (e ∷ es) i j w all is =
       | inr away ↦ word_holds P es i j w (All-tail (λ e. P e.row e.col) e es all) (rw away at is)
     ]
 
-either_holds : (alone : ℕ → ℕ) (f : ℕ → ℕ → ℕ) (Q : Type 0) (a b : Option ℕ) (w : ℕ) → of_either alone alone f a b ≡ Some w → ((v : ℕ) → a ≡ Some v → Q) → ((v : ℕ) → b ≡ Some v → Q) → Q
+either_holds : (alone : ℕ → ℕ) (f : ℕ → ℕ → ℕ) (Q : Type 0) (a b : Option ℕ) (w : ℕ)
+    → of_either alone alone f a b ≡ Some w → ((v : ℕ) → a ≡ Some v → Q) → ((v : ℕ) → b ≡ Some v → Q) → Q
 either_holds alone f Q None None w is p q = cc
 either_holds alone f Q (Some v) b w is p q = p v refl
 either_holds alone f Q None (Some v) w is p q = q v refl
 
 -- what holds of each position of both sides holds of each of their join
-join_inside : (by : Joining) (P : ℕ → ℕ → Type 0) (a b part : List Entry) → IsJoin by a b part → All (λ e. P e.row e.col) a → All (λ e. P e.row e.col) b → All (λ e. P e.row e.col) part
+join_inside : (by : Joining) (P : ℕ → ℕ → Type 0) (a b part : List Entry) → IsJoin by a b part
+    → All (λ e. P e.row e.col) a → All (λ e. P e.row e.col) b → All (λ e. P e.row e.col) part
 join_inside by P a b part here all_a all_b k d within =
     let e = get_or part k d in
     either_holds (alone_of by) (both_of by) (P e.row e.col) (word_at a e.row e.col) (word_at b e.row e.col) e.word
@@ -409,8 +443,12 @@ join_inside by P a b part here all_a all_b k d within =
     (λ v is. word_holds P a e.row e.col v all_a is) (λ v is. word_holds P b e.row e.col v all_b is)
 
 -- the rows of the join of both sides
-pub rows_joined : (by : Joining) (c d : Content) (first past cols : ℕ) (a b : List Entry) (lists : FiberLists) → AreFlat lists.ends.items lists.inner.items lists.words.items → IsJoin by a b (entries_in lists) → AreIn first past cols (along cols a) → AreIn first past cols (along cols b)
-    → ((i j : ℕ) → first ≤ i → i < past → word_at (along cols a) i j ≡ c i j) → ((i j : ℕ) → first ≤ i → i < past → word_at (along cols b) i j ≡ d i j) → HasRows (joined by c d) first past cols lists
+pub rows_joined : (by : Joining) (c d : Content) (first past cols : ℕ) (a b : List Entry) (lists : FiberLists)
+    → AreFlat lists.ends.items lists.inner.items lists.words.items → IsJoin by a b (entries_in lists)
+    → AreIn first past cols (along cols a) → AreIn first past cols (along cols b)
+    → ((i j : ℕ) → first ≤ i → i < past → word_at (along cols a) i j ≡ c i j)
+    → ((i j : ℕ) → first ≤ i → i < past → word_at (along cols b) i j ≡ d i j)
+    → HasRows (joined by c d) first past cols lists
 rows_joined by c d first past cols a b lists flat here in_a in_b words_a words_b = record {
   flat = flat;
   inside = are_in first past cols (entries_in lists) (join_inside by (LiesIn (eqb cols 1) first past cols) a b (entries_in lists) here (lies_in first past cols a in_a) (lies_in first past cols b in_b));

@@ -40,7 +40,9 @@ pub record IsPart (a b x y : List Entry) (count : ℕ) (ends : List FiberEnd) (c
   pub rights_long : length rights ≡ room
   pub sides_long : length sides ≡ room
 
-pub part_none : (a b : List Entry) (cols lefts rights sides : List ℕ) (room : ℕ) → length a + length b ≤ room → length cols ≡ room → length lefts ≡ room → length rights ≡ room → length sides ≡ room → IsPart a b a b 0 [] cols lefts rights sides room
+pub part_none : (a b : List Entry) (cols lefts rights sides : List ℕ) (room : ℕ) → length a + length b ≤ room
+    → length cols ≡ room → length lefts ≡ room → length rights ≡ room → length sides ≡ room
+    → IsPart a b a b 0 [] cols lefts rights sides room
 unfolding Rises last_end outers
 part_none a b cols lefts rights sides room enough c l r s = record {
   front_a = [];
@@ -74,8 +76,10 @@ part_none a b cols lefts rights sides room enough c l r s = record {
 }
 
 -- two merges one behind the other
-pub merge_append : (a b a' b' : List Entry) (os cs ls rs ss os' cs' ls' rs' ss' : List ℕ) (m : IsMerge a b os cs ls rs ss) (n : IsMerge a' b' os' cs' ls' rs' ss')
-    → All (λ p. All (λ q. Precedes (position p) (position q)) n.places) m.places → IsMerge (a ++ a') (b ++ b') (os ++ os') (cs ++ cs') (ls ++ ls') (rs ++ rs') (ss ++ ss')
+pub merge_append : (a b a' b' : List Entry) (os cs ls rs ss os' cs' ls' rs' ss' : List ℕ)
+    (m : IsMerge a b os cs ls rs ss) (n : IsMerge a' b' os' cs' ls' rs' ss')
+    → All (λ p. All (λ q. Precedes (position p) (position q)) n.places) m.places
+    → IsMerge (a ++ a') (b ++ b') (os ++ os') (cs ++ cs') (ls ++ ls') (rs ++ rs') (ss ++ ss')
 merge_append a b a' b' os cs ls rs ss os' cs' ls' rs' ss' m n across =
     let ps = m.places in
     let qs = n.places in
@@ -92,7 +96,8 @@ merge_append a b a' b' os cs ls rs ss os' cs' ls' rs' ss' m n across =
     }
 
 -- the places of a merge hold what both sides' rows do
-pub places_all : (P : ℕ → Type 0) (ps : List Place) → All (λ e. P e.row) (filter_map left_entry ps) → All (λ e. P e.row) (filter_map right_entry ps) → All (λ p. P p.row) ps
+pub places_all : (P : ℕ → Type 0) (ps : List Place) → All (λ e. P e.row) (filter_map left_entry ps)
+    → All (λ e. P e.row) (filter_map right_entry ps) → All (λ p. P p.row) ps
 places_all P [] h g = All-nil (λ p. P p.row)
 places_all P (p ∷ ps) h g =
     elim (cases_Bool (eqb p.side 2)) [
@@ -110,15 +115,22 @@ places_all P (p ∷ ps) h g =
           All-cons (λ p. P p.row) p ps (All-head (λ e. P e.row) (entry_at p.row p.col p.left) (filter_map left_entry ps) left) (places_all P ps (All-tail (λ e. P e.row) (entry_at p.row p.col p.left) (filter_map left_entry ps) left) right)
     ]
 
-length_merge : (a b : List Entry) (os cs ls rs ss : List ℕ) → (m : IsMerge a b os cs ls rs ss) → length os ≡ length m.places
+length_merge : (a b : List Entry) (os cs ls rs ss : List ℕ) → (m : IsMerge a b os cs ls rs ss)
+    → length os ≡ length m.places
 length_merge a b os cs ls rs ss m = ap length m.rows_are ∙ length-map m.places (λ (p : Place). p.row)
 
 -- one fiber more
-pub merged_more : (a b fs gs : List Entry) (outer count n : ℕ) (ends : List FiberEnd) (cols lefts rights sides cols' lefts' rights' sides' : List ℕ)
+pub merged_more : (a b fs gs : List Entry) (outer count n : ℕ) (ends : List FiberEnd)
+    (cols lefts rights sides cols' lefts' rights' sides' : List ℕ)
     → AreMerged a b count ends cols lefts rights sides → IsMerge fs gs (replicate n outer) cols' lefts' rights' sides'
-    → All (λ e. e.row < outer) a → All (λ e. e.row < outer) b → All (λ e. e.row ≡ outer) fs → All (λ e. e.row ≡ outer) gs → All (λ (r : FiberEnd). r.outer < outer) ends → 0 < n
-    → (new_cols new_lefts new_rights new_sides : List ℕ) → take (count + n) new_cols ≡ take count cols ++ cols' → take (count + n) new_lefts ≡ take count lefts ++ lefts' → take (count + n) new_rights ≡ take count rights ++ rights' → take (count + n) new_sides ≡ take count sides ++ sides'
-    → AreMerged (a ++ fs) (b ++ gs) (count + n) (ends ++ end_at outer (count + n) ∷ []) new_cols new_lefts new_rights new_sides
+    → All (λ e. e.row < outer) a → All (λ e. e.row < outer) b → All (λ e. e.row ≡ outer) fs
+    → All (λ e. e.row ≡ outer) gs → All (λ (r : FiberEnd). r.outer < outer) ends → 0 < n
+    → (new_cols new_lefts new_rights new_sides : List ℕ) → take (count + n) new_cols ≡ take count cols ++ cols'
+    → take (count + n) new_lefts ≡ take count lefts ++ lefts'
+    → take (count + n) new_rights ≡ take count rights ++ rights'
+    → take (count + n) new_sides ≡ take count sides ++ sides'
+    → AreMerged (a ++ fs) (b ++ gs) (count + n)
+    (ends ++ end_at outer (count + n) ∷ []) new_cols new_lefts new_rights new_sides
 unfolding outers
 merged_more a b fs gs outer count n ends cols lefts rights sides cols' lefts' rights' sides' h m low_a low_b at_fs at_gs low_ends some nc nl nr ns is_c is_l is_r is_s =
     let whole = h.whole in
@@ -138,7 +150,8 @@ merged_more a b fs gs outer count n ends cols lefts rights sides cols' lefts' ri
       merge = rw (os, is_c, is_l, is_r, is_s) more;
     }
 
-pub put_take : (a k n : ℕ) (xs ys : List ℕ) → a ≤ length xs → n ≤ length ys → take (a + n) (put_mid a k xs ys) ≡ take a xs ++ take n ys
+pub put_take : (a k n : ℕ) (xs ys : List ℕ) → a ≤ length xs → n ≤ length ys
+    → take (a + n) (put_mid a k xs ys) ≡ take a xs ++ take n ys
 put_take a k n xs ys room few =
     let long : length (take a xs) ≡ a = omega (arith, length-take a xs) in
     let all = take-put_mid a k xs ys (a + length ys) refl room in
@@ -150,14 +163,16 @@ put_take a k n xs ys room few =
 abbrev pub IsThere : ℕ → List Entry → List Entry → Type 0
 IsThere outer x y = All (λ e. outer < e.row) x → All (λ e. outer < e.row) y → ⊥
 
-below_outer : (v outer : ℕ) (x y : List Entry) → IsThere outer x y → All (λ e. v < e.row) x → All (λ e. v < e.row) y → v < outer
+below_outer : (v outer : ℕ) (x y : List Entry) → IsThere outer x y → All (λ e. v < e.row) x → All (λ e. v < e.row) y
+    → v < outer
 below_outer v outer x y there h g =
     elim (cases_lt v outer) [
       | inl less ↦ less
       | inr le ↦ absurd (there (All-weaker (λ e. v < e.row) (λ e. outer < e.row) (λ e p. omega arith) x h) (All-weaker (λ e. v < e.row) (λ e. outer < e.row) (λ e p. omega arith) y g))
     ]
 
-pub some_more : (outer : ℕ) (fs gs x y x' y' : List Entry) → IsThere outer x y → x ≡ fs ++ x' → y ≡ gs ++ y' → All (λ e. outer < e.row) x' → All (λ e. outer < e.row) y' → 0 < length fs + length gs
+pub some_more : (outer : ℕ) (fs gs x y x' y' : List Entry) → IsThere outer x y → x ≡ fs ++ x' → y ≡ gs ++ y'
+    → All (λ e. outer < e.row) x' → All (λ e. outer < e.row) y' → 0 < length fs + length gs
 some_more outer [] [] x y x' y' there is_x is_y h g = absurd (there (rw is_x h) (rw is_y g))
 some_more outer (f ∷ fs) gs x y x' y' there is_x is_y h g = omega arith
 some_more outer [] (e ∷ gs) x y x' y' there is_x is_y h g = omega arith
@@ -166,7 +181,8 @@ length_zero : (ps : List Place) → length ps ≡ 0 → ps ≡ []
 length_zero [] none = refl
 length_zero (p ∷ ps) none = absurd (omega arith)
 
-merge_some : (fs gs : List Entry) (os cs ls rs ss : List ℕ) → IsMerge fs gs os cs ls rs ss → 0 < length fs + length gs → 0 < length os
+merge_some : (fs gs : List Entry) (os cs ls rs ss : List ℕ) → IsMerge fs gs os cs ls rs ss → 0 < length fs + length gs
+    → 0 < length os
 merge_some fs gs os cs ls rs ss m some =
     let long = length_merge fs gs os cs ls rs ss m in
     elim (cases_eq (length m.places) 0) [
@@ -185,10 +201,13 @@ still_ahead : (fs gs x' y' : List Entry) (v : ℕ) → Ahead (fs ++ x') (gs ++ y
 still_ahead fs gs x' y' v h = (all_append_right (λ e. v < e.row) fs x' h.0, all_append_right (λ e. v < e.row) gs y' h.1)
 
 -- one fiber more of each side that has one there
-pub part_more : (a b x y x' y' fs gs : List Entry) (outer count n room : ℕ) (ends : List FiberEnd) (cols lefts rights sides cols' lefts' rights' sides' nc nl nr ns : List ℕ)
-    → IsPart a b x y count ends cols lefts rights sides room → IsThere outer x y → x ≡ fs ++ x' → y ≡ gs ++ y' → Ahead x' y' outer → All (λ e. e.row ≡ outer) fs → All (λ e. e.row ≡ outer) gs
+pub part_more : (a b x y x' y' fs gs : List Entry) (outer count n room : ℕ) (ends : List FiberEnd)
+    (cols lefts rights sides cols' lefts' rights' sides' nc nl nr ns : List ℕ)
+    → IsPart a b x y count ends cols lefts rights sides room → IsThere outer x y → x ≡ fs ++ x' → y ≡ gs ++ y'
+    → Ahead x' y' outer → All (λ e. e.row ≡ outer) fs → All (λ e. e.row ≡ outer) gs
     → IsMerge fs gs (replicate n outer) cols' lefts' rights' sides' → n ≤ length fs + length gs
-    → take (count + n) nc ≡ take count cols ++ cols' → take (count + n) nl ≡ take count lefts ++ lefts' → take (count + n) nr ≡ take count rights ++ rights' → take (count + n) ns ≡ take count sides ++ sides'
+    → take (count + n) nc ≡ take count cols ++ cols' → take (count + n) nl ≡ take count lefts ++ lefts'
+    → take (count + n) nr ≡ take count rights ++ rights' → take (count + n) ns ≡ take count sides ++ sides'
     → length nc ≡ room → length nl ≡ room → length nr ≡ room → length ns ≡ room
     → IsPart a b x' y' (count + n) (ends ++ end_at outer (count + n) ∷ []) nc nl nr ns room
 part_more a b x y x' y' fs gs outer count n room ends cols lefts rights sides cols' lefts' rights' sides' nc nl nr ns here there is_x is_y behind at_fs at_gs m few is_c is_l is_r is_s long_c long_l long_r long_s =

@@ -21,19 +21,22 @@ use Rattle.masks.proofs.Keeps.{along_append, word_found}
 -- ---- numbers that rise
 
 -- numbers rise by one at least from each to the next
-rise_by : (xs : List ℕ) (i n : ℕ) → AllPairs (λ x y. x < y) xs → i + n < length xs → get_or xs i 0 + n ≤ get_or xs (i + n) 0
+rise_by : (xs : List ℕ) (i n : ℕ) → AllPairs (λ x y. x < y) xs → i + n < length xs
+    → get_or xs i 0 + n ≤ get_or xs (i + n) 0
 rise_by xs i zero rises within = let same : i + 0 ≡ i = omega arith in rw same (omega arith)
 rise_by xs i (suc n) rises within =
     let before = rise_by xs i n rises (omega arith) in
     let next : get_or xs (i + n) 0 < get_or xs (i + suc n) 0 = rises (i + n) (i + suc n) 0 (omega arith) within in
     omega (arith, before, next)
 
-rise_to : (xs : List ℕ) (i j : ℕ) → AllPairs (λ x y. x < y) xs → i ≤ j → j < length xs → get_or xs i 0 + (j - i) ≤ get_or xs j 0
+rise_to : (xs : List ℕ) (i j : ℕ) → AllPairs (λ x y. x < y) xs → i ≤ j → j < length xs
+    → get_or xs i 0 + (j - i) ≤ get_or xs j 0
 rise_to xs i j rises low within = let is : i + (j - i) ≡ j = omega arith in subst (λ k. get_or xs i 0 + (j - i) ≤ get_or xs k 0) is (rise_by xs i (j - i) rises (rw is within))
 
 -- they have no gaps where the last is as far behind the first as its place
 pub around : (xs ys : List ℕ) → AllPairs (λ x y. x < y) xs → AllPairs (λ x y. x < y) ys → 0 < length xs → 0 < length ys
-    → get_or xs (length xs - 1) 0 - get_or xs 0 0 ≡ length xs - 1 → get_or xs 0 0 ≤ get_or ys 0 0 → get_or ys (length ys - 1) 0 ≤ get_or xs (length xs - 1) 0 → IsAround xs ys
+    → get_or xs (length xs - 1) 0 - get_or xs 0 0 ≡ length xs - 1 → get_or xs 0 0 ≤ get_or ys 0 0
+    → get_or ys (length ys - 1) 0 ≤ get_or xs (length xs - 1) 0 → IsAround xs ys
 around xs ys rises rises' some some' wide low high =
     let n = length xs - 1 in
     let m = length ys - 1 in
@@ -61,14 +64,16 @@ either_none (Some w) = refl
 
 -- ---- one entry after the other
 
-pub put_none : (f : ℕ → ℕ → ℕ) (o : ℕ) (full fw : List ℕ) → length fw ≡ length full → AllPairs (λ x y. x < y) full → IsJoinBy f (entries_along o full fw) [] (entries_along o full fw)
+pub put_none : (f : ℕ → ℕ → ℕ) (o : ℕ) (full fw : List ℕ) → length fw ≡ length full → AllPairs (λ x y. x < y) full
+    → IsJoinBy f (entries_along o full fw) [] (entries_along o full fw)
 unfolding word_at
 put_none f o full fw long rises = record {
   order = fiber_order o full fw long rises;
   words = λ i j. with_none f (word_at (entries_along o full fw) i j);
 }
 
-along_set : (o : ℕ) (xs ws : List ℕ) (p v : ℕ) → length ws ≡ length xs → p < length xs → entries_along o xs (set ws p v) ≡ set (entries_along o xs ws) p (entry_at o (get_or xs p 0) v)
+along_set : (o : ℕ) (xs ws : List ℕ) (p v : ℕ) → length ws ≡ length xs → p < length xs
+    → entries_along o xs (set ws p v) ≡ set (entries_along o xs ws) p (entry_at o (get_or xs p 0) v)
 along_set o [] ws p v long within = absurd (omega arith)
 along_set o (x ∷ xs) [] p v long within = absurd (omega arith)
 along_set o (x ∷ xs) (w ∷ ws) zero v long within = refl
@@ -86,16 +91,20 @@ is_none : (o : Option ℕ) (w : ℕ) (p : Option ℕ) → p ≡ Some w → ((v :
 is_none None w p is none = refl
 is_none (Some v) w p is none = let away = none v refl in cc
 
-put_word : (c : Bool) (f : ℕ → ℕ → ℕ) (v w x : ℕ) (a b e one : Option ℕ) → v ≡ f x w → e ≡ of_either (λ w. w) (λ w. w) f a b → (c ≡ true → one ≡ Some w) → (c ≡ false → one ≡ None) → (c ≡ true → a ≡ Some x) → (c ≡ true → b ≡ None)
+put_word : (c : Bool) (f : ℕ → ℕ → ℕ) (v w x : ℕ) (a b e one : Option ℕ) → v ≡ f x w
+    → e ≡ of_either (λ w. w) (λ w. w) f a b → (c ≡ true → one ≡ Some w) → (c ≡ false → one ≡ None)
+    → (c ≡ true → a ≡ Some x) → (c ≡ true → b ≡ None)
     → cond c (Some v) e ≡ of_either (λ w. w) (λ w. w) f a (either_word b one)
 put_word true f v w x a b e one is here there away at none = rw (there refl, at refl, none refl) (ap Some is)
 put_word false f v w x a b e one is here there away at none = rw (away refl, either_none b) here
 
-before_it : (front : List Entry) (o y w i j : ℕ) → All (λ e. All (Precedes e) (entry_at o y w ∷ [])) front → (eqb i o && eqb j y) ≡ true → word_at front i j ≡ None
+before_it : (front : List Entry) (o y w i j : ℕ) → All (λ e. All (Precedes e) (entry_at o y w ∷ [])) front
+    → (eqb i o && eqb j y) ≡ true → word_at front i j ≡ None
 before_it front o y w i j below at = is_none (word_at front i j) w (word_at (entry_at o y w ∷ []) i j) (one_there o y w i j at) (λ v is. none_behind front (entry_at o y w ∷ []) i j v below is)
 
 -- the entries before one of a fiber aren't at its position
-none_before : (o : ℕ) (ys yw : List ℕ) (k : ℕ) (i j : ℕ) → length yw ≡ length ys → AllPairs (λ x y. x < y) ys → k < length ys → (eqb i o && eqb j (get_or ys k 0)) ≡ true
+none_before : (o : ℕ) (ys yw : List ℕ) (k : ℕ) (i j : ℕ) → length yw ≡ length ys → AllPairs (λ x y. x < y) ys
+    → k < length ys → (eqb i o && eqb j (get_or ys k 0)) ≡ true
     → word_at (entries_along o (take k ys) (take k yw)) i j ≡ None
 none_before o ys yw k i j long rises within at =
     let y = get_or ys k 0 in
@@ -105,10 +114,13 @@ none_before o ys yw k i j long rises within at =
     let below = below_along o (take k ys) (take k yw) (y ∷ []) (w ∷ []) front_long refl (below_first (take k ys) ys k within (rising_split ys k rises)) in
     before_it front o y w i j below at
 
-pub put_one : (f : ℕ → ℕ → ℕ) (o : ℕ) (full fw ys yw : List ℕ) (k p : ℕ) (ws : List ℕ) (v : ℕ) → length fw ≡ length full → length yw ≡ length ys → length ws ≡ length full → AllPairs (λ x y. x < y) full → AllPairs (λ x y. x < y) ys
+pub put_one : (f : ℕ → ℕ → ℕ) (o : ℕ) (full fw ys yw : List ℕ) (k p : ℕ) (ws : List ℕ) (v : ℕ)
+    → length fw ≡ length full → length yw ≡ length ys → length ws ≡ length full → AllPairs (λ x y. x < y) full
+    → AllPairs (λ x y. x < y) ys
     → k < length ys → p < length full → get_or full p 0 ≡ get_or ys k 0 → v ≡ f (get_or fw p 0) (get_or yw k 0)
     → IsJoinBy f (entries_along o full fw) (entries_along o (take k ys) (take k yw)) (entries_along o full ws)
-    → IsJoinBy f (entries_along o full fw) (entries_along o (take (k + 1) ys) (take (k + 1) yw)) (entries_along o full (set ws p v))
+    → IsJoinBy f (entries_along o full fw) (entries_along o (take (k + 1) ys) (take (k + 1) yw))
+    (entries_along o full (set ws p v))
 put_one f o full fw ys yw k p ws v long long' long'' rises rises' some inside same is here =
     let x = get_or full p 0 in
     let w = get_or yw k 0 in
@@ -138,7 +150,9 @@ zip_turned f (x ∷ xs) [] = refl
 zip_turned f (x ∷ xs) (y ∷ ys) = ap (λ zs. f x y ∷ zs) (zip_turned f xs ys)
 
 -- the fiber that was closed
-pub closed_full : (f : ℕ → ℕ → ℕ) (o : ℕ) (full ws : List ℕ) (ends : List FiberEnd) (a b : List Entry) → length ws ≡ length full → AllPairs (λ x y. x < y) full → ends ≡ closed [] o (length full) → IsJoinBy f a b (entries_along o full ws)
+pub closed_full : (f : ℕ → ℕ → ℕ) (o : ℕ) (full ws : List ℕ) (ends : List FiberEnd) (a b : List Entry)
+    → length ws ≡ length full → AllPairs (λ x y. x < y) full → ends ≡ closed [] o (length full)
+    → IsJoinBy f a b (entries_along o full ws)
     → AreFlat ends full ws × IsJoinBy f a b (entries_from 0 ends full ws)
 unfolding outers
 closed_full f o full ws ends a b long rises are here =

@@ -20,8 +20,11 @@ use Rattle.masks.specs.Merges.{AreMerged}
 use Rattle.masks.proofs.JoinedWords.{lengths, placed_all, placed_order, placed_words}
 
 -- the first places of a merge, so many, lie in lists of their own
-pub flat_join : (alone : ℕ → ℕ) (f : ℕ → ℕ → ℕ) (a b : List Entry) (count : ℕ) (ends : List FiberEnd) (inner lefts rights sides words : List ℕ) → AreMerged a b count ends inner lefts rights sides → count ≤ length inner
-    → AreJoined alone f (take count sides) (take count lefts) (take count rights) words → AreFlat ends (take count inner) words
+pub flat_join : (alone : ℕ → ℕ) (f : ℕ → ℕ → ℕ) (a b : List Entry) (count : ℕ) (ends : List FiberEnd)
+    (inner lefts rights sides words : List ℕ) → AreMerged a b count ends inner lefts rights sides
+    → count ≤ length inner
+    → AreJoined alone f (take count sides) (take count lefts) (take count rights) words
+    → AreFlat ends (take count inner) words
 flat_join alone f a b count ends inner lefts rights sides words m room u =
     let i = take count inner in
     let long = lengths a b (outers 0 ends) i (take count lefts) (take count rights) (take count sides) m.merge in
@@ -36,24 +39,35 @@ flat_join alone f a b count ends inner lefts rights sides words m room u =
       order = placed_order alone f a b (outers 0 ends) i (take count lefts) (take count rights) (take count sides) words m.merge u;
     }
 
-pub words_join : (alone : ℕ → ℕ) (f : ℕ → ℕ → ℕ) (a b : List Entry) (count : ℕ) (ends : List FiberEnd) (inner lefts rights sides words : List ℕ) → AreMerged a b count ends inner lefts rights sides
-    → AreJoined alone f (take count sides) (take count lefts) (take count rights) words → (i j : ℕ) → word_at (entries_from 0 ends (take count inner) words) i j ≡ of_either alone alone f (word_at a i j) (word_at b i j)
+pub words_join : (alone : ℕ → ℕ) (f : ℕ → ℕ → ℕ) (a b : List Entry) (count : ℕ) (ends : List FiberEnd)
+    (inner lefts rights sides words : List ℕ) → AreMerged a b count ends inner lefts rights sides
+    → AreJoined alone f (take count sides) (take count lefts) (take count rights) words → (i j : ℕ)
+    → word_at (entries_from 0 ends (take count inner) words) i j ≡ of_either alone alone f (word_at a i j)
+    (word_at b i j)
 words_join alone f a b count ends inner lefts rights sides words m u = placed_words alone f a b (outers 0 ends) (take count inner) (take count lefts) (take count rights) (take count sides) words m.merge u
 
-pub inside_join : (alone : ℕ → ℕ) (f : ℕ → ℕ → ℕ) (a b : List Entry) (count : ℕ) (ends : List FiberEnd) (inner lefts rights sides words : List ℕ) → AreMerged a b count ends inner lefts rights sides
-    → AreJoined alone f (take count sides) (take count lefts) (take count rights) words → (first past cols : ℕ) → AreIn first past cols (along cols a) → AreIn first past cols (along cols b) → AreIn first past cols (along cols (entries_from 0 ends (take count inner) words))
+pub inside_join : (alone : ℕ → ℕ) (f : ℕ → ℕ → ℕ) (a b : List Entry) (count : ℕ) (ends : List FiberEnd)
+    (inner lefts rights sides words : List ℕ) → AreMerged a b count ends inner lefts rights sides
+    → AreJoined alone f (take count sides) (take count lefts) (take count rights) words → (first past cols : ℕ)
+    → AreIn first past cols (along cols a) → AreIn first past cols (along cols b)
+    → AreIn first past cols (along cols (entries_from 0 ends (take count inner) words))
 inside_join alone f a b count ends inner lefts rights sides words m u first past cols in_a in_b =
     are_in first past cols (entries_from 0 ends (take count inner) words)
     (placed_all alone f (LiesIn (eqb cols 1) first past cols) a b (outers 0 ends) (take count inner) (take count lefts) (take count rights) (take count sides) words m.merge u (lies_in first past cols a in_a) (lies_in first past cols b in_b))
 
 -- what stands in front of both sides stands in front of their join
-pub order_join : (alone : ℕ → ℕ) (f : ℕ → ℕ → ℕ) (front a b : List Entry) (count : ℕ) (ends : List FiberEnd) (inner lefts rights sides words : List ℕ) → AreMerged a b count ends inner lefts rights sides
-    → AreJoined alone f (take count sides) (take count lefts) (take count rights) words → All (λ e. All (Precedes e) a) front → All (λ e. All (Precedes e) b) front → All (λ e. All (Precedes e) (entries_from 0 ends (take count inner) words)) front
+pub order_join : (alone : ℕ → ℕ) (f : ℕ → ℕ → ℕ) (front a b : List Entry) (count : ℕ) (ends : List FiberEnd)
+    (inner lefts rights sides words : List ℕ) → AreMerged a b count ends inner lefts rights sides
+    → AreJoined alone f (take count sides) (take count lefts) (take count rights) words
+    → All (λ e. All (Precedes e) a) front → All (λ e. All (Precedes e) b) front
+    → All (λ e. All (Precedes e) (entries_from 0 ends (take count inner) words)) front
 order_join alone f front a b count ends inner lefts rights sides words m u before_a before_b n d within =
     placed_all alone f (λ row col. Precedes (get_or front n d) (entry_at row col 0)) a b (outers 0 ends) (take count inner) (take count lefts) (take count rights) (take count sides) words m.merge u (before_a n d within) (before_b n d within)
 
-pub join_along : (alone : ℕ → ℕ) (f : ℕ → ℕ → ℕ) (cols : ℕ) (a b es : List Entry) → ((i j : ℕ) → word_at es i j ≡ of_either alone alone f (word_at a i j) (word_at b i j))
-    → (i j : ℕ) → word_at (along cols es) i j ≡ of_either alone alone f (word_at (along cols a) i j) (word_at (along cols b) i j)
+pub join_along : (alone : ℕ → ℕ) (f : ℕ → ℕ → ℕ) (cols : ℕ) (a b es : List Entry)
+    → ((i j : ℕ) → word_at es i j ≡ of_either alone alone f (word_at a i j) (word_at b i j))
+    → (i j : ℕ) → word_at (along cols es) i j ≡ of_either alone alone f (word_at (along cols a) i j)
+    (word_at (along cols b) i j)
 join_along alone f cols a b es words i j =
     elim (cases_Bool (eqb cols 1)) [
       | inl one ↦ rw (as_column cols es one, as_column cols a one, as_column cols b one) (word_at-transposed es i j ∙ words j i ∙ rw (word_at-transposed a i j, word_at-transposed b i j) refl)
@@ -68,7 +82,8 @@ cut_front from xs ys zs size whole = rw (whole, size) (take-append_seam xs ys)
 pub cut_behind : (from : ℕ) (xs ys zs : List ℕ) → from ≡ length xs → zs ≡ xs ++ ys → drop from zs ≡ ys
 cut_behind from xs ys zs size whole = rw (whole, size) (drop-append_seam xs ys)
 
-pub if_ok_both : {T E : Type 0} (r : Result T E) (P Q R : T → Type 0) → ((x : T) → P x → Q x → R x) → IfOk r P → IfOk r Q → IfOk r R
+pub if_ok_both : {T E : Type 0} (r : Result T E) (P Q R : T → Type 0) → ((x : T) → P x → Q x → R x) → IfOk r P
+    → IfOk r Q → IfOk r R
 if_ok_both (Ok x) P Q R f p q = f x p q
 if_ok_both (Err e) P Q R f p q = tt
 
@@ -77,8 +92,11 @@ on_ok_both (Ok x) f p q = f p q
 on_ok_both (Err e) f p q = tt
 
 -- the join of the rows of two sides, from that of their fibers
-pub part_joined : (by : Joining) (first past cols : ℕ) (a b : List Entry) (c d : Content) (old new : FiberLists) → HasJoin by a b old new → AreIn first past cols (along cols a) → AreIn first past cols (along cols b)
-    → ((i j : ℕ) → first ≤ i → i < past → word_at (along cols a) i j ≡ c i j) → ((i j : ℕ) → first ≤ i → i < past → word_at (along cols b) i j ≡ d i j) → HasPart (joined by c d) first past cols old new
+pub part_joined : (by : Joining) (first past cols : ℕ) (a b : List Entry) (c d : Content) (old new : FiberLists)
+    → HasJoin by a b old new → AreIn first past cols (along cols a) → AreIn first past cols (along cols b)
+    → ((i j : ℕ) → first ≤ i → i < past → word_at (along cols a) i j ≡ c i j)
+    → ((i j : ℕ) → first ≤ i → i < past → word_at (along cols b) i j ≡ d i j)
+    → HasPart (joined by c d) first past cols old new
 part_joined by first past cols a b c d old new h in_a in_b words_a words_b = record {
   flat = h.flat;
   part = h.part;

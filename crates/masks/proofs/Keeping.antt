@@ -32,10 +32,14 @@ pub record IsKeeping (mask : MaskTest) (stored all rest : List Entry) (ends : Li
   pub left : AreFrom start (drop at ends) (drop start inner) (drop start words)
   pub done : AreFlat (take fibers ends) (take kept inner) (take kept words)
   pub before : All (λ r. All (λ s. r.outer < s.outer) (drop at ends)) (take fibers ends)
-  pub whole : kept_by mask stored all ≡ entries_from 0 (take fibers ends) (take kept inner) (take kept words) ++ kept_by mask stored (entries_from start (drop at ends) (drop start inner) (drop start words))
-  pub masked : (i j : ℕ) → at < length ends → (get_or ends at (end_at 0 0)).outer ≤ i → word_at rest i j ≡ word_at stored i j
+  pub whole : kept_by mask stored all ≡ entries_from 0 (take fibers ends) (take kept inner)
+      (take kept words) ++ kept_by mask stored (entries_from start (drop at ends) (drop start inner) (drop start words))
+  pub masked : (i j : ℕ) → at < length ends → (get_or ends at (end_at 0 0)).outer ≤ i
+      → word_at rest i j ≡ word_at stored i j
 
-pub keeping_none : (mask : MaskTest) (stored : List Entry) (ends : List FiberEnd) (inner words : List ℕ) → AreFlat ends inner words → IsKeeping mask stored (entries_from 0 ends inner words) stored ends inner words 0 0 0 0
+pub keeping_none : (mask : MaskTest) (stored : List Entry) (ends : List FiberEnd) (inner words : List ℕ)
+    → AreFlat ends inner words
+    → IsKeeping mask stored (entries_from 0 ends inner words) stored ends inner words 0 0 0 0
 unfolding outers
 keeping_none mask stored ends inner words flat = record {
   fewer_fibers = omega arith;
@@ -56,7 +60,8 @@ pub record IsNext (ends : List FiberEnd) (inner : List ℕ) (at start outer end 
   pub some : start < end
   pub inside : end ≤ length inner
 
-pub next_fiber : (mask : MaskTest) (stored all rest : List Entry) (ends : List FiberEnd) (inner words : List ℕ) (at fibers kept start outer end : ℕ) → IsKeeping mask stored all rest ends inner words at fibers kept start
+pub next_fiber : (mask : MaskTest) (stored all rest : List Entry) (ends : List FiberEnd) (inner words : List ℕ)
+    (at fibers kept start outer end : ℕ) → IsKeeping mask stored all rest ends inner words at fibers kept start
     → at < length ends → get_or ends at (end_at 0 0) ≡ end_at outer end → IsNext ends inner at start outer end
 unfolding Rises last_end
 next_fiber mask stored all rest ends inner words at fibers kept start outer end here within is =
@@ -69,7 +74,8 @@ next_fiber mask stored all rest ends inner words at fibers kept start outer end 
     record { first = first; some = rises.0; inside = omega (arith, length-drop start inner) }
 
 -- the fiber's entries as they lie in the part that is lent
-pub lent_part : (kept start end : ℕ) (xs : List ℕ) → kept ≤ start → start ≤ end → drop (start - kept) (take (end - kept) (drop kept xs)) ≡ take (end - start) (drop start xs)
+pub lent_part : (kept start end : ℕ) (xs : List ℕ) → kept ≤ start → start ≤ end
+    → drop (start - kept) (take (end - kept) (drop kept xs)) ≡ take (end - start) (drop start xs)
 lent_part kept start end xs low high =
     let whole : (start - kept) + (end - start) ≡ end - kept = omega arith in
     let on : kept + (start - kept) ≡ start = omega arith in
@@ -80,7 +86,8 @@ step_le number true one none = omega arith
 step_le number false one none = omega arith
 
 -- the next fiber's indices rise
-pub next_rises : (mask : MaskTest) (stored all rest : List Entry) (ends : List FiberEnd) (inner words : List ℕ) (at fibers kept start outer end : ℕ) → IsKeeping mask stored all rest ends inner words at fibers kept start
+pub next_rises : (mask : MaskTest) (stored all rest : List Entry) (ends : List FiberEnd) (inner words : List ℕ)
+    (at fibers kept start outer end : ℕ) → IsKeeping mask stored all rest ends inner words at fibers kept start
     → IsNext ends inner at start outer end → AllPairs (λ a b. a < b) (take (end - start) (drop start inner))
 next_rises mask stored all rest ends inner words at fibers kept start outer end here next =
     let flat : AreFrom start (end_at outer end ∷ drop (at + 1) ends) (drop start inner) (drop start words) = rw next.first at here.left in
@@ -93,8 +100,10 @@ filter_same p q [] same = refl
 filter_same p q (x ∷ xs) same = rw (All-head (λ x. p x ≡ q x) x xs same, filter_same p q xs (All-tail (λ x. p x ≡ q x) x xs same)) refl
 
 -- the first places of the ends, after the next one was written
-pub ends_more : (ends : List FiberEnd) (fibers kept count outer step : ℕ) (number : Bool → ℕ) → fibers < length ends → last_end 0 (take fibers ends) ≡ kept → step ≡ number (ltb 0 count) → number true ≡ 1 → number false ≡ 0
-    → take (fibers + step) (set ends fibers (end_at outer (kept + count))) ≡ closed (take fibers ends) outer (kept + count)
+pub ends_more : (ends : List FiberEnd) (fibers kept count outer step : ℕ) (number : Bool → ℕ) → fibers < length ends
+    → last_end 0 (take fibers ends) ≡ kept → step ≡ number (ltb 0 count) → number true ≡ 1 → number false ≡ 0
+    → take (fibers + step)
+    (set ends fibers (end_at outer (kept + count))) ≡ closed (take fibers ends) outer (kept + count)
 ends_more ends fibers kept count outer step number room last stepped one none =
     let r = end_at outer (kept + count) in
     elim (cases_eq count 0) [
@@ -110,13 +119,18 @@ ends_more ends fibers kept count outer step number room last stepped one none =
           rw (by, other) (take_more_set ends fibers r room)
     ]
 
-pub keeping_more : (mask : MaskTest) (stored all rest rest' : List Entry) (ends : List FiberEnd) (inner words : List ℕ) (at fibers kept start outer end count step : ℕ) (mi mw part part_words : List ℕ) (number : Bool → ℕ)
-    → IsKeeping mask stored all rest ends inner words at fibers kept start → at < length ends → get_or ends at (end_at 0 0) ≡ end_at outer end
-    → ((j : ℕ) → word_at (entries_along outer mi mw) outer j ≡ word_at rest outer j) → ((i j : ℕ) → outer < i → word_at rest' i j ≡ word_at rest i j)
+pub keeping_more : (mask : MaskTest) (stored all rest rest' : List Entry) (ends : List FiberEnd) (inner words : List ℕ)
+    (at fibers kept start outer end count step : ℕ) (mi mw part part_words : List ℕ) (number : Bool → ℕ)
+    → IsKeeping mask stored all rest ends inner words at fibers kept start → at < length ends
+    → get_or ends at (end_at 0 0) ≡ end_at outer end
+    → ((j : ℕ) → word_at (entries_along outer mi mw) outer j ≡ word_at rest outer j)
+    → ((i j : ℕ) → outer < i → word_at rest' i j ≡ word_at rest i j)
     → count ≤ (end - kept) - (start - kept) → length part ≡ end - kept → length part_words ≡ end - kept
     → ((o : ℕ) → entries_along o (take count part) (take count part_words) ≡ kept_by mask (entries_along o mi mw) (entries_along o (drop (start - kept) (take (end - kept) (drop kept inner))) (drop (start - kept) (take (end - kept) (drop kept words)))))
     → step ≡ number (ltb 0 count) → number true ≡ 1 → number false ≡ 0
-    → IsKeeping mask stored all rest' (set ends fibers (end_at outer (kept + count))) (put_mid kept (end - kept) inner part) (put_mid kept (end - kept) words part_words) (at + 1) (fibers + step) (kept + count) end
+    → IsKeeping mask stored all rest' (set ends fibers (end_at outer (kept + count)))
+    (put_mid kept (end - kept) inner part) (put_mid kept (end - kept) words part_words) (at + 1) (fibers + step)
+    (kept + count) end
 unfolding Rises last_end
 keeping_more mask stored all rest rest' ends inner words at fibers kept start outer end count step mi mw part part_words number here within is at_outer behind few long long_words made stepped one none =
     let next = next_fiber mask stored all rest ends inner words at fibers kept start outer end here within is in
@@ -204,7 +218,9 @@ keeping_more mask stored all rest rest' ends inner words at fibers kept start ou
     }
 
 -- all fibers are done
-pub keeping_all : (mask : MaskTest) (stored all rest : List Entry) (ends : List FiberEnd) (inner words : List ℕ) (at fibers kept start : ℕ) → IsKeeping mask stored all rest ends inner words at fibers kept start → length ends ≤ at
+pub keeping_all : (mask : MaskTest) (stored all rest : List Entry) (ends : List FiberEnd) (inner words : List ℕ)
+    (at fibers kept start : ℕ) → IsKeeping mask stored all rest ends inner words at fibers kept start
+    → length ends ≤ at
     → entries_from 0 (take fibers ends) (take kept inner) (take kept words) ≡ kept_by mask stored all
 keeping_all mask stored all rest ends inner words at fibers kept start here over =
     let done : drop at ends ≡ [] = drop_all at ends over in

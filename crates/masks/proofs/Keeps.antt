@@ -21,7 +21,8 @@ pub record IsFirstFrom (x : ℕ) (xs : List ℕ) (n : ℕ) : Type 0 where
   pub next : n < length xs → x ≤ get_or xs n 0
 
 -- where the numbers behind the start of a list are below x up to a point, and those before are
-pub all_before : (x : ℕ) (xs : List ℕ) (start n : ℕ) → start ≤ length xs → n ≤ length (drop start xs) → IsPartitionPoint (λ y. ltb y x ≡ true) (λ y. ltb y x ≡ false) (drop start xs) n
+pub all_before : (x : ℕ) (xs : List ℕ) (start n : ℕ) → start ≤ length xs → n ≤ length (drop start xs)
+    → IsPartitionPoint (λ y. ltb y x ≡ true) (λ y. ltb y x ≡ false) (drop start xs) n
     → All (λ y. y < x) (take start xs) → All (λ y. y < x) (take (start + n) xs)
 all_before x xs start n room few point before =
     all_take (λ y. y < x) (start + n) xs
@@ -35,7 +36,9 @@ all_before x xs start n room few point before =
           ltb-true (get_or xs k d) x (rw is at test)
     ])
 
-pub word_found : (outer index : ℕ) (inner words : List ℕ) (n : ℕ) → length words ≡ length inner → AllPairs (λ a b. a < b) inner → n < length inner → get_or inner n 0 ≡ index → word_at (entries_along outer inner words) outer index ≡ Some (get_or words n 0)
+pub word_found : (outer index : ℕ) (inner words : List ℕ) (n : ℕ) → length words ≡ length inner
+    → AllPairs (λ a b. a < b) inner → n < length inner → get_or inner n 0 ≡ index
+    → word_at (entries_along outer inner words) outer index ≡ Some (get_or words n 0)
 word_found outer index inner words n same rising within is =
     let es = entries_along outer inner words in
     let d = entry_at 0 0 0 in
@@ -43,7 +46,9 @@ word_found outer index inner words n same rising within is =
     let long = length_row outer inner words same in
     sym (word_at-found outer index es n d (row_in_order outer inner words rising) (omega arith) (rw at (refl, is))) ∙ ap (λ (e : Entry). Some e.word) at
 
-pub word_absent : (outer index : ℕ) (inner words : List ℕ) (n : ℕ) → length words ≡ length inner → AllPairs (λ a b. a < b) inner → IsFirstFrom index inner n → (n < length inner → get_or inner n 0 ≢ index) → word_at (entries_along outer inner words) outer index ≡ None
+pub word_absent : (outer index : ℕ) (inner words : List ℕ) (n : ℕ) → length words ≡ length inner
+    → AllPairs (λ a b. a < b) inner → IsFirstFrom index inner n → (n < length inner → get_or inner n 0 ≢ index)
+    → word_at (entries_along outer inner words) outer index ≡ None
 word_absent outer index inner words n same rising first away =
     let es = entries_along outer inner words in
     let long = length_row outer inner words same in
@@ -66,17 +71,23 @@ word_absent outer index inner words n same rising first away =
 
 -- ---- one entry more
 
-pub along_append : (o : ℕ) (xs ys cs ws : List ℕ) → length ys ≡ length xs → entries_along o (xs ++ cs) (ys ++ ws) ≡ entries_along o xs ys ++ entries_along o cs ws
+pub along_append : (o : ℕ) (xs ys cs ws : List ℕ) → length ys ≡ length xs
+    → entries_along o (xs ++ cs) (ys ++ ws) ≡ entries_along o xs ys ++ entries_along o cs ws
 along_append o [] [] cs ws same = refl
 along_append o [] (y ∷ ys) cs ws same = absurd (omega arith)
 along_append o (x ∷ xs) [] cs ws same = absurd (omega arith)
 along_append o (x ∷ xs) (y ∷ ys) cs ws same = ap (λ es. entry_at o x y ∷ es) (along_append o xs ys cs ws (omega arith))
 
 -- the entry at a place is put behind those that were kept, and counted where the test keeps it
-pub keep_more : (p : Entry → Bool) (outer : ℕ) (inner words : List ℕ) (kept at step : ℕ) (keep : Bool) (number : Bool → ℕ) (all : List Entry)
-    → kept ≤ at → at < length inner → length words ≡ length inner → p (entry_at outer (get_or inner at 0) (get_or words at 0)) ≡ keep → step ≡ number keep → number true ≡ 1 → number false ≡ 0
-    → all ≡ entries_along outer (take kept inner) (take kept words) ++ filter p (entries_along outer (drop at inner) (drop at words))
-    → all ≡ entries_along outer (take (kept + step) (set inner kept (get_or inner at 0))) (take (kept + step) (set words kept (get_or words at 0)))
+pub keep_more : (p : Entry → Bool) (outer : ℕ) (inner words : List ℕ) (kept at step : ℕ) (keep : Bool)
+    (number : Bool → ℕ) (all : List Entry)
+    → kept ≤ at → at < length inner → length words ≡ length inner
+    → p (entry_at outer (get_or inner at 0) (get_or words at 0)) ≡ keep → step ≡ number keep → number true ≡ 1
+    → number false ≡ 0
+    → all ≡ entries_along outer (take kept inner)
+    (take kept words) ++ filter p (entries_along outer (drop at inner) (drop at words))
+    → all ≡ entries_along outer (take (kept + step) (set inner kept (get_or inner at 0)))
+    (take (kept + step) (set words kept (get_or words at 0)))
     ++ filter p (entries_along outer (drop (at + 1) (set inner kept (get_or inner at 0))) (drop (at + 1) (set words kept (get_or words at 0))))
 keep_more p outer inner words kept at step keep number all low within same is stepped one none here =
     let x = get_or inner at 0 in
@@ -109,6 +120,7 @@ keep_more p outer inner words kept at step keep number all low within same is st
 -- ---- one fiber and those behind it
 
 -- a walk that steps over its first fiber has less left
-pub step_shorter : (o : ℕ) (fs x x' : List Entry) → x ≡ fs ++ x' → (All (λ e. o < e.row) x → length x ≡ 0) → All (λ e. o < e.row) x' → 0 < length x → length x' < length x
+pub step_shorter : (o : ℕ) (fs x x' : List Entry) → x ≡ fs ++ x' → (All (λ e. o < e.row) x → length x ≡ 0)
+    → All (λ e. o < e.row) x' → 0 < length x → length x' < length x
 step_shorter o [] x x' is there behind some = absurd (let none = there (rw is behind) in omega arith)
 step_shorter o (f ∷ fs) x x' is there behind some = omega (arith, ap length is, length-append (f ∷ fs) x')

@@ -23,10 +23,13 @@ pub record IsKept (mask : MaskTest) (all_inner all_words : List ℕ) (from : ℕ
   pub bound : next ≤ length mi
   pub ahead : at < length inner → All (λ y. y < get_or inner at 0) (take next mi)
   pub rising : AllPairs (λ a b. a < b) (drop at inner)
-  pub whole : (outer : ℕ) → kept_by mask (entries_along outer mi mw) (entries_along outer (drop from all_inner) (drop from all_words))
+  pub whole : (outer : ℕ) → kept_by mask (entries_along outer mi mw)
+      (entries_along outer (drop from all_inner) (drop from all_words))
       ≡ entries_along outer (take kept inner) (take kept words) ++ kept_by mask (entries_along outer mi mw) (entries_along outer (drop at inner) (drop at words))
 
-pub kept_none : (mask : MaskTest) (inner words : List ℕ) (from : ℕ) (mi mw : List ℕ) → from ≤ length inner → length words ≡ length inner → AllPairs (λ a b. a < b) (drop from inner) → IsKept mask inner words from mi mw inner words 0 from 0
+pub kept_none : (mask : MaskTest) (inner words : List ℕ) (from : ℕ) (mi mw : List ℕ) → from ≤ length inner
+    → length words ≡ length inner → AllPairs (λ a b. a < b) (drop from inner)
+    → IsKept mask inner words from mi mw inner words 0 from 0
 kept_none mask inner words from mi mw room same rising = record {
   low = omega arith;
   within = room;
@@ -43,10 +46,14 @@ one_le number true one none = omega arith
 one_le number false one none = omega arith
 
 -- the entry at hand is done, and the mask's indices before next'
-pub one_taken : (mask : MaskTest) (all_inner all_words : List ℕ) (from : ℕ) (mi mw inner words : List ℕ) (kept at next next' step : ℕ) (keep : Bool) (number : Bool → ℕ)
-    → IsKept mask all_inner all_words from mi mw inner words kept at next → at < length inner → next' ≤ length mi → All (λ y. y ≤ get_or inner at 0) (take next' mi)
-    → ((outer : ℕ) → lets_word mask (word_at (entries_along outer mi mw) outer (get_or inner at 0)) ≡ keep) → step ≡ number keep → number true ≡ 1 → number false ≡ 0
-    → IsKept mask all_inner all_words from mi mw (set inner kept (get_or inner at 0)) (set words kept (get_or words at 0)) (kept + step) (at + 1) next'
+pub one_taken : (mask : MaskTest) (all_inner all_words : List ℕ) (from : ℕ) (mi mw inner words : List ℕ)
+    (kept at next next' step : ℕ) (keep : Bool) (number : Bool → ℕ)
+    → IsKept mask all_inner all_words from mi mw inner words kept at next → at < length inner → next' ≤ length mi
+    → All (λ y. y ≤ get_or inner at 0) (take next' mi)
+    → ((outer : ℕ) → lets_word mask (word_at (entries_along outer mi mw) outer (get_or inner at 0)) ≡ keep)
+    → step ≡ number keep → number true ≡ 1 → number false ≡ 0
+    → IsKept mask all_inner all_words from mi mw (set inner kept (get_or inner at 0))
+    (set words kept (get_or words at 0)) (kept + step) (at + 1) next'
 one_taken mask all_inner all_words from mi mw inner words kept at next next' step keep number here within bound before lets stepped one none =
     let x = get_or inner at 0 in
     let low = here.low in
@@ -89,9 +96,12 @@ there_set xs k at =
     ]
 
 -- an index of the mask's that is below the entry at hand is passed over
-pub one_passed : (mask : MaskTest) (all_inner all_words : List ℕ) (from : ℕ) (mi mw inner words : List ℕ) (kept at next : ℕ)
-    → IsKept mask all_inner all_words from mi mw inner words kept at next → at < length inner → next < length mi → get_or mi next 0 < get_or inner at 0
-    → IsKept mask all_inner all_words from mi mw (set inner kept (get_or inner at 0)) (set words kept (get_or words at 0)) kept at (next + 1)
+pub one_passed : (mask : MaskTest) (all_inner all_words : List ℕ) (from : ℕ) (mi mw inner words : List ℕ)
+    (kept at next : ℕ)
+    → IsKept mask all_inner all_words from mi mw inner words kept at next → at < length inner → next < length mi
+    → get_or mi next 0 < get_or inner at 0
+    → IsKept mask all_inner all_words from mi mw (set inner kept (get_or inner at 0))
+    (set words kept (get_or words at 0)) kept at (next + 1)
 one_passed mask all_inner all_words from mi mw inner words kept at next here within some less =
     let x = get_or inner at 0 in
     let w = get_or words at 0 in
@@ -111,11 +121,15 @@ one_passed mask all_inner all_words from mi mw inner words kept at next here wit
     }
 
 -- what the two indices at hand choose
-pub one_step : (mask : MaskTest) (all_inner all_words : List ℕ) (from : ℕ) (mi mw inner words : List ℕ) (kept at next step by_at by_next : ℕ) (keep : Bool) (number : Bool → ℕ)
-    → IsKept mask all_inner all_words from mi mw inner words kept at next → length mw ≡ length mi → AllPairs (λ a b. a < b) mi → at < length inner → next < length mi
+pub one_step : (mask : MaskTest) (all_inner all_words : List ℕ) (from : ℕ) (mi mw inner words : List ℕ)
+    (kept at next step by_at by_next : ℕ) (keep : Bool) (number : Bool → ℕ)
+    → IsKept mask all_inner all_words from mi mw inner words kept at next → length mw ≡ length mi
+    → AllPairs (λ a b. a < b) mi → at < length inner → next < length mi
     → (get_or inner at 0 ≤ get_or mi next 0 → keep ≡ lets_word mask (cond (eqb (get_or inner at 0) (get_or mi next 0)) (Some (get_or mw next 0)) None)) → (get_or mi next 0 < get_or inner at 0 → keep ≡ false)
-    → step ≡ number keep → by_at ≡ number (leb (get_or inner at 0) (get_or mi next 0)) → by_next ≡ number (leb (get_or mi next 0) (get_or inner at 0)) → number true ≡ 1 → number false ≡ 0
-    → IsKept mask all_inner all_words from mi mw (set inner kept (get_or inner at 0)) (set words kept (get_or words at 0)) (kept + step) (at + by_at) (next + by_next)
+    → step ≡ number keep → by_at ≡ number (leb (get_or inner at 0) (get_or mi next 0))
+    → by_next ≡ number (leb (get_or mi next 0) (get_or inner at 0)) → number true ≡ 1 → number false ≡ 0
+    → IsKept mask all_inner all_words from mi mw (set inner kept (get_or inner at 0))
+    (set words kept (get_or words at 0)) (kept + step) (at + by_at) (next + by_next)
 one_step mask all_inner all_words from mi mw inner words kept at next step by_at by_next keep number here same rises within some stays passes stepped step_at step_next one none =
     let x = get_or inner at 0 in
     let y = get_or mi next 0 in
@@ -155,10 +169,13 @@ no_word_lets true = refl
 no_word_lets false = refl
 
 -- an entry behind all of the mask's
-pub one_behind : (mask : MaskTest) (all_inner all_words : List ℕ) (from : ℕ) (mi mw inner words : List ℕ) (kept at next step : ℕ) (number : Bool → ℕ)
-    → IsKept mask all_inner all_words from mi mw inner words kept at next → length mw ≡ length mi → AllPairs (λ a b. a < b) mi → at < length inner → length mi ≤ next
+pub one_behind : (mask : MaskTest) (all_inner all_words : List ℕ) (from : ℕ) (mi mw inner words : List ℕ)
+    (kept at next step : ℕ) (number : Bool → ℕ)
+    → IsKept mask all_inner all_words from mi mw inner words kept at next → length mw ≡ length mi
+    → AllPairs (λ a b. a < b) mi → at < length inner → length mi ≤ next
     → step ≡ number mask.complement → number true ≡ 1 → number false ≡ 0
-    → IsKept mask all_inner all_words from mi mw (set inner kept (get_or inner at 0)) (set words kept (get_or words at 0)) (kept + step) (at + 1) next
+    → IsKept mask all_inner all_words from mi mw (set inner kept (get_or inner at 0))
+    (set words kept (get_or words at 0)) (kept + step) (at + 1) next
 one_behind mask all_inner all_words from mi mw inner words kept at next step number here same rises within over stepped one none =
     let x = get_or inner at 0 in
     let first : IsFirstFrom x mi next = record { bound = here.bound; before = here.ahead within; next = λ more. absurd (omega arith) } in
@@ -167,7 +184,8 @@ one_behind mask all_inner all_words from mi mw inner words kept at next step num
     (λ outer. rw (word_absent outer x mi mw next same rises first (λ more. absurd (omega arith))) (no_word_lets mask.complement)) stepped one none
 
 -- some of the mask's indices below the entry at hand are passed over
-pub some_passed : (mask : MaskTest) (all_inner all_words : List ℕ) (from : ℕ) (mi mw inner words : List ℕ) (kept at next next' : ℕ)
+pub some_passed : (mask : MaskTest) (all_inner all_words : List ℕ) (from : ℕ) (mi mw inner words : List ℕ)
+    (kept at next next' : ℕ)
     → IsKept mask all_inner all_words from mi mw inner words kept at next → next' ≤ length mi
     → (at < length inner → All (λ y. y < get_or inner at 0) (take next mi) → All (λ y. y < get_or inner at 0) (take next' mi))
     → IsKept mask all_inner all_words from mi mw inner words kept at next'
@@ -183,8 +201,10 @@ some_passed mask all_inner all_words from mi mw inner words kept at next next' h
 }
 
 -- all entries are done
-pub kept_all : (mask : MaskTest) (all_inner all_words : List ℕ) (from : ℕ) (mi mw inner words : List ℕ) (kept at next : ℕ) → IsKept mask all_inner all_words from mi mw inner words kept at next → length inner ≤ at
-    → (outer : ℕ) → entries_along outer (take kept inner) (take kept words) ≡ kept_by mask (entries_along outer mi mw) (entries_along outer (drop from all_inner) (drop from all_words))
+pub kept_all : (mask : MaskTest) (all_inner all_words : List ℕ) (from : ℕ) (mi mw inner words : List ℕ)
+    (kept at next : ℕ) → IsKept mask all_inner all_words from mi mw inner words kept at next → length inner ≤ at
+    → (outer : ℕ) → entries_along outer (take kept inner) (take kept words) ≡ kept_by mask (entries_along outer mi mw)
+    (entries_along outer (drop from all_inner) (drop from all_words))
 kept_all mask all_inner all_words from mi mw inner words kept at next here over outer =
     let none = drop_all at inner over in
     sym (here.whole outer ∙ rw none (append-nil (entries_along outer (take kept inner) (take kept words))))

@@ -14,7 +14,8 @@ use Rattle.masks.proofs.Merging.{IsMerging, merging_none, left_more, right_more,
 use Rattle.store.proofs.Places.{length_row, row_at}
 
 pub record IsAlong (a aw b bw : List ℕ) (i j k : ℕ) (cols lefts rights sides : List ℕ) : Type 0 where
-  pub merging : (outer : ℕ) → IsMerging (entries_along outer a aw) (entries_along outer b bw) i j k (replicate (length cols) outer) cols lefts rights sides
+  pub merging : (outer : ℕ) → IsMerging (entries_along outer a aw)
+      (entries_along outer b bw) i j k (replicate (length cols) outer) cols lefts rights sides
   pub room : k ≤ i + j
   pub a_in : i ≤ length a
   pub b_in : j ≤ length b
@@ -31,7 +32,8 @@ same_rows : (n k outer : ℕ) → k < n → set (replicate n outer) k outer ≡ 
 same_rows n k outer within = ap (λ o. set (replicate n outer) k o) (sym (get_or-replicate n k outer 0 within)) ∙ set-get_or (replicate n outer) k 0
 
 -- the first of what is left stands before all that is left on the other side
-ahead : (outer x xw : ℕ) (b bw : List ℕ) (j : ℕ) → length bw ≡ length b → AllPairs (λ p q. p < q) b → (j < length b → x < get_or b j 0) → All (Precedes (entry_at outer x xw)) (drop j (entries_along outer b bw))
+ahead : (outer x xw : ℕ) (b bw : List ℕ) (j : ℕ) → length bw ≡ length b → AllPairs (λ p q. p < q) b
+    → (j < length b → x < get_or b j 0) → All (Precedes (entry_at outer x xw)) (drop j (entries_along outer b bw))
 ahead outer x xw b bw j same rises less n d within =
     let long = length_row outer b bw same in
     let room : j + n < length b = omega (arith, length-drop j (entries_along outer b bw)) in
@@ -42,10 +44,14 @@ ahead outer x xw b bw j same rises less n d within =
     ] in
     rw (get_or-drop j (entries_along outer b bw) n d, row_at outer b bw (j + n) d same room) (inr (refl, at))
 
-pub left_along : (a aw b bw : List ℕ) (i j k : ℕ) (cols lefts rights sides : List ℕ) (other : ℕ) → IsAlong a aw b bw i j k cols lefts rights sides
-    → length aw ≡ length a → length bw ≡ length b → AllPairs (λ p q. p < q) a → AllPairs (λ p q. p < q) b → length a + length b ≤ length cols → length lefts ≡ length cols → length rights ≡ length cols → length sides ≡ length cols
+pub left_along : (a aw b bw : List ℕ) (i j k : ℕ) (cols lefts rights sides : List ℕ) (other : ℕ)
+    → IsAlong a aw b bw i j k cols lefts rights sides
+    → length aw ≡ length a → length bw ≡ length b → AllPairs (λ p q. p < q) a → AllPairs (λ p q. p < q) b
+    → length a + length b ≤ length cols → length lefts ≡ length cols → length rights ≡ length cols
+    → length sides ≡ length cols
     → i < length a → (j < length b → get_or a i 0 < get_or b j 0)
-    → IsAlong a aw b bw (i + 1) j (k + 1) (set cols k (get_or a i 0)) (set lefts k (get_or aw i 0)) (set rights k other) (set sides k 1)
+    → IsAlong a aw b bw (i + 1) j (k + 1) (set cols k (get_or a i 0)) (set lefts k (get_or aw i 0))
+    (set rights k other) (set sides k 1)
 left_along a aw b bw i j k cols lefts rights sides other here sa sb ra rb space l r s some less =
     let room = here.room in
     let b_in = here.b_in in
@@ -68,10 +74,14 @@ left_along a aw b bw i j k cols lefts rights sides other here sa sb ra rb space 
       b_in = omega arith;
     }
 
-pub right_along : (a aw b bw : List ℕ) (i j k : ℕ) (cols lefts rights sides : List ℕ) (other : ℕ) → IsAlong a aw b bw i j k cols lefts rights sides
-    → length aw ≡ length a → length bw ≡ length b → AllPairs (λ p q. p < q) a → AllPairs (λ p q. p < q) b → length a + length b ≤ length cols → length lefts ≡ length cols → length rights ≡ length cols → length sides ≡ length cols
+pub right_along : (a aw b bw : List ℕ) (i j k : ℕ) (cols lefts rights sides : List ℕ) (other : ℕ)
+    → IsAlong a aw b bw i j k cols lefts rights sides
+    → length aw ≡ length a → length bw ≡ length b → AllPairs (λ p q. p < q) a → AllPairs (λ p q. p < q) b
+    → length a + length b ≤ length cols → length lefts ≡ length cols → length rights ≡ length cols
+    → length sides ≡ length cols
     → j < length b → (i < length a → get_or b j 0 < get_or a i 0)
-    → IsAlong a aw b bw i (j + 1) (k + 1) (set cols k (get_or b j 0)) (set lefts k other) (set rights k (get_or bw j 0)) (set sides k 2)
+    → IsAlong a aw b bw i (j + 1) (k + 1) (set cols k (get_or b j 0)) (set lefts k other)
+    (set rights k (get_or bw j 0)) (set sides k 2)
 right_along a aw b bw i j k cols lefts rights sides other here sa sb ra rb space l r s some less =
     let room = here.room in
     let a_in = here.a_in in
@@ -94,10 +104,14 @@ right_along a aw b bw i j k cols lefts rights sides other here sa sb ra rb space
       b_in = omega arith;
     }
 
-pub both_along : (a aw b bw : List ℕ) (i j k : ℕ) (cols lefts rights sides : List ℕ) → IsAlong a aw b bw i j k cols lefts rights sides
-    → length aw ≡ length a → length bw ≡ length b → AllPairs (λ p q. p < q) a → AllPairs (λ p q. p < q) b → length a + length b ≤ length cols → length lefts ≡ length cols → length rights ≡ length cols → length sides ≡ length cols
+pub both_along : (a aw b bw : List ℕ) (i j k : ℕ) (cols lefts rights sides : List ℕ)
+    → IsAlong a aw b bw i j k cols lefts rights sides
+    → length aw ≡ length a → length bw ≡ length b → AllPairs (λ p q. p < q) a → AllPairs (λ p q. p < q) b
+    → length a + length b ≤ length cols → length lefts ≡ length cols → length rights ≡ length cols
+    → length sides ≡ length cols
     → i < length a → j < length b → get_or a i 0 ≡ get_or b j 0
-    → IsAlong a aw b bw (i + 1) (j + 1) (k + 1) (set cols k (get_or a i 0)) (set lefts k (get_or aw i 0)) (set rights k (get_or bw j 0)) (set sides k 3)
+    → IsAlong a aw b bw (i + 1) (j + 1) (k + 1) (set cols k (get_or a i 0)) (set lefts k (get_or aw i 0))
+    (set rights k (get_or bw j 0)) (set sides k 3)
 both_along a aw b bw i j k cols lefts rights sides here sa sb ra rb space l r s some some' same =
     let room = here.room in
     record {
@@ -119,8 +133,11 @@ both_along a aw b bw i j k cols lefts rights sides here sa sb ra rb space l r s 
       b_in = omega arith;
     }
 
-pub along_all : (a aw b bw : List ℕ) (i j k : ℕ) (cols lefts rights sides : List ℕ) → IsAlong a aw b bw i j k cols lefts rights sides → length aw ≡ length a → length bw ≡ length b → length a ≤ i → length b ≤ j → k ≤ length cols
-    → (outer : ℕ) → IsMerge (entries_along outer a aw) (entries_along outer b bw) (replicate k outer) (take k cols) (take k lefts) (take k rights) (take k sides)
+pub along_all : (a aw b bw : List ℕ) (i j k : ℕ) (cols lefts rights sides : List ℕ)
+    → IsAlong a aw b bw i j k cols lefts rights sides → length aw ≡ length a → length bw ≡ length b → length a ≤ i
+    → length b ≤ j → k ≤ length cols
+    → (outer : ℕ) → IsMerge (entries_along outer a aw) (entries_along outer b bw) (replicate k outer) (take k cols)
+    (take k lefts) (take k rights) (take k sides)
 along_all a aw b bw i j k cols lefts rights sides here sa sb done done' room outer =
     let long_a = length_row outer a aw sa in
     let long_b = length_row outer b bw sb in
@@ -129,12 +146,18 @@ along_all a aw b bw i j k cols lefts rights sides here sa sb done done' room out
     rw (left, right, take-replicate k (length cols) outer room) at (here.merging outer).made
 
 -- what the next two indices choose
-pub side_along : (a aw b bw : List ℕ) (i j k : ℕ) (cols lefts rights sides : List ℕ) (col one two by_i by_j : ℕ) (number : Bool → ℕ) → IsAlong a aw b bw i j k cols lefts rights sides
-    → length aw ≡ length a → length bw ≡ length b → AllPairs (λ p q. p < q) a → AllPairs (λ p q. p < q) b → length a + length b ≤ length cols → length lefts ≡ length cols → length rights ≡ length cols → length sides ≡ length cols
+pub side_along : (a aw b bw : List ℕ) (i j k : ℕ) (cols lefts rights sides : List ℕ) (col one two by_i by_j : ℕ)
+    (number : Bool → ℕ) → IsAlong a aw b bw i j k cols lefts rights sides
+    → length aw ≡ length a → length bw ≡ length b → AllPairs (λ p q. p < q) a → AllPairs (λ p q. p < q) b
+    → length a + length b ≤ length cols → length lefts ≡ length cols → length rights ≡ length cols
+    → length sides ≡ length cols
     → i < length a → j < length b
     → ((get_or a i 0 < get_or b j 0) × (col ≡ get_or a i 0)) ⊎ ((get_or b j 0 ≤ get_or a i 0) × (col ≡ get_or b j 0))
-    → one ≡ number (leb (get_or a i 0) (get_or b j 0)) → two ≡ number (leb (get_or b j 0) (get_or a i 0)) → by_i ≡ number (leb (get_or a i 0) (get_or b j 0)) → by_j ≡ number (leb (get_or b j 0) (get_or a i 0)) → number true ≡ 1 → number false ≡ 0
-    → IsAlong a aw b bw (i + by_i) (j + by_j) (k + 1) (set cols k col) (set lefts k (get_or aw i 0)) (set rights k (get_or bw j 0)) (set sides k (one + 2 * two))
+    → one ≡ number (leb (get_or a i 0) (get_or b j 0)) → two ≡ number (leb (get_or b j 0) (get_or a i 0))
+    → by_i ≡ number (leb (get_or a i 0) (get_or b j 0)) → by_j ≡ number (leb (get_or b j 0) (get_or a i 0))
+    → number true ≡ 1 → number false ≡ 0
+    → IsAlong a aw b bw (i + by_i) (j + by_j) (k + 1) (set cols k col) (set lefts k (get_or aw i 0))
+    (set rights k (get_or bw j 0)) (set sides k (one + 2 * two))
 side_along a aw b bw i j k cols lefts rights sides col one two by_i by_j number here sa sb ra rb space l r s some some' chosen is_one is_two step_i step_j is_1 is_0 =
     let p = get_or a i 0 in
     let q = get_or b j 0 in
@@ -173,8 +196,10 @@ side_along a aw b bw i j k cols lefts rights sides col one two by_i by_j number 
 -- ---- fibers with the same inner indices
 
 -- at each inner index both are there
-pub same_merge : (outer : ℕ) (cols lefts rights : List ℕ) → length lefts ≡ length cols → length rights ≡ length cols → AllPairs (λ p q. p < q) cols
-    → IsMerge (entries_along outer cols lefts) (entries_along outer cols rights) (replicate (length cols) outer) cols lefts rights (replicate (length cols) 3)
+pub same_merge : (outer : ℕ) (cols lefts rights : List ℕ) → length lefts ≡ length cols → length rights ≡ length cols
+    → AllPairs (λ p q. p < q) cols
+    → IsMerge (entries_along outer cols lefts) (entries_along outer cols rights)
+    (replicate (length cols) outer) cols lefts rights (replicate (length cols) 3)
 same_merge outer [] [] [] sl sr rises = record { places = []; rows_are = refl; cols_are = refl; lefts_are = refl; rights_are = refl; sides_are = refl; left = refl; right = refl; order = all_pairs_nil (λ p q. Precedes (position p) (position q)) }
 same_merge outer [] (l ∷ lefts) rights sl sr rises = absurd (omega arith)
 same_merge outer [] [] (r ∷ rights) sl sr rises = absurd (omega arith)

@@ -17,7 +17,8 @@ pub record IsMerging (a b : List Entry) (i j k : ℕ) (rows cols lefts rights si
   pub a_in : i ≤ length a
   pub b_in : j ≤ length b
 
-pub merging_none : (a b : List Entry) (rows cols lefts rights sides : List ℕ) → IsMerging a b 0 0 0 rows cols lefts rights sides
+pub merging_none : (a b : List Entry) (rows cols lefts rights sides : List ℕ)
+    → IsMerging a b 0 0 0 rows cols lefts rights sides
 merging_none a b rows cols lefts rights sides = record {
   made = record {
     places = [];
@@ -37,7 +38,8 @@ merging_none a b rows cols lefts rights sides = record {
   b_in = omega arith;
 }
 
-grown : (field : Place → ℕ) (k : ℕ) (xs : List ℕ) (ps : List Place) (p : Place) → k < length xs → take k xs ≡ map field ps → take (k + 1) (set xs k (field p)) ≡ map field (ps ++ p ∷ [])
+grown : (field : Place → ℕ) (k : ℕ) (xs : List ℕ) (ps : List Place) (p : Place) → k < length xs
+    → take k xs ≡ map field ps → take (k + 1) (set xs k (field p)) ≡ map field (ps ++ p ∷ [])
 grown field k xs ps p room is = take_more_set xs k (field p) room ∙ rw is (sym (map-append field ps (p ∷ [])))
 
 one_place : (R : Place → Place → Type 0) (p : Place) → AllPairs R (p ∷ [])
@@ -45,12 +47,16 @@ one_place R p = all_pairs_cons R p [] (All-nil (R p)) (all_pairs_nil R)
 
 -- a place more, which is behind all others and before what is left
 pub place_more : (a b : List Entry) (i j i' j' k : ℕ) (rows cols lefts rights sides : List ℕ) (p : Place)
-    → IsMerging a b i j k rows cols lefts rights sides → k < length rows → length cols ≡ length rows → length lefts ≡ length rows → length rights ≡ length rows → length sides ≡ length rows
-    → (take i a ++ filter_map left_entry (p ∷ []) ≡ take i' a) → (take j b ++ filter_map right_entry (p ∷ []) ≡ take j' b)
+    → IsMerging a b i j k rows cols lefts rights sides → k < length rows → length cols ≡ length rows
+    → length lefts ≡ length rows → length rights ≡ length rows → length sides ≡ length rows
+    → (take i a ++ filter_map left_entry (p ∷ []) ≡ take i' a)
+    → (take j b ++ filter_map right_entry (p ∷ []) ≡ take j' b)
     → All (Precedes (position p)) (drop i' a) → All (Precedes (position p)) (drop j' b)
-    → ((Q : Entry → Type 0) → All Q (drop i a) → All Q (drop i' a)) → ((Q : Entry → Type 0) → All Q (drop j b) → All Q (drop j' b))
+    → ((Q : Entry → Type 0) → All Q (drop i a) → All Q (drop i' a))
+    → ((Q : Entry → Type 0) → All Q (drop j b) → All Q (drop j' b))
     → ((q : Place) → All (Precedes (position q)) (drop i a) → All (Precedes (position q)) (drop j b) → Precedes (position q) (position p)) → k + 1 ≤ i' + j' → i' ≤ length a → j' ≤ length b
-    → IsMerging a b i' j' (k + 1) (set rows k p.row) (set cols k p.col) (set lefts k p.left) (set rights k p.right) (set sides k p.side)
+    → IsMerging a b i' j' (k + 1) (set rows k p.row) (set cols k p.col) (set lefts k p.left) (set rights k p.right)
+    (set sides k p.side)
 place_more a b i j i' j' k rows cols lefts rights sides p here room c l r s left right ahead_a ahead_b less_a less_b is_next more a_in b_in =
     let made = here.made in
     let ps = made.places in
@@ -83,7 +89,8 @@ place_more a b i j i' j' k rows cols lefts rights sides p here room c l r s left
 
 -- ---- what is left of a list
 
-first_left : (es : List Entry) (i : ℕ) (d : Entry) (Q : Entry → Type 0) → i < length es → All Q (drop i es) → Q (get_or es i d)
+first_left : (es : List Entry) (i : ℕ) (d : Entry) (Q : Entry → Type 0) → i < length es → All Q (drop i es)
+    → Q (get_or es i d)
 first_left es i d Q within h =
     let at : get_or (drop i es) 0 d ≡ get_or es i d = get_or-drop i es 0 d ∙ ap (λ n. get_or es n d) (omega arith) in
     subst Q at (h 0 d (omega (arith, length-drop i es)))
@@ -93,7 +100,8 @@ rest_left es i Q h n d within =
     let at : get_or (drop i es) (n + 1) d ≡ get_or (drop (i + 1) es) n d = get_or-drop i es (n + 1) d ∙ ap (λ n. get_or es n d) (omega arith) ∙ sym (get_or-drop (i + 1) es n d) in
     subst Q at (h (n + 1) d (omega (arith, length-drop i es, length-drop (i + 1) es)))
 
-later_left : (es : List Entry) (i : ℕ) (d : Entry) → InOrder es → i < length es → All (Precedes (get_or es i d)) (drop (i + 1) es)
+later_left : (es : List Entry) (i : ℕ) (d : Entry) → InOrder es → i < length es
+    → All (Precedes (get_or es i d)) (drop (i + 1) es)
 later_left es i d order within n e inside =
     let room : i + 1 + n < length es = omega (arith, length-drop (i + 1) es) in
     rw (get_or-drop (i + 1) es n e, get_or_default es (i + 1 + n) e d room) (order i (i + 1 + n) d (omega arith) room)
@@ -103,9 +111,11 @@ through x y z one two = grind arith
 
 -- the left list's next entry alone
 pub left_more : (a b : List Entry) (i j k : ℕ) (rows cols lefts rights sides : List ℕ) (d : Entry) (other : ℕ)
-    → IsMerging a b i j k rows cols lefts rights sides → InOrder a → length a + length b ≤ length rows → length cols ≡ length rows → length lefts ≡ length rows → length rights ≡ length rows → length sides ≡ length rows
+    → IsMerging a b i j k rows cols lefts rights sides → InOrder a → length a + length b ≤ length rows
+    → length cols ≡ length rows → length lefts ≡ length rows → length rights ≡ length rows → length sides ≡ length rows
     → i < length a → All (Precedes (get_or a i d)) (drop j b)
-    → IsMerging a b (i + 1) j (k + 1) (set rows k (get_or a i d).row) (set cols k (get_or a i d).col) (set lefts k (get_or a i d).word) (set rights k other) (set sides k 1)
+    → IsMerging a b (i + 1) j (k + 1) (set rows k (get_or a i d).row) (set cols k (get_or a i d).col)
+    (set lefts k (get_or a i d).word) (set rights k other) (set sides k 1)
 left_more a b i j k rows cols lefts rights sides d other here order space c l r s some before =
     let room = here.room in
     let b_in = here.b_in in
@@ -116,9 +126,11 @@ left_more a b i j k rows cols lefts rights sides d other here order space c l r 
 
 -- the right list's next entry alone
 pub right_more : (a b : List Entry) (i j k : ℕ) (rows cols lefts rights sides : List ℕ) (d : Entry) (other : ℕ)
-    → IsMerging a b i j k rows cols lefts rights sides → InOrder b → length a + length b ≤ length rows → length cols ≡ length rows → length lefts ≡ length rows → length rights ≡ length rows → length sides ≡ length rows
+    → IsMerging a b i j k rows cols lefts rights sides → InOrder b → length a + length b ≤ length rows
+    → length cols ≡ length rows → length lefts ≡ length rows → length rights ≡ length rows → length sides ≡ length rows
     → j < length b → All (Precedes (get_or b j d)) (drop i a)
-    → IsMerging a b i (j + 1) (k + 1) (set rows k (get_or b j d).row) (set cols k (get_or b j d).col) (set lefts k other) (set rights k (get_or b j d).word) (set sides k 2)
+    → IsMerging a b i (j + 1) (k + 1) (set rows k (get_or b j d).row) (set cols k (get_or b j d).col)
+    (set lefts k other) (set rights k (get_or b j d).word) (set sides k 2)
 right_more a b i j k rows cols lefts rights sides d other here order space c l r s some before =
     let room = here.room in
     let a_in = here.a_in in
@@ -132,9 +144,11 @@ as_at x y e row col h = grind arith
 
 -- both next entries, at one position
 pub both_more : (a b : List Entry) (i j k : ℕ) (rows cols lefts rights sides : List ℕ) (d : Entry)
-    → IsMerging a b i j k rows cols lefts rights sides → InOrder a → InOrder b → length a + length b ≤ length rows → length cols ≡ length rows → length lefts ≡ length rows → length rights ≡ length rows → length sides ≡ length rows
+    → IsMerging a b i j k rows cols lefts rights sides → InOrder a → InOrder b → length a + length b ≤ length rows
+    → length cols ≡ length rows → length lefts ≡ length rows → length rights ≡ length rows → length sides ≡ length rows
     → i < length a → j < length b → (get_or a i d).row ≡ (get_or b j d).row → (get_or a i d).col ≡ (get_or b j d).col
-    → IsMerging a b (i + 1) (j + 1) (k + 1) (set rows k (get_or a i d).row) (set cols k (get_or a i d).col) (set lefts k (get_or a i d).word) (set rights k (get_or b j d).word) (set sides k 3)
+    → IsMerging a b (i + 1) (j + 1) (k + 1) (set rows k (get_or a i d).row) (set cols k (get_or a i d).col)
+    (set lefts k (get_or a i d).word) (set rights k (get_or b j d).word) (set sides k 3)
 both_more a b i j k rows cols lefts rights sides d here order order' space c l r s some some' row col =
     let room = here.room in
     let x = get_or a i d in

@@ -32,7 +32,8 @@ rest_ends [] = []
 rest_ends (r ∷ rs) = rs
 
 -- runs of one number, before greater ones, are as long
-runs_same : (c d o : ℕ) (xs ys : List ℕ) → All (λ x. o < x) xs → All (λ y. o < y) ys → replicate c o ++ xs ≡ replicate d o ++ ys → (c ≡ d) × (xs ≡ ys)
+runs_same : (c d o : ℕ) (xs ys : List ℕ) → All (λ x. o < x) xs → All (λ y. o < y) ys
+    → replicate c o ++ xs ≡ replicate d o ++ ys → (c ≡ d) × (xs ≡ ys)
 runs_same zero zero o xs ys above above' same = (refl, same)
 runs_same zero (suc d) o [] ys above above' same = cc
 runs_same zero (suc d) o (x ∷ xs) ys above above' same = let first = All-head (λ x. o < x) x xs above in let is : x ≡ o = ap first_of same in absurd (omega arith)
@@ -46,7 +47,8 @@ first_same (suc c) zero o u xs ys some some' same = absurd (omega arith)
 first_same (suc c) (suc d) o u xs ys some some' same = ap first_of same
 
 -- fibers with the same outer index at each place are at the same indices and as long
-pub ends_same : (p q m n : ℕ) (rs ss : List FiberEnd) → p ≤ m → q ≤ n → m - p ≡ n - q → Rises m rs → Rises n ss → AreApart rs → AreApart ss → outers m rs ≡ outers n ss → map (end_back p) rs ≡ map (end_back q) ss
+pub ends_same : (p q m n : ℕ) (rs ss : List FiberEnd) → p ≤ m → q ≤ n → m - p ≡ n - q → Rises m rs → Rises n ss
+    → AreApart rs → AreApart ss → outers m rs ≡ outers n ss → map (end_back p) rs ≡ map (end_back q) ss
 unfolding Rises outers
 ends_same p q m n [] [] low low' same rises rises' apart apart' is = refl
 ends_same p q m n [] (s ∷ ss) low low' same rises rises' apart apart' is = absurd (let long = ap length is in let some = rises'.0 in omega (arith, length-append (replicate (s.end - n) s.outer) (outers s.end ss), length-replicate (s.end - n) s.outer))
@@ -69,7 +71,9 @@ long_back p q [] (s ∷ ss) same = cc
 long_back p q (r ∷ rs) [] same = cc
 long_back p q (r ∷ rs) (s ∷ ss) same = ap suc (long_back p q rs ss (ap rest_ends same))
 
-pub fiber_back : (p q : ℕ) (rs ss : List FiberEnd) (k : ℕ) → map (end_back p) rs ≡ map (end_back q) ss → k < length rs → length rs ≡ length ss → end_back p (slice_index_or rs k (end_at 0 0)) ≡ end_back q (slice_index_or ss k (end_at 0 0))
+pub fiber_back : (p q : ℕ) (rs ss : List FiberEnd) (k : ℕ) → map (end_back p) rs ≡ map (end_back q) ss → k < length rs
+    → length rs ≡ length ss
+    → end_back p (slice_index_or rs k (end_at 0 0)) ≡ end_back q (slice_index_or ss k (end_at 0 0))
 fiber_back p q [] ss k same within long = absurd (omega arith)
 fiber_back p q (r ∷ rs) [] k same within long = absurd (omega arith)
 fiber_back p q (r ∷ rs) (s ∷ ss) zero same within long = ap first_end same
@@ -77,13 +81,15 @@ fiber_back p q (r ∷ rs) (s ∷ ss) (suc k) same within long = fiber_back p q r
 
 -- ---- the places of entries as they lie
 
-rows_placed : (os is ws : List ℕ) → length is ≡ length os → length ws ≡ length os → map (λ (e : Entry). e.row) (map place_of (placed os is ws)) ≡ os
+rows_placed : (os is ws : List ℕ) → length is ≡ length os → length ws ≡ length os
+    → map (λ (e : Entry). e.row) (map place_of (placed os is ws)) ≡ os
 rows_placed [] is ws long long' = refl
 rows_placed (o ∷ os) [] ws long long' = absurd (omega arith)
 rows_placed (o ∷ os) (i ∷ is) [] long long' = absurd (omega arith)
 rows_placed (o ∷ os) (i ∷ is) (w ∷ ws) long long' = ap (λ os. o ∷ os) (rows_placed os is ws (omega arith) (omega arith))
 
-cols_placed : (os is ws : List ℕ) → length is ≡ length os → length ws ≡ length os → map (λ (e : Entry). e.col) (map place_of (placed os is ws)) ≡ is
+cols_placed : (os is ws : List ℕ) → length is ≡ length os → length ws ≡ length os
+    → map (λ (e : Entry). e.col) (map place_of (placed os is ws)) ≡ is
 cols_placed [] [] ws long long' = refl
 cols_placed [] (i ∷ is) ws long long' = absurd (omega arith)
 cols_placed (o ∷ os) [] ws long long' = absurd (omega arith)
@@ -104,7 +110,9 @@ record Lie (from : ℕ) (head : FiberEnd) (others : List FiberEnd) (inner : List
   cols_are : map (λ (e : Entry). e.col) (map place_of a) ≡ inner
   count_is : length a ≡ length inner
 
-lie : (from : ℕ) (head : FiberEnd) (others : List FiberEnd) (inner words : List ℕ) (a : List Entry) → AreLeft from head others inner words → a ≡ entries_from from (head ∷ others) inner words → 0 < length inner → Lie from head others inner a
+lie : (from : ℕ) (head : FiberEnd) (others : List FiberEnd) (inner words : List ℕ) (a : List Entry)
+    → AreLeft from head others inner words → a ≡ entries_from from (head ∷ others) inner words → 0 < length inner
+    → Lie from head others inner a
 lie from head others inner words a left is some =
     let long = left.same_length in
     let whole = left.whole some in
@@ -117,8 +125,11 @@ lie from head others inner words a left is some =
     }
 
 -- where entries stand at the same positions, so do their ends, and they have the same inner indices
-pub ends_told : (p : ℕ) (head : FiberEnd) (others : List FiberEnd) (inner words : List ℕ) (q : ℕ) (head' : FiberEnd) (others' : List FiberEnd) (inner' words' : List ℕ) (a b : List Entry)
-    → AreLeft p head others inner words → AreLeft q head' others' inner' words' → a ≡ entries_from p (head ∷ others) inner words → b ≡ entries_from q (head' ∷ others') inner' words' → 0 < length inner → 0 < length inner' → HaveSamePlaces a b
+pub ends_told : (p : ℕ) (head : FiberEnd) (others : List FiberEnd) (inner words : List ℕ) (q : ℕ) (head' : FiberEnd)
+    (others' : List FiberEnd) (inner' words' : List ℕ) (a b : List Entry)
+    → AreLeft p head others inner words → AreLeft q head' others' inner' words'
+    → a ≡ entries_from p (head ∷ others) inner words → b ≡ entries_from q (head' ∷ others') inner' words'
+    → 0 < length inner → 0 < length inner' → HaveSamePlaces a b
     → (map (end_back p) (head ∷ others) ≡ map (end_back q) (head' ∷ others')) × (inner ≡ inner')
 ends_told p head others inner words q head' others' inner' words' a b left left' is is' some some' same =
     let here = lie p head others inner words a left is some in
@@ -129,8 +140,11 @@ ends_told p head others inner words q head' others' inner' words' a b left left'
     )
 
 -- and the other way round
-pub places_told : (p : ℕ) (head : FiberEnd) (others : List FiberEnd) (inner words : List ℕ) (q : ℕ) (head' : FiberEnd) (others' : List FiberEnd) (inner' words' : List ℕ) (a b : List Entry)
-    → AreLeft p head others inner words → AreLeft q head' others' inner' words' → a ≡ entries_from p (head ∷ others) inner words → b ≡ entries_from q (head' ∷ others') inner' words' → 0 < length inner → map (end_back p) (head ∷ others) ≡ map (end_back q) (head' ∷ others') → inner ≡ inner'
+pub places_told : (p : ℕ) (head : FiberEnd) (others : List FiberEnd) (inner words : List ℕ) (q : ℕ) (head' : FiberEnd)
+    (others' : List FiberEnd) (inner' words' : List ℕ) (a b : List Entry)
+    → AreLeft p head others inner words → AreLeft q head' others' inner' words'
+    → a ≡ entries_from p (head ∷ others) inner words → b ≡ entries_from q (head' ∷ others') inner' words'
+    → 0 < length inner → map (end_back p) (head ∷ others) ≡ map (end_back q) (head' ∷ others') → inner ≡ inner'
     → HaveSamePlaces a b
 places_told p head others inner words q head' others' inner' words' a b left left' is is' some ends same =
     let a_is = is ∙ sym (copied p head others inner words left some).1 in
@@ -140,15 +154,18 @@ places_told p head others inner words q head' others' inner' words' a b left lef
     let count = ap length same in
     rw (a_is, b_is, ends, same) (same_places (outers 0 (map (end_back q) (head' ∷ others'))) inner' words words' (omega arith))
 
-pub none_told : (p : ℕ) (head : FiberEnd) (others : List FiberEnd) (inner words : List ℕ) (q : ℕ) (head' : FiberEnd) (others' : List FiberEnd) (inner' words' : List ℕ) (a b : List Entry)
-    → a ≡ entries_from p (head ∷ others) inner words → b ≡ entries_from q (head' ∷ others') inner' words' → length inner ≡ 0 → length inner' ≡ 0 → HaveSamePlaces a b
+pub none_told : (p : ℕ) (head : FiberEnd) (others : List FiberEnd) (inner words : List ℕ) (q : ℕ) (head' : FiberEnd)
+    (others' : List FiberEnd) (inner' words' : List ℕ) (a b : List Entry)
+    → a ≡ entries_from p (head ∷ others) inner words → b ≡ entries_from q (head' ∷ others') inner' words'
+    → length inner ≡ 0 → length inner' ≡ 0 → HaveSamePlaces a b
 none_told p head others inner words q head' others' inner' words' a b is is' none none' =
     let a_is = places_none a (outers p (head ∷ others)) words (is ∙ rw (no_places inner none) refl) in
     let b_is = places_none b (outers q (head' ∷ others')) words' (is' ∙ rw (no_places inner' none') refl) in
     rw (a_is, b_is) refl
 
 -- as many entries
-pub counts_told : (p : ℕ) (head : FiberEnd) (others : List FiberEnd) (inner words : List ℕ) (a : List Entry) → AreLeft p head others inner words → a ≡ entries_from p (head ∷ others) inner words → length a ≡ length inner
+pub counts_told : (p : ℕ) (head : FiberEnd) (others : List FiberEnd) (inner words : List ℕ) (a : List Entry)
+    → AreLeft p head others inner words → a ≡ entries_from p (head ∷ others) inner words → length a ≡ length inner
 counts_told p head others inner words a left is =
     elim (cases_eq (length inner) 0) [
       | inl none ↦ ap length (places_none a (outers p (head ∷ others)) words (is ∙ rw (no_places inner none) refl)) ∙ sym none

@@ -39,7 +39,8 @@ rest_of [] = []
 rest_of (e ∷ es) = es
 
 -- the words of both sides side by side, at the positions of one
-pub placed_beside : (f : ℕ → ℕ → ℕ) (os is : List ℕ) (a b : List Entry) → placed os is (map (λ e. e.word) a) ≡ a → HaveSamePlaces a b → placed os is (zip_with f (map (λ e. e.word) a) (map (λ e. e.word) b)) ≡ beside f a b
+pub placed_beside : (f : ℕ → ℕ → ℕ) (os is : List ℕ) (a b : List Entry) → placed os is (map (λ e. e.word) a) ≡ a
+    → HaveSamePlaces a b → placed os is (zip_with f (map (λ e. e.word) a) (map (λ e. e.word) b)) ≡ beside f a b
 placed_beside f [] is [] b whole same = refl
 placed_beside f [] is (e ∷ es) b whole same = cc
 placed_beside f (o ∷ os) [] [] b whole same = refl
@@ -57,14 +58,16 @@ beside_places f [] b same = refl
 beside_places f (e ∷ es) [] same = cc
 beside_places f (e ∷ es) (g ∷ gs) same = ap (λ rest. entry_at e.row e.col 0 ∷ rest) (beside_places f es gs (ap rest_of same))
 
-pub places_all : (P : ℕ → ℕ → Type 0) (a b : List Entry) → HaveSamePlaces a b → All (λ e. P e.row e.col) b → All (λ e. P e.row e.col) a
+pub places_all : (P : ℕ → ℕ → Type 0) (a b : List Entry) → HaveSamePlaces a b → All (λ e. P e.row e.col) b
+    → All (λ e. P e.row e.col) a
 places_all P a b same all = all_from_map (λ (e : Entry). P e.row e.col) place_of a (subst (All (λ e. P e.row e.col)) (sym same) (All-map (λ (e : Entry). P e.row e.col) place_of b all))
 
 pub places_order : (a b : List Entry) → HaveSamePlaces a b → InOrder b → InOrder a
 places_order a b same order = all_pairs_from_map Precedes place_of a (subst (AllPairs Precedes) (sym same) (all_pairs_map Precedes place_of b order))
 
 -- both sides have a word at a position, or none has
-pub beside_either : (alone : ℕ → ℕ) (f : ℕ → ℕ → ℕ) (a b : List Entry) (i j : ℕ) → HaveSamePlaces a b → word_at (beside f a b) i j ≡ of_either alone alone f (word_at a i j) (word_at b i j)
+pub beside_either : (alone : ℕ → ℕ) (f : ℕ → ℕ → ℕ) (a b : List Entry) (i j : ℕ) → HaveSamePlaces a b
+    → word_at (beside f a b) i j ≡ of_either alone alone f (word_at a i j) (word_at b i j)
 unfolding word_at
 beside_either alone f [] [] i j same = refl
 beside_either alone f [] (g ∷ gs) i j same = cc
@@ -78,7 +81,8 @@ beside_either alone f (e ∷ es) (g ∷ gs) i j same =
       | inr away ↦ rw (row, col, away) rest
     ]
 
-pub beside_both : (f : ℕ → ℕ → ℕ) (a b : List Entry) (i j : ℕ) → HaveSamePlaces a b → word_at (beside f a b) i j ≡ of_both f (word_at a i j) (word_at b i j)
+pub beside_both : (f : ℕ → ℕ → ℕ) (a b : List Entry) (i j : ℕ) → HaveSamePlaces a b
+    → word_at (beside f a b) i j ≡ of_both f (word_at a i j) (word_at b i j)
 unfolding word_at
 beside_both f [] [] i j same = refl
 beside_both f [] (g ∷ gs) i j same = cc
@@ -93,7 +97,9 @@ beside_both f (e ∷ es) (g ∷ gs) i j same =
     ]
 
 -- fibers with other words at the same positions
-pub flat_beside : (f : ℕ → ℕ → ℕ) (ends : List FiberEnd) (inner words made : List ℕ) (a b : List Entry) → AreFlat ends inner words → length made ≡ length words → entries_from 0 ends inner words ≡ a → entries_from 0 ends inner made ≡ beside f a b → HaveSamePlaces a b → AreFlat ends inner made
+pub flat_beside : (f : ℕ → ℕ → ℕ) (ends : List FiberEnd) (inner words made : List ℕ) (a b : List Entry)
+    → AreFlat ends inner words → length made ≡ length words → entries_from 0 ends inner words ≡ a
+    → entries_from 0 ends inner made ≡ beside f a b → HaveSamePlaces a b → AreFlat ends inner made
 flat_beside f ends inner words made a b flat long was is same =
     let length_is = flat.same_length in
     record {
@@ -111,8 +117,11 @@ zip_right (x ∷ xs) [] same = absurd (omega arith)
 zip_right (x ∷ xs) (y ∷ ys) same = ap (λ zs. y ∷ zs) (zip_right xs ys (omega arith))
 
 -- the rows of both sides, of which the entries stand at the same positions
-pub rows_beside : (made : Content) (f : ℕ → ℕ → ℕ) (first past cols : ℕ) (a b : List Entry) (lists : FiberLists) → HaveSamePlaces a b → AreFlat lists.ends.items lists.inner.items lists.words.items → entries_in lists ≡ beside f a b → AreIn first past cols (along cols a)
-    → ((i j : ℕ) → first ≤ i → i < past → word_at (along cols (beside f a b)) i j ≡ made i j) → HasRows made first past cols lists
+pub rows_beside : (made : Content) (f : ℕ → ℕ → ℕ) (first past cols : ℕ) (a b : List Entry) (lists : FiberLists)
+    → HaveSamePlaces a b → AreFlat lists.ends.items lists.inner.items lists.words.items
+    → entries_in lists ≡ beside f a b → AreIn first past cols (along cols a)
+    → ((i j : ℕ) → first ≤ i → i < past → word_at (along cols (beside f a b)) i j ≡ made i j)
+    → HasRows made first past cols lists
 rows_beside made f first past cols a b lists same flat is inside words = record {
   flat = flat;
   inside = rw is (are_in first past cols (beside f a b) (places_all (λ row col. LiesIn (eqb cols 1) first past cols row col) (beside f a b) a (beside_places f a b same) (lies_in first past cols a inside)));

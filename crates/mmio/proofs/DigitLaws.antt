@@ -12,7 +12,8 @@ use Rattle.mmio.specs.Fronts.{in_64_bits}
 more_is_below : (n m b : ℕ) → n < m → is_digit b ≡ true → n * 10 + (b - 48) < m * 10
 more_is_below n m b below digit = grind (arith, nat_tests)
 
-fold-lt : (word : List ℕ) (n m : ℕ) → list_all is_digit word ≡ true → n < m → fold (λ n b. n * 10 + (b - 48)) n word < m * 10 ^ length word
+fold-lt : (word : List ℕ) (n m : ℕ) → list_all is_digit word ≡ true → n < m
+    → fold (λ n b. n * 10 + (b - 48)) n word < m * 10 ^ length word
 fold-lt [] n m digits below = rw (mul-one) below
 fold-lt (d ∷ ds) n m digits below =
     let parts = and_parts _ _ digits in
@@ -25,7 +26,8 @@ pub digits_value-lt : (word : List ℕ) → list_all is_digit word ≡ true → 
 digits_value-lt word digits = let below = fold-lt word 0 1 digits (omega arith) in omega arith
 
 -- up to 19 digits write a number below 2 ^ 64, which is exact modulo 2 ^ 64
-pub short_in_64_bits : (word : List ℕ) → list_all is_digit word ≡ true → length word ≤ 19 → in_64_bits (digits_value word) ≡ Some (digits_value word % 2 ^ 64)
+pub short_in_64_bits : (word : List ℕ) → list_all is_digit word ≡ true → length word ≤ 19
+    → in_64_bits (digits_value word) ≡ Some (digits_value word % 2 ^ 64)
 short_in_64_bits word digits short =
     let most : 10 ^ length word ≤ 10 ^ 19 = pow-le-pow_right {n = 10} (omega arith) {i = length word} {j = 19} (omega arith) in
     let small : digits_value word < 10 ^ length word = digits_value-lt word digits in
@@ -45,7 +47,8 @@ digits_value-take word k =
     omega arith
 
 -- one digit more writes this, and all no less
-pub digits_value-next : (word : List ℕ) (i : ℕ) → i < length word → digits_value (take i word) * 10 + (get_or word i 0 - 48) ≤ digits_value word
+pub digits_value-next : (word : List ℕ) (i : ℕ) → i < length word
+    → digits_value (take i word) * 10 + (get_or word i 0 - 48) ≤ digits_value word
 digits_value-next word i inside =
     let next = fold_more (λ n b. n * 10 + (b - 48)) 0 word i 0 inside in
     let all = digits_value-take word (i + 1) in

@@ -37,7 +37,8 @@ told_in-told text line rest shown cut same told =
     let passes : is_told (words_of line) ≡ true = ap is_told (sym same) ∙ told in
     rw (cut, passes, same, length-map (lines_of rest) words_of) refl
 
-pub told_in-silent : (text line rest shown : List ℕ) → lines_of text ≡ line ∷ lines_of rest → words_of shown ≡ words_of line → is_told (words_of shown) ≡ false → told_in text ≡ told_in rest
+pub told_in-silent : (text line rest shown : List ℕ) → lines_of text ≡ line ∷ lines_of rest
+    → words_of shown ≡ words_of line → is_told (words_of shown) ≡ false → told_in text ≡ told_in rest
 unfolding told_in told_lines
 told_in-silent text line rest shown cut same silent =
     let fails : is_told (words_of line) ≡ false = ap is_told (sym same) ∙ silent in
@@ -49,21 +50,26 @@ pub listed_from-end : (domain : Domain) (h : Heading) (left : ℕ) (listed : Lis
 unfolding listed_from
 listed_from-end domain h left listed lines none = rw none refl
 
-pub listed_from-line : (domain : Domain) (h : Heading) (left : ℕ) (listed : List Entry) (lines more : List ToldLine) (line : ToldLine) → lines ≡ line ∷ more
-    → listed_from domain h left listed lines ≡ cond (left == 0) (Err (misread mistake.TooMany line)) (with_entry (placed line (entry_said domain h line.words)) (λ e. listed_from domain h (left - 1) (listed ++ with_mirror h.symmetry e) more))
+pub listed_from-line : (domain : Domain) (h : Heading) (left : ℕ) (listed : List Entry) (lines more : List ToldLine)
+    (line : ToldLine) → lines ≡ line ∷ more
+    → listed_from domain h left listed lines ≡ cond (left == 0) (Err (misread mistake.TooMany line))
+    (with_entry (placed line (entry_said domain h line.words)) (λ e. listed_from domain h (left - 1) (listed ++ with_mirror h.symmetry e) more))
 unfolding listed_from
 listed_from-line domain h left listed lines more line is = rw is refl
 
 -- what is wrong with the end, with a line too many, and with a line
-pub listed_from-few : (domain : Domain) (h : Heading) (left : ℕ) (listed : List Entry) (lines : List ToldLine) → lines ≡ [] → (left == 0) ≡ false
+pub listed_from-few : (domain : Domain) (h : Heading) (left : ℕ) (listed : List Entry) (lines : List ToldLine)
+    → lines ≡ [] → (left == 0) ≡ false
     → listed_from domain h left listed lines ≡ Err (record { left = 0; mistake = mistake.TooFew })
 listed_from-few domain h left listed lines none some = rw (listed_from-end domain h left listed lines none, some) refl
 
-pub listed_from-many : (domain : Domain) (h : Heading) (left : ℕ) (listed : List Entry) (lines more : List ToldLine) (line : ToldLine) → lines ≡ line ∷ more → (left == 0) ≡ true
+pub listed_from-many : (domain : Domain) (h : Heading) (left : ℕ) (listed : List Entry) (lines more : List ToldLine)
+    (line : ToldLine) → lines ≡ line ∷ more → (left == 0) ≡ true
     → listed_from domain h left listed lines ≡ Err (misread mistake.TooMany line)
 listed_from-many domain h left listed lines more line is none = rw (listed_from-line domain h left listed lines more line is, none) refl
 
-pub listed_from-wrong : (domain : Domain) (h : Heading) (left : ℕ) (listed : List Entry) (lines more : List ToldLine) (line : ToldLine) (m : Mistake) → lines ≡ line ∷ more → (left == 0) ≡ false
+pub listed_from-wrong : (domain : Domain) (h : Heading) (left : ℕ) (listed : List Entry) (lines more : List ToldLine)
+    (line : ToldLine) (m : Mistake) → lines ≡ line ∷ more → (left == 0) ≡ false
     → Err m ≡ entry_said domain h line.words → listed_from domain h left listed lines ≡ Err (misread m line)
 listed_from-wrong domain h left listed lines more line m is some wrong = rw (listed_from-line domain h left listed lines more line is, some, ← wrong) refl
 
@@ -89,7 +95,8 @@ as_matrix domain h n listed lines = option_map_or Err
     (Ok (record { rows = h.rows; cols = h.cols; entries = listed ++ entries_said domain h (words_in lines) }))
 
 -- the first of them is that of the first line, if that has one
-next_line : (h : Heading) (listed others : List Entry) (line : ToldLine) (said : Result Entry Mistake) (faults many few : List Misread) (go_on : Entry → Result (List Entry) Misread)
+next_line : (h : Heading) (listed others : List Entry) (line : ToldLine) (said : Result Entry Mistake)
+    (faults many few : List Misread) (go_on : Entry → Result (List Entry) Misread)
     → ((e : Entry) → option_map_or Err (slice_get (faults ++ many ++ few) 0) (Ok (record { rows = h.rows; cols = h.cols; entries = (listed ++ with_mirror h.symmetry e) ++ flat_map (with_mirror h.symmetry) others })) ≡ matrix_of h (go_on e))
     → option_map_or Err (slice_get (cons_option (option_map (λ wrong. misread wrong line) (result_err said)) faults ++ many ++ few) 0)
     (Ok (record { rows = h.rows; cols = h.cols; entries = listed ++ flat_map (with_mirror h.symmetry) (cons_option (result_ok said) others) })) ≡ matrix_of h (with_entry (placed line said) go_on)
@@ -99,7 +106,8 @@ next_line h listed others line (Ok e) faults many few go_on rest =
     (sym (append_assoc listed (with_mirror h.symmetry e) (flat_map (with_mirror h.symmetry) others)))
     ∙ rest e
 
-listing : (domain : Domain) (h : Heading) (n : ℕ) (listed : List Entry) (lines : List ToldLine) → as_matrix domain h n listed lines ≡ matrix_of h (listed_from domain h n listed lines)
+listing : (domain : Domain) (h : Heading) (n : ℕ) (listed : List Entry) (lines : List ToldLine)
+    → as_matrix domain h n listed lines ≡ matrix_of h (listed_from domain h n listed lines)
 unfolding listed_from
 listing domain h zero listed [] = ap (λ entries. Ok (record { rows = h.rows; cols = h.cols; entries = entries })) (append-nil listed)
 listing domain h (suc n) listed [] =
@@ -118,6 +126,7 @@ listing domain h (suc n) listed (line ∷ lines) =
     (λ e. listing domain h n (listed ++ with_mirror h.symmetry e) lines))
 
 -- the matrix of lines is what they list one by one
-pub matrix_listed-is : (domain : Domain) (h : Heading) (lines : List ToldLine) → matrix_listed domain h lines ≡ matrix_of h (listed_from domain h h.entries [] lines)
+pub matrix_listed-is : (domain : Domain) (h : Heading) (lines : List ToldLine)
+    → matrix_listed domain h lines ≡ matrix_of h (listed_from domain h h.entries [] lines)
 unfolding matrix_listed faults_of
 matrix_listed-is domain h lines = listing domain h h.entries [] lines

@@ -25,7 +25,8 @@ use Rattle.mmio.specs.Usual.{IsNumberBefore, SaysFirst}
 -- ---- numbers
 
 -- so many digits at the front of a text are a number before the byte behind them
-pub number_before_at : (text : List ℕ) (n end value : ℕ) → 0 < n → n ≤ 19 → n < length text → list_all is_digit (take n text) ≡ true → get_or text n 0 ≡ end
+pub number_before_at : (text : List ℕ) (n end value : ℕ) → 0 < n → n ≤ 19 → n < length text
+    → list_all is_digit (take n text) ≡ true → get_or text n 0 ≡ end
     → value ≡ digits_value (take n text) % 2 ^ 64 → IsNumberBefore text end value (drop (n + 1) text)
 number_before_at text n end value some short inside digits byte exact =
     let long = length-take-le n text (omega arith) in
@@ -68,7 +69,8 @@ record IsValueBefore (text : List ℕ) (end : ℕ) (residue : Option ℕ) (rest 
   is : IsWord word
   value : residue_said word ≡ residue
 
-signed_before : (text digits rest : List ℕ) (end magnitude : ℕ) (minus : Bool) → minus ≡ is_negative text → digits ≡ unsigned text → IsNumberBefore digits end magnitude rest
+signed_before : (text digits rest : List ℕ) (end magnitude : ℕ) (minus : Bool) → minus ≡ is_negative text
+    → digits ≡ unsigned text → IsNumberBefore digits end magnitude rest
     → IsValueBefore text end (signed_word minus (Some magnitude)) rest
 signed_before [] digits rest end magnitude minus sign same number =
     let e = ap length (sym number.parts ∙ same) in absurd (omega (arith, length-append number.digits (end ∷ rest), e))
@@ -98,7 +100,8 @@ signed_before (b ∷ bs) digits rest end magnitude minus sign same number = elim
 
 -- ---- lines
 
-without_empty_last-cons : (part : List ℕ) (parts : List (List ℕ)) → 0 < length parts → without_empty_last (part ∷ parts) ≡ part ∷ without_empty_last parts
+without_empty_last-cons : (part : List ℕ) (parts : List (List ℕ)) → 0 < length parts
+    → without_empty_last (part ∷ parts) ≡ part ∷ without_empty_last parts
 without_empty_last-cons part [] h = absurd (omega arith)
 without_empty_last-cons part (next ∷ parts) h = refl
 
@@ -144,14 +147,17 @@ digits_told : (digits : List ℕ) → are_digits digits ≡ true → not (slice_
 digits_told [] are = absurd (cc)
 digits_told (b ∷ bs) are = let digit = (and_parts (is_digit b) (list_all is_digit bs) (digits_all (b ∷ bs) are)).0 in grind (arith, nat_tests)
 
-leads : (digits : List ℕ) (others : List (List ℕ)) (number : ℕ) → are_digits digits ≡ true → Some number ≡ in_64_bits (digits_value digits) → LeadsWithNumber (digits ∷ others) (Some number) others
+leads : (digits : List ℕ) (others : List (List ℕ)) (number : ℕ) → are_digits digits ≡ true
+    → Some number ≡ in_64_bits (digits_value digits) → LeadsWithNumber (digits ∷ others) (Some number) others
 leads digits others number are value = record { parts = refl; digits = are; value = value }
 
 -- ---- entries
 
 -- two numbers and a value
-pub says_value : (domain : Domain) (h : Heading) (text second third digits rest : List ℕ) (row col magnitude residue : ℕ) (minus : Bool)
-    → h.rows < 2 ^ 64 → h.cols < 2 ^ 64 → h.field ≡ Integer → IsNumberBefore text 32 row second → IsNumberBefore second 32 col third
+pub says_value : (domain : Domain) (h : Heading) (text second third digits rest : List ℕ)
+    (row col magnitude residue : ℕ) (minus : Bool)
+    → h.rows < 2 ^ 64 → h.cols < 2 ^ 64 → h.field ≡ Integer → IsNumberBefore text 32 row second
+    → IsNumberBefore second 32 col third
     → minus ≡ is_negative third → digits ≡ unsigned third → IsNumberBefore digits 10 magnitude rest
     → Some residue ≡ signed_word minus (Some magnitude) → is_position h row col ≡ true
     → SaysFirst domain h text (Ok (entry_at (row - 1) (col - 1) (in_domain domain residue))) rest
@@ -175,7 +181,8 @@ says_value domain h text second third digits rest row col magnitude residue minu
 
 -- two numbers
 pub says_position : (domain : Domain) (h : Heading) (text second rest : List ℕ) (row col : ℕ)
-    → h.rows < 2 ^ 64 → h.cols < 2 ^ 64 → h.field ≡ Pattern → IsNumberBefore text 32 row second → IsNumberBefore second 10 col rest
+    → h.rows < 2 ^ 64 → h.cols < 2 ^ 64 → h.field ≡ Pattern → IsNumberBefore text 32 row second
+    → IsNumberBefore second 10 col rest
     → is_position h row col ≡ true → SaysFirst domain h text (Ok (entry_at (row - 1) (col - 1) 1)) rest
 says_position domain h text second rest row col rows cols field i j inside =
     let a = i.digits in let b = j.digits in

@@ -13,8 +13,10 @@ use Rattle.store.proofs.Order.{all_append_left}
 use Rattle.store.proofs.Places.{length_row, row_at}
 
 -- the text of an object, put together from its parts
-pub object_text : {E : Type 0} (r : Result (Unit {0}) E) (out texted sized written banner size : List ℕ) (lines : List (List ℕ))
-    → texted ≡ out ++ ended banner → sized ≡ texted ++ ended size → OnOk r (written ≡ sized ++ flat_map ended lines) → OnOk r (written ≡ out ++ flat_map ended (banner ∷ size ∷ lines))
+pub object_text : {E : Type 0} (r : Result (Unit {0}) E) (out texted sized written banner size : List ℕ)
+    (lines : List (List ℕ))
+    → texted ≡ out ++ ended banner → sized ≡ texted ++ ended size → OnOk r (written ≡ sized ++ flat_map ended lines)
+    → OnOk r (written ≡ out ++ flat_map ended (banner ∷ size ∷ lines))
 object_text (Ok done) out texted sized written banner size lines e f g = g ∙ rw (f, e) (simp append_assoc)
 object_text (Err refused) out texted sized written banner size lines e f g = tt
 
@@ -33,22 +35,28 @@ abbrev pub lines_of : Domain → List Entry → List ℕ → List ℕ
 lines_of domain es text = text ++ flat_map ended (map (entry_line domain) es)
 
 -- one line more
-pub lines_more : (domain : Domain) (es : List Entry) (k : ℕ) (d e : Entry) (text before after : List ℕ) → k < length es → get_or es k d ≡ e → before ≡ lines_of domain (take k es) text → after ≡ before ++ ended (entry_line domain e) → after ≡ lines_of domain (take (k + 1) es) text
+pub lines_more : (domain : Domain) (es : List Entry) (k : ℕ) (d e : Entry) (text before after : List ℕ) → k < length es
+    → get_or es k d ≡ e → before ≡ lines_of domain (take k es) text → after ≡ before ++ ended (entry_line domain e)
+    → after ≡ lines_of domain (take (k + 1) es) text
 lines_more domain es k d e text before after within at so_far more =
     more ∙ rw (so_far, take_more es k d within, at, map-append (entry_line domain) (take k es) (e ∷ []), flat_map-append ended (map (entry_line domain) (take k es)) (entry_line domain e ∷ [])) (simp (append_assoc, append-nil))
 
 -- what holds of each entry's row and column holds of the first row's index and of its columns
-first_row_below : (n index : ℕ) (cols words : List ℕ) (all others : List Entry) → IsFirstRow index cols words all others → All (λ e. (e.row < n) × (e.col < n)) all → All (λ e. (e.row < n) × (e.col < n)) (entries_along index cols words)
+first_row_below : (n index : ℕ) (cols words : List ℕ) (all others : List Entry)
+    → IsFirstRow index cols words all others → All (λ e. (e.row < n) × (e.col < n)) all
+    → All (λ e. (e.row < n) × (e.col < n)) (entries_along index cols words)
 first_row_below n index cols words all others starts h =
     all_append_left (λ e. (e.row < n) × (e.col < n)) (entries_along index cols words) others (subst (All (λ e. (e.row < n) × (e.col < n))) starts.whole h)
 
-pub index_below : (n index : ℕ) (cols words : List ℕ) (all others : List Entry) → IsFirstRow index cols words all others → All (λ e. (e.row < n) × (e.col < n)) all → index < n
+pub index_below : (n index : ℕ) (cols words : List ℕ) (all others : List Entry)
+    → IsFirstRow index cols words all others → All (λ e. (e.row < n) × (e.col < n)) all → index < n
 index_below n index cols words all others starts h =
     let same = starts.lengths in
     let first : (entry_at index (get_or cols 0 0) (get_or words 0 0)).row < n = rw (row_at index cols words 0 (entry_at 0 0 0) same starts.some) at (first_row_below n index cols words all others starts h 0 (entry_at 0 0 0) (omega (arith, starts.some, length_row index cols words same))).0 in
     first
 
-pub cols_below : (n index : ℕ) (cols words : List ℕ) (all others : List Entry) → IsFirstRow index cols words all others → All (λ e. (e.row < n) × (e.col < n)) all → All (λ col. col < n) cols
+pub cols_below : (n index : ℕ) (cols words : List ℕ) (all others : List Entry) → IsFirstRow index cols words all others
+    → All (λ e. (e.row < n) × (e.col < n)) all → All (λ col. col < n) cols
 cols_below n index cols words all others starts h k d within =
     let same = starts.lengths in
     let col : (entry_at index (get_or cols k 0) (get_or words k 0)).col < n = rw (row_at index cols words k (entry_at 0 0 0) same within) at (first_row_below n index cols words all others starts h k (entry_at 0 0 0) (omega (arith, length_row index cols words same))).1 in

@@ -21,7 +21,8 @@ use Rattle.model.proofs.ObjectLaws.{inside-bounds, same_domain-true}
 
 -- ---- inside
 
-both_below : (i j row col m n : ℕ) → ((i == row) && (j == col)) ≡ true → row < m → col < n → (nat_lt i m && nat_lt j n) ≡ true
+both_below : (i j row col m n : ℕ) → ((i == row) && (j == col)) ≡ true → row < m → col < n
+    → (nat_lt i m && nat_lt j n) ≡ true
 both_below i j row col m n is low_row low_col =
     let parts = and_parts (i == row) (j == col) is in
     let first : nat_lt i m ≡ true = grind (arith, nat_tests) in
@@ -29,7 +30,8 @@ both_below i j row col m n is low_row low_col =
     rw (first, second) refl
 
 -- tuples inside a shape list nothing outside it
-unlisted : (domain : Domain) (shape : Shape) (tuples : List Tuple) (i j : ℕ) → are_inside shape tuples ≡ true → (nat_lt i (rows_of shape) && nat_lt j (cols_of shape)) ≡ false
+unlisted : (domain : Domain) (shape : Shape) (tuples : List Tuple) (i j : ℕ) → are_inside shape tuples ≡ true
+    → (nat_lt i (rows_of shape) && nat_lt j (cols_of shape)) ≡ false
     → words_at (map (entry_of domain) tuples) i j ≡ []
 unlisted domain shape [] i j inside outside = refl
 unlisted domain shape (t ∷ tuples) i j inside outside =
@@ -43,13 +45,15 @@ unlisted domain shape (t ∷ tuples) i j inside outside =
       | inr other ↦ rw other (unlisted domain shape tuples i j parts.1 outside)
     ]
 
-pub built-within : (dup : Option OpName) (domain : Domain) (shape : Shape) (tuples : List Tuple) → are_inside shape tuples ≡ true
+pub built-within : (dup : Option OpName) (domain : Domain) (shape : Shape) (tuples : List Tuple)
+    → are_inside shape tuples ≡ true
     → IsWithin (rows_of shape) (cols_of shape) (built dup domain tuples)
 built-within dup domain shape tuples inside i j outside = rw (unlisted domain shape tuples i j inside outside) refl
 
 -- ---- words
 
-listed-words : (domain : Domain) (tuples : List Tuple) (i j : ℕ) → All (IsWordOf domain) (words_at (map (entry_of domain) tuples) i j)
+listed-words : (domain : Domain) (tuples : List Tuple) (i j : ℕ)
+    → All (IsWordOf domain) (words_at (map (entry_of domain) tuples) i j)
 listed-words domain [] i j = All-nil (IsWordOf domain)
 listed-words domain (t ∷ tuples) i j =
     let here = (i == row_of t.place) && (j == col_of t.place) in
@@ -63,32 +67,38 @@ abbrev JoinsIn : Domain → Option OpName → Type 0
 JoinsIn domain None = Unit {0}
 JoinsIn domain (Some op) = answer_domain op.kind op.domain ≡ domain
 
-joined-word : (domain : Domain) (dup : Option OpName) (x y : ℕ) → JoinsIn domain dup → IsWordOf domain y → IsWordOf domain (joined dup x y)
+joined-word : (domain : Domain) (dup : Option OpName) (x y : ℕ) → JoinsIn domain dup → IsWordOf domain y
+    → IsWordOf domain (joined dup x y)
 joined-word domain None x y joins is = is
 joined-word domain (Some op) x y joins is = subst (λ (d : Domain). IsWordOf d (eval_of op.kind op.domain x y)) joins (IsWordOf-eval op.kind op.domain x y)
 
-fold-word : (domain : Domain) (dup : Option OpName) (x : ℕ) (xs : List ℕ) → JoinsIn domain dup → IsWordOf domain x → All (IsWordOf domain) xs → IsWordOf domain (fold (joined dup) x xs)
+fold-word : (domain : Domain) (dup : Option OpName) (x : ℕ) (xs : List ℕ) → JoinsIn domain dup → IsWordOf domain x
+    → All (IsWordOf domain) xs → IsWordOf domain (fold (joined dup) x xs)
 fold-word domain dup x [] joins is all = is
 fold-word domain dup x (y ∷ ys) joins is all =
     fold-word domain dup (joined dup x y) ys joins (joined-word domain dup x y joins (All-head (IsWordOf domain) y ys all)) (All-tail (IsWordOf domain) y ys all)
 
-joined_all-word : (domain : Domain) (dup : Option OpName) (words : List ℕ) (word : ℕ) → JoinsIn domain dup → All (IsWordOf domain) words → joined_all dup words ≡ Some word → IsWordOf domain word
+joined_all-word : (domain : Domain) (dup : Option OpName) (words : List ℕ) (word : ℕ) → JoinsIn domain dup
+    → All (IsWordOf domain) words → joined_all dup words ≡ Some word → IsWordOf domain word
 joined_all-word domain dup [] word joins all is = absurd (cc)
 joined_all-word domain dup (x ∷ xs) word joins all is =
     let same : fold (joined dup) x xs ≡ word = cc in
     rw same at (fold-word domain dup x xs joins (All-head (IsWordOf domain) x xs all) (All-tail (IsWordOf domain) x xs all))
 
-dup_joins : (domain : Domain) (dup : Option OpName) → option_map_or (accumulates domain) dup true ≡ true → JoinsIn domain dup
+dup_joins : (domain : Domain) (dup : Option OpName) → option_map_or (accumulates domain) dup true ≡ true
+    → JoinsIn domain dup
 dup_joins domain None h = tt
 dup_joins domain (Some op) h =
     same_domain-true (answer_domain op.kind op.domain) domain
     (and_parts (offers op.kind op.domain && same_domain op.domain domain) (same_domain (answer_domain op.kind op.domain) domain) h).1
 
-pub built-words : (dup : Option OpName) (domain : Domain) (tuples : List Tuple) → option_map_or (accumulates domain) dup true ≡ true → AreWordsOf domain (built dup domain tuples)
+pub built-words : (dup : Option OpName) (domain : Domain) (tuples : List Tuple)
+    → option_map_or (accumulates domain) dup true ≡ true → AreWordsOf domain (built dup domain tuples)
 built-words dup domain tuples accumulates_in i j word is =
     joined_all-word domain dup (words_at (map (entry_of domain) tuples) i j) word (dup_joins domain dup accumulates_in) (listed-words domain tuples i j) is
 
-pub built-is_object : (o : Object) (dup : Option OpName) (tuples : List Tuple) → option_map_or (accumulates o.domain) dup true ≡ true → are_inside o.shape tuples ≡ true
+pub built-is_object : (o : Object) (dup : Option OpName) (tuples : List Tuple)
+    → option_map_or (accumulates o.domain) dup true ≡ true → are_inside o.shape tuples ≡ true
     → IsObject (record o { content = built dup o.domain tuples })
 built-is_object o dup tuples accumulates_in inside = record {
   within = built-within dup o.domain o.shape tuples inside;

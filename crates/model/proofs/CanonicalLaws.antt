@@ -44,7 +44,8 @@ record IsEntryText (domain : Domain) (e : Entry) : Type 0 where
 dimension-small : (n : ℕ) → is_dimension n ≡ true → n < 2 ^ 64
 dimension-small n is = grind (arith, nat_tests)
 
-entry_text : (domain : Domain) (rows cols : ℕ) (e : Entry) → is_built_in domain ≡ true → is_dimension rows ≡ true → is_dimension cols ≡ true → IsListed domain rows cols e → IsEntryText domain e
+entry_text : (domain : Domain) (rows cols : ℕ) (e : Entry) → is_built_in domain ≡ true → is_dimension rows ≡ true
+    → is_dimension cols ≡ true → IsListed domain rows cols e → IsEntryText domain e
 entry_text domain rows cols e built_in high wide is =
     let tall = dimension-small rows high in
     let broad = dimension-small cols wide in
@@ -56,7 +57,8 @@ entry_text domain rows cols e built_in high wide is =
       value = signed_decimal-value (value_of domain e.word) (value_of-of_64_bits domain e.word built_in is.word);
     }
 
-entry_line-words : (domain : Domain) (e : Entry) → IsEntryText domain e → words_of (entry_line domain e) ≡ entry_words domain e
+entry_line-words : (domain : Domain) (e : Entry) → IsEntryText domain e
+    → words_of (entry_line domain e) ≡ entry_words domain e
 unfolding entry_words
 entry_line-words domain e is = words_of-three (decimal (e.row + 1)) (decimal (e.col + 1)) (value_text domain e.word) is.row.word is.col.word is.value.word
 
@@ -66,11 +68,13 @@ entry_line-printed domain e is = three_words-printed (decimal (e.row + 1)) (deci
 told : (n : ℕ) (text : List ℕ) (words : Line) → IsNumber n text → is_told (text ∷ words) ≡ true
 told n text words is = let first = is.first in grind (arith, nat_tests)
 
-position-is : (i j rows cols : ℕ) → i < rows → j < cols → (nat_le 1 (i + 1) && nat_le (i + 1) rows && nat_le 1 (j + 1) && nat_le (j + 1) cols) ≡ true
+position-is : (i j rows cols : ℕ) → i < rows → j < cols
+    → (nat_le 1 (i + 1) && nat_le (i + 1) rows && nat_le 1 (j + 1) && nat_le (j + 1) cols) ≡ true
 position-is i j rows cols p q = grind (arith, nat_tests)
 
 -- the line of an entry says this entry
-entry_words-said : (domain : Domain) (rows cols n : ℕ) (e : Entry) → IsListed domain rows cols e → IsEntryText domain e → is_built_in domain ≡ true
+entry_words-said : (domain : Domain) (rows cols n : ℕ) (e : Entry) → IsListed domain rows cols e → IsEntryText domain e
+    → is_built_in domain ≡ true
     → entry_said domain (plain_heading rows cols n) (entry_words domain e) ≡ Ok e
 unfolding entry_said entry_words
 entry_words-said domain rows cols n e listed is built_in =
@@ -82,16 +86,19 @@ entry_words-said domain rows cols n e listed is built_in =
 
 -- ---- the text
 
-texts : (domain : Domain) (rows cols : ℕ) (entries : List Entry) → is_built_in domain ≡ true → is_dimension rows ≡ true → is_dimension cols ≡ true → All (IsListed domain rows cols) entries
+texts : (domain : Domain) (rows cols : ℕ) (entries : List Entry) → is_built_in domain ≡ true → is_dimension rows ≡ true
+    → is_dimension cols ≡ true → All (IsListed domain rows cols) entries
     → All (IsEntryText domain) entries
 texts domain rows cols entries built_in high wide all = All-weaker (IsListed domain rows cols) (IsEntryText domain) (λ e is. entry_text domain rows cols e built_in high wide is) entries all
 
-all_words : (domain : Domain) (entries : List Entry) → All (IsEntryText domain) entries → map words_of (map (entry_line domain) entries) ≡ map (entry_words domain) entries
+all_words : (domain : Domain) (entries : List Entry) → All (IsEntryText domain) entries
+    → map words_of (map (entry_line domain) entries) ≡ map (entry_words domain) entries
 all_words domain [] all = refl
 all_words domain (e ∷ entries) all =
     rw (entry_line-words domain e (All-head (IsEntryText domain) e entries all), all_words domain entries (All-tail (IsEntryText domain) e entries all)) refl
 
-all_told : (domain : Domain) (entries : List Entry) → All (IsEntryText domain) entries → filter is_told (map (entry_words domain) entries) ≡ map (entry_words domain) entries
+all_told : (domain : Domain) (entries : List Entry) → All (IsEntryText domain) entries
+    → filter is_told (map (entry_words domain) entries) ≡ map (entry_words domain) entries
 unfolding entry_words
 all_told domain [] all = refl
 all_told domain (e ∷ entries) all =
@@ -99,7 +106,8 @@ all_told domain (e ∷ entries) all =
     let first = told (e.row + 1) (decimal (e.row + 1)) (decimal (e.col + 1) ∷ value_text domain e.word ∷ []) is.row in
     rw (first, all_told domain entries (All-tail (IsEntryText domain) e entries all)) refl
 
-all_said : (domain : Domain) (rows cols n : ℕ) (entries : List Entry) → is_built_in domain ≡ true → All (IsListed domain rows cols) entries → All (IsEntryText domain) entries
+all_said : (domain : Domain) (rows cols n : ℕ) (entries : List Entry) → is_built_in domain ≡ true
+    → All (IsListed domain rows cols) entries → All (IsEntryText domain) entries
     → entries_said domain (plain_heading rows cols n) (map (entry_words domain) entries) ≡ entries
 all_said domain rows cols n [] built_in listed all = refl
 all_said domain rows cols n (e ∷ entries) built_in listed all =
@@ -107,8 +115,10 @@ all_said domain rows cols n (e ∷ entries) built_in listed all =
     let rest = all_said domain rows cols n entries built_in (All-tail (IsListed domain rows cols) e entries listed) (All-tail (IsEntryText domain) e entries all) in
     rw said (ap (λ (es : List Entry). e ∷ es) rest)
 
-none_wrong : (domain : Domain) (rows cols n : ℕ) (entries : List Entry) → is_built_in domain ≡ true → All (IsListed domain rows cols) entries → All (IsEntryText domain) entries
-    → All (λ line. result_err (entry_said domain (plain_heading rows cols n) line) ≡ None) (map (entry_words domain) entries)
+none_wrong : (domain : Domain) (rows cols n : ℕ) (entries : List Entry) → is_built_in domain ≡ true
+    → All (IsListed domain rows cols) entries → All (IsEntryText domain) entries
+    → All (λ line. result_err (entry_said domain (plain_heading rows cols n) line) ≡ None)
+    (map (entry_words domain) entries)
 none_wrong domain rows cols n entries built_in listed all =
     All-map (λ (line : Line). result_err (entry_said domain (plain_heading rows cols n) line) ≡ None) (entry_words domain) entries
     (λ k e within. ap result_err (entry_words-said domain rows cols n (get_or entries k e) (listed k e within) (all k e within) built_in))
@@ -137,7 +147,8 @@ banner-printed : IsPrinted banner_line
 unfolding banner_line
 banner-printed = printed_from (codes "%%MatrixMarket matrix coordinate integer general") refl
 
-banner-kind : (domain : Domain) → is_built_in domain ≡ true → kind_of domain banner ≡ Some (field.Integer, symmetry.General)
+banner-kind : (domain : Domain) → is_built_in domain ≡ true
+    → kind_of domain banner ≡ Some (field.Integer, symmetry.General)
 unfolding banner kind_of field_of symmetry_of
 banner-kind Boolean is = refl
 banner-kind Int64 is = refl
@@ -145,7 +156,8 @@ banner-kind Uint64 is = refl
 banner-kind (User k) is = absurd (cc)
 
 size-heading : (rows cols n : ℕ) → is_dimension rows ≡ true → is_dimension cols ≡ true → n < 2 ^ 64
-    → heading_of (field.Integer, symmetry.General) (decimal rows ∷ decimal cols ∷ decimal n ∷ []) ≡ Some (plain_heading rows cols n)
+    → heading_of (field.Integer, symmetry.General)
+    (decimal rows ∷ decimal cols ∷ decimal n ∷ []) ≡ Some (plain_heading rows cols n)
 unfolding heading_of
 size-heading rows cols n high wide small =
     let row = number-said rows (decimal rows) (decimal-number rows (dimension-small rows high)) in
@@ -155,7 +167,8 @@ size-heading rows cols n high wide small =
     rw (row, col, count, high, wide, fits) refl
 
 -- what the canonical lines of entries stand for
-lines_stand : (domain : Domain) (rows cols : ℕ) (entries : List Entry) → is_built_in domain ≡ true → is_dimension rows ≡ true → is_dimension cols ≡ true
+lines_stand : (domain : Domain) (rows cols : ℕ) (entries : List Entry) → is_built_in domain ≡ true
+    → is_dimension rows ≡ true → is_dimension cols ≡ true
     → All (IsListed domain rows cols) entries → length entries < 2 ^ 64
     → StandsFor domain (flat_map ended (banner_line ∷ size_line rows cols (length entries) ∷ map (entry_line domain) entries)) (record { rows = rows; cols = cols; entries = entries })
 lines_stand domain rows cols entries built_in high wide listed few =
@@ -203,7 +216,8 @@ canonical_text_stands o built_in is dimensions few =
     (lines_stand o.domain rows cols (entries_of rows cols o.content) built_in sizes.0 sizes.1 (entries_of-listed o.domain rows cols o.content is.words) few)
 
 -- what is read of the text that an object is written as is the object, as a matrix
-pub canonical_text_is_the_object : (o : Object) (m : Matrix) → is_built_in o.domain ≡ true → IsObject o → are_dimensions o.shape ≡ true
+pub canonical_text_is_the_object : (o : Object) (m : Matrix) → is_built_in o.domain ≡ true → IsObject o
+    → are_dimensions o.shape ≡ true
     → length (entries_of (rows_of o.shape) (cols_of o.shape) o.content) < 2 ^ 64
     → matrix_in o.domain (flat_map ended (canonical_lines o)) ≡ Ok m
     → (m.rows ≡ rows_of o.shape) × (m.cols ≡ cols_of o.shape) × ((i j : ℕ) → (object_read o.domain m).content i j ≡ o.content i j)

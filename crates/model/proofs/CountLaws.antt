@@ -44,7 +44,8 @@ nothing-counted = record { names = []; apart = refl; those = λ name. refl; coun
 -- ---- one name more
 
 -- a name that wasn't there stands for an object now
-pub grown-counted : (env : Environment Name) (name : Name) (o : Object) → is_some (env.find_object name) ≡ false → IsCounted env
+pub grown-counted : (env : Environment Name) (name : Name) (o : Object) → is_some (env.find_object name) ≡ false
+    → IsCounted env
     → IsCounted (with_object bytes_eq env name o (env.count + 1))
 grown-counted env name o new c =
     let free : is_among c.names name ≡ false = sym (c.those name) ∙ new in
@@ -61,7 +62,8 @@ grown-counted env name o new c =
 -- ---- as many names
 
 -- a name that was there stands for another object
-pub changed-counted : (env : Environment Name) (name : Name) (o : Object) → is_some (env.find_object name) ≡ true → IsCounted env
+pub changed-counted : (env : Environment Name) (name : Name) (o : Object) → is_some (env.find_object name) ≡ true
+    → IsCounted env
     → IsCounted (with_object bytes_eq env name o env.count)
 changed-counted env name o there c = record {
   names = c.names;
@@ -163,7 +165,8 @@ shrunk-counted env name there c = record {
 
 -- ---- steps
 
-there_first : (found : Option Object) (rest : Bool) → (is_some (option_map signature_of found) && rest) ≡ true → is_some found ≡ true
+there_first : (found : Option Object) (rest : Bool) → (is_some (option_map signature_of found) && rest) ≡ true
+    → is_some found ≡ true
 there_first None rest h = absurd (cc)
 there_first (Some o) rest h = refl
 
@@ -176,7 +179,8 @@ all_there count call h =
     ∷ status.IndexOutOfBounds ∷ status.InvalidValue ∷ []) h)
 
 -- ..and a new name isn't taken
-untaken : (count : ℕ) (call : Call (Option Signature) Bool) → early_fault count call ≡ None → call_fails count call status.NameTaken ≡ false
+untaken : (count : ℕ) (call : Call (Option Signature) Bool) → early_fault count call ≡ None
+    → call_fails count call status.NameTaken ≡ false
 unfolding early_fault
 untaken count call h =
     passed (call_fails count call) status.NameTaken []
@@ -188,7 +192,8 @@ abbrev known : Environment Name → Call Name Name → Call (Option Signature) B
 known env call = renamed (option_map signature_of) (λ taken. taken) (seen env call)
 
 -- an accepted call leaves as many objects as are counted
-pub effect-counted : (env : Environment Name) (call : Call Name Name) → fault_of env.count (seen env call) ≡ None → IsCounted env
+pub effect-counted : (env : Environment Name) (call : Call Name Name) → fault_of env.count (seen env call) ≡ None
+    → IsCounted env
     → IsCounted (effect bytes_eq env call)
 unfolding effect
 effect-counted env (Create name domain shape) accepted c =
@@ -224,13 +229,15 @@ effect-counted env (Operate out op) accepted c =
     changed-counted env out.c _ (there_first (env.find_object out.c) _ (all_there env.count (known env (Operate out op)) early)) c
 
 -- what is left is what was there where there is a fault, and what the call leaves where there is none
-left-counted : (number : ℕ) (env : Environment Name) (fault : Option Status) (lines : List (List ℕ)) (new : Environment Name) → IsCounted env → (fault ≡ None → IsCounted new)
+left-counted : (number : ℕ) (env : Environment Name) (fault : Option Status) (lines : List (List ℕ))
+    (new : Environment Name) → IsCounted env → (fault ≡ None → IsCounted new)
     → IsCounted (answered number env fault lines new).1
 left-counted number env None lines new old news = news refl
 left-counted number env (Some s) lines new old news = old
 
 -- every step keeps that the names are counted
-pub step-counted : (number : ℕ) (env : Environment Name) (call : Call Name Name) → IsCounted env → IsCounted (step number env call).1
+pub step-counted : (number : ℕ) (env : Environment Name) (call : Call Name Name) → IsCounted env
+    → IsCounted (step number env call).1
 unfolding step
 step-counted number env call c =
     left-counted number env (fault_of env.count (seen env call)) (data_lines_of (on_objects env call)) (effect bytes_eq env call) c (λ accepted. effect-counted env call accepted c)
@@ -242,7 +249,8 @@ unfolding load_fault
 load_untaken count true file h = absurd (cc)
 load_untaken count false file h = refl
 
-loaded-counted : (env : Environment Name) (name : Name) (domain : Domain) (file : File) → is_some (env.find_object name) ≡ false → IsCounted env
+loaded-counted : (env : Environment Name) (name : Name) (domain : Domain) (file : File)
+    → is_some (env.find_object name) ≡ false → IsCounted env
     → IsCounted (loaded bytes_eq env name domain file)
 unfolding loaded
 loaded-counted env name domain None new c = c
@@ -250,7 +258,8 @@ loaded-counted env name domain (Some (Ok m)) new c = grown-counted env name (obj
 loaded-counted env name domain (Some (Err fault)) new c = c
 
 -- ..and every load
-pub load-counted : (number : ℕ) (env : Environment Name) (name : Name) (domain : Domain) (file : File) → IsCounted env → IsCounted (load number env name domain file).1
+pub load-counted : (number : ℕ) (env : Environment Name) (name : Name) (domain : Domain) (file : File) → IsCounted env
+    → IsCounted (load number env name domain file).1
 unfolding load
 load-counted number env name domain file c =
     let taken = is_some (env.find_object name) in

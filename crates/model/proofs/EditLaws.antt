@@ -32,14 +32,16 @@ passed_all true true false h = absurd (cc)
 passed_all true false valid h = absurd (cc)
 passed_all false inside valid h = absurd (cc)
 
-can_set : (count : ℕ) (o : Object) (place : Place) (value : ℤ) → early_fault count (Set (Some (signature_of o)) place value) ≡ None → CanSet o place value
+can_set : (count : ℕ) (o : Object) (place : Place) (value : ℤ)
+    → early_fault count (Set (Some (signature_of o)) place value) ≡ None → CanSet o place value
 unfolding early_fault
 can_set count o place value h =
     let all = passed_all (is_of_kind place o.shape) (is_inside place o.shape) (is_value_of o.domain value) h in
     record { kind = all.0; inside = all.1; valid = all.2 }
 
 -- a place at which an object has a value can be read
-can_get : (count : ℕ) (o : Object) (place : Place) (word : ℕ) → is_of_kind place o.shape ≡ true → is_inside place o.shape ≡ true
+can_get : (count : ℕ) (o : Object) (place : Place) (word : ℕ) → is_of_kind place o.shape ≡ true
+    → is_inside place o.shape ≡ true
     → o.content (row_of place) (col_of place) ≡ Some word → fault_of count (Get (Some o) place) ≡ None
 unfolding early_fault
 can_get count o place word kind inside there = rw (kind, inside, there) refl
@@ -48,7 +50,8 @@ entry_is_there : (c : Content) (i j word : ℕ) → with_entry c i j word i j �
 entry_is_there c i j word = rw (eq-eqb i i refl, eq-eqb j j refl) refl
 
 -- the answer to a call that reads a value that is there
-get_answers : (number : ℕ) (env : Environment Name) (name : Name) (o : Object) (place : Place) (word : ℕ) → env.find_object name ≡ Some o → is_of_kind place o.shape ≡ true
+get_answers : (number : ℕ) (env : Environment Name) (name : Name) (o : Object) (place : Place) (word : ℕ)
+    → env.find_object name ≡ Some o → is_of_kind place o.shape ≡ true
     → is_inside place o.shape ≡ true → o.content (row_of place) (col_of place) ≡ Some word
     → (step number env (Get name place)).0 ≡ record { number = number; status = status.Ok; data_lines = value_text o.domain word ∷ [] }
 unfolding step data_lines_of
@@ -57,7 +60,8 @@ get_answers number env name o place word found kind inside there =
     rw (found, none, there) refl
 
 -- what an accepted call that sets a value leaves
-set_leaves : (number : ℕ) (env : Environment Name) (name : Name) (o : Object) (place : Place) (value : ℤ) → env.find_object name ≡ Some o
+set_leaves : (number : ℕ) (env : Environment Name) (name : Name) (o : Object) (place : Place) (value : ℤ)
+    → env.find_object name ≡ Some o
     → fault_of env.count (seen env (Set name place value)) ≡ None
     → (step number env (Set name place value)).1
     ≡ with_object bytes_eq env name (record o { content = with_entry o.content (row_of place) (col_of place) (word_of o.domain value) }) env.count
@@ -69,7 +73,8 @@ unfolding early_fault
 no_object_refused count place value h = absurd (cc)
 
 -- ..and what is read then
-reads_set : (first second : ℕ) (env : Environment Name) (name : Name) (place : Place) (value : ℤ) (found : Option Object) → env.find_object name ≡ found
+reads_set : (first second : ℕ) (env : Environment Name) (name : Name) (place : Place) (value : ℤ)
+    (found : Option Object) → env.find_object name ≡ found
     → fault_of env.count (seen env (Set name place value)) ≡ None
     → (step second (step first env (Set name place value)).1 (Get name place)).0 ≡ record { number = second; status = status.Ok; data_lines = signed_decimal value ∷ [] }
 reads_set first second env name place value None is accepted = absurd (no_object_refused env.count place value (rw is at accepted))

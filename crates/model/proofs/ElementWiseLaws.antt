@@ -31,7 +31,8 @@ use Rattle.model.proofs.StoredLaws.{row_words-domain}
 abbrev pub Commutes : OpName → Type 0
 Commutes op = (x y : ℕ) → eval_of op.kind op.domain x y ≡ eval_of op.kind op.domain y x
 
-either_way : (f g : ℕ → ℕ) (h k : ℕ → ℕ → ℕ) (x y : Option ℕ) → ((v w : ℕ) → h v w ≡ k w v) → of_either f g h x y ≡ of_either g f k y x
+either_way : (f g : ℕ → ℕ) (h k : ℕ → ℕ → ℕ) (x y : Option ℕ) → ((v w : ℕ) → h v w ≡ k w v)
+    → of_either f g h x y ≡ of_either g f k y x
 either_way f g h k None None same = refl
 either_way f g h k (Some x) None same = refl
 either_way f g h k None (Some y) same = refl
@@ -50,7 +51,8 @@ exchanged op a b commutes x y = commutes (cast_of a.domain op.domain x) (cast_of
 pub union-commutes : (op : OpName) (a b : Object) → Commutes op → (i j : ℕ) → union op a b i j ≡ union op b a i j
 union-commutes op a b commutes i j = either_way _ _ (eval_cast op a b) (eval_cast op b a) (a.content i j) (b.content i j) (exchanged op a b commutes)
 
-pub intersection-commutes : (op : OpName) (a b : Object) → Commutes op → (i j : ℕ) → intersection op a b i j ≡ intersection op b a i j
+pub intersection-commutes : (op : OpName) (a b : Object) → Commutes op → (i j : ℕ)
+    → intersection op a b i j ≡ intersection op b a i j
 intersection-commutes op a b commutes i j = both_ways (eval_cast op a b) (eval_cast op b a) (a.content i j) (b.content i j) (exchanged op a b commutes)
 
 -- ---- the lower and the upper triangle
@@ -77,15 +79,18 @@ told : (t : Bool) → (cast_of Boolean Boolean (word_of Boolean (truth t)) == 1)
 told true = refl
 told false = refl
 
-passes_tril : (a i j : ℕ) (s : ℤ) → is_value_of Int64 s ≡ true → passes Tril Int64 a i j (word_of Int64 s) ≡ int_le (pos j) (pos i +ℤ s)
+passes_tril : (a i j : ℕ) (s : ℤ) → is_value_of Int64 s ≡ true
+    → passes Tril Int64 a i j (word_of Int64 s) ≡ int_le (pos j) (pos i +ℤ s)
 passes_tril a i j s is =
     ap (λ (z : ℤ). cast_of Boolean Boolean (word_of Boolean (truth (int_le (pos j) (pos i +ℤ z)))) == 1) (value_of-word_of Int64 s is) ∙ told (int_le (pos j) (pos i +ℤ s))
 
-passes_triu : (a i j : ℕ) (s : ℤ) → is_value_of Int64 s ≡ true → passes Triu Int64 a i j (word_of Int64 s) ≡ int_le (pos i +ℤ s) (pos j)
+passes_triu : (a i j : ℕ) (s : ℤ) → is_value_of Int64 s ≡ true
+    → passes Triu Int64 a i j (word_of Int64 s) ≡ int_le (pos i +ℤ s) (pos j)
 passes_triu a i j s is =
     ap (λ (z : ℤ). cast_of Boolean Boolean (word_of Boolean (truth (int_le (pos i +ℤ z) (pos j)))) == 1) (value_of-word_of Int64 s is) ∙ told (int_le (pos i +ℤ s) (pos j))
 
-kept_all : (test : ℕ → Bool) (t : Bool) (o : Option ℕ) → ((word : ℕ) → test word ≡ t) → option_and_then (λ word. cond (test word) (Some word) None) o ≡ cond t o None
+kept_all : (test : ℕ → Bool) (t : Bool) (o : Option ℕ) → ((word : ℕ) → test word ≡ t)
+    → option_and_then (λ word. cond (test word) (Some word) None) o ≡ cond t o None
 kept_all test true None same = refl
 kept_all test false None same = refl
 kept_all test t (Some word) same = ap (λ b. cond b (Some word) None) (same word)
@@ -100,7 +105,8 @@ pub record ArePartedAt (s : ℤ) (a : Object) (i j : ℕ) : Type 0 where
   pub lower : selected tril s a i j ≡ cond is_low (a.content i j) None
   pub upper : selected triu (s +ℤ pos 1) a i j ≡ cond is_low None (a.content i j)
 
-pub triangles-part : (s : ℤ) (a : Object) → is_value_of Int64 s ≡ true → is_value_of Int64 (s +ℤ pos 1) ≡ true → (i j : ℕ) → ArePartedAt s a i j
+pub triangles-part : (s : ℤ) (a : Object) → is_value_of Int64 s ≡ true → is_value_of Int64 (s +ℤ pos 1) ≡ true
+    → (i j : ℕ) → ArePartedAt s a i j
 triangles-part s a fits next_fits i j =
     let low = int_le (pos j) (pos i +ℤ s) in
     let above : int_le (pos i +ℤ (s +ℤ pos 1)) (pos j) ≡ not low = ap (λ (z : ℤ). int_le z (pos j)) (sym (later (pos i) s)) ∙ next_le (pos j) (pos i +ℤ s) in
@@ -120,13 +126,15 @@ sums_of_rows monoid o = record {
   content = row_sums monoid (cols_of o.shape) (in_domain monoid.domain o);
 }
 
-flat_single : (h : ℕ → Option ℕ) (f : ℕ → List ℕ) (xs : List ℕ) → ((x : ℕ) → f x ≡ cons_option (h x) []) → flat_map f xs ≡ filter_map h xs
+flat_single : (h : ℕ → Option ℕ) (f : ℕ → List ℕ) (xs : List ℕ) → ((x : ℕ) → f x ≡ cons_option (h x) [])
+    → flat_map f xs ≡ filter_map h xs
 flat_single h f [] same = refl
 flat_single h f (x ∷ xs) same =
     ap (λ ws. ws ++ flat_map f xs) (same x) ∙ ap (λ ws. cons_option (h x) [] ++ ws) (flat_single h f xs same)
     ∙ elim (h x) as (λ o. cons_option o [] ++ filter_map h xs ≡ cons_option o (filter_map h xs)) [ None ↦ refl | Some y ↦ refl ]
 
-sums_each : {A : Type 0} (f : A → List ℕ) (g : List ℕ → Option ℕ) (xs : List A) → filter_map (λ x. g (f x)) xs ≡ filter_map g (map f xs)
+sums_each : {A : Type 0} (f : A → List ℕ) (g : List ℕ → Option ℕ) (xs : List A)
+    → filter_map (λ x. g (f x)) xs ≡ filter_map g (map f xs)
 sums_each f g [] = refl
 sums_each f g (x ∷ xs) = ap (cons_option (g (f x))) (sums_each f g xs)
 
@@ -134,13 +142,15 @@ concat_map : {A : Type 0} (f : A → List ℕ) (xs : List A) → concat (map f x
 concat_map f [] = refl
 concat_map f (x ∷ xs) = ap (λ ws. f x ++ ws) (concat_map f xs)
 
-rows_are : (d : Domain) (cols : ℕ) (a : Object) (is : List ℕ) → All (All (IsWordOf d)) (map (row_words cols (in_domain d a)) is)
+rows_are : (d : Domain) (cols : ℕ) (a : Object) (is : List ℕ)
+    → All (All (IsWordOf d)) (map (row_words cols (in_domain d a)) is)
 rows_are d cols a [] = All-nil (All (IsWordOf d))
 rows_are d cols a (i ∷ is) =
     All-cons (All (IsWordOf d)) (row_words cols (in_domain d a) i) (map (row_words cols (in_domain d a)) is) (row_words-domain d cols a i) (rows_are d cols a is)
 
 -- the sum of all values is the sum of the sums of the rows
-pub sum-of_rows : (monoid : MonoidName) (o : Object) → offers (combines_by monoid.kind) monoid.domain ≡ true → sum_in monoid (sums_of_rows monoid o) ≡ sum_in monoid o
+pub sum-of_rows : (monoid : MonoidName) (o : Object) → offers (combines_by monoid.kind) monoid.domain ≡ true
+    → sum_in monoid (sums_of_rows monoid o) ≡ sum_in monoid o
 unfolding count_from
 sum-of_rows monoid o offered =
     let d = monoid.domain in

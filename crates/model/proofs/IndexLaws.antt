@@ -99,7 +99,8 @@ is_distinct-permutation xs ys same =
 -- ---- of numbers that rise
 
 -- all are below a bound where the last is
-pub last_below : (size : ℕ) (xs : List ℕ) (last : ℕ) → IsNonDecreasing xs → 0 < length xs → last ≡ get_or xs (length xs - 1) 0 → ltb last size ≡ list_all (λ i. ltb i size) xs
+pub last_below : (size : ℕ) (xs : List ℕ) (last : ℕ) → IsNonDecreasing xs → 0 < length xs
+    → last ≡ get_or xs (length xs - 1) 0 → ltb last size ≡ list_all (λ i. ltb i size) xs
 last_below size xs last rises some is =
     same_tests (ltb last size) (list_all (λ i. ltb i size) xs)
     (λ h. list_all-from_AllPass (λ i. ltb i size) xs (λ k d within.
@@ -136,14 +137,16 @@ neighbours_distinct xs rises differ = rising_distinct xs (λ i j d low within.
     let before = get_or_default xs (j - 1) d 0 (omega arith) in
     omega arith)
 
-places_apart : (x : ℕ) (xs : List ℕ) → AllPass (λ y. not (eqb x y)) xs → ((i j : ℕ) → i < j → j < length xs → get_or xs i 0 ≢ get_or xs j 0)
+places_apart : (x : ℕ) (xs : List ℕ) → AllPass (λ y. not (eqb x y)) xs
+    → ((i j : ℕ) → i < j → j < length xs → get_or xs i 0 ≢ get_or xs j 0)
     → (i j : ℕ) → i < j → j < length (x ∷ xs) → get_or (x ∷ xs) i 0 ≢ get_or (x ∷ xs) j 0
 places_apart x xs first rest i zero low within = absurd (omega arith)
 places_apart x xs first rest zero (suc j) low within = λ same. let other : not (eqb x (get_or xs j 0)) ≡ true = first j 0 (omega arith) in absurd (false≢true (rw (eq-eqb x (get_or xs j 0) same) at other))
 places_apart x xs first rest (suc i) (suc j) low within = rest i j (omega arith) (omega arith)
 
 -- numbers of a list without repeats differ at each two places
-distinct_apart : (xs : List ℕ) → is_distinct xs ≡ true → (i j : ℕ) → i < j → j < length xs → get_or xs i 0 ≢ get_or xs j 0
+distinct_apart : (xs : List ℕ) → is_distinct xs ≡ true → (i j : ℕ) → i < j → j < length xs
+    → get_or xs i 0 ≢ get_or xs j 0
 distinct_apart [] h i j low within = absurd (omega arith)
 distinct_apart (x ∷ xs) h i j low within = elim (cases_Bool (list_all (λ y. not (eqb x y)) xs)) [
   | inl apart ↦ places_apart x xs (AllPass-from_list_all (λ y. not (eqb x y)) xs apart) (distinct_apart xs (rw apart at h)) i j low within
@@ -151,7 +154,8 @@ distinct_apart (x ∷ xs) h i j low within = elim (cases_Bool (list_all (λ y. n
 ]
 
 -- a number that stands at two neighbouring places is repeated
-pub neighbours_same : (xs : List ℕ) (k : ℕ) → 0 < k → k < length xs → get_or xs (k - 1) 0 ≡ get_or xs k 0 → is_distinct xs ≡ false
+pub neighbours_same : (xs : List ℕ) (k : ℕ) → 0 < k → k < length xs → get_or xs (k - 1) 0 ≡ get_or xs k 0
+    → is_distinct xs ≡ false
 neighbours_same xs k some within same = elim (cases_Bool (is_distinct xs)) [
   | inl apart ↦ absurd (distinct_apart xs apart (k - 1) k (omega arith) within same)
   | inr twice ↦ twice

@@ -39,13 +39,15 @@ cond_then : {A : Type 0} (b : Bool) (o : Option A) (x : A) → cond b o None ≡
 cond_then true o x is = (refl, is)
 cond_then false o x is = absurd (cc)
 
-where_it-some : {A : Type 0} (passes : A → Bool) (o : Option A) (x : A) → where_it passes o ≡ Some x → (o ≡ Some x) × (passes x ≡ true)
+where_it-some : {A : Type 0} (passes : A → Bool) (o : Option A) (x : A) → where_it passes o ≡ Some x
+    → (o ≡ Some x) × (passes x ≡ true)
 where_it-some passes o x is = option_and_then_some (λ y. cond (passes y) (Some y) None) o x is
     (λ y found rest. let kept = cond_then (passes y) (Some y) x rest in let same : y ≡ x = cc in (found ∙ kept.1, rw same at kept.0))
 
 -- ---- faults
 
-no_fault : (faults : List Misread) (m n : Matrix) → option_map_or Err (slice_get faults 0) (Ok m) ≡ Ok n → (faults ≡ []) × (n ≡ m)
+no_fault : (faults : List Misread) (m n : Matrix) → option_map_or Err (slice_get faults 0) (Ok m) ≡ Ok n
+    → (faults ≡ []) × (n ≡ m)
 no_fault [] m n is = (refl, cc)
 no_fault (fault ∷ faults) m n is = absurd (cc)
 
@@ -53,17 +55,20 @@ append_nil_parts : {A : Type 0} (xs ys : List A) → xs ++ ys ≡ [] → (xs ≡
 append_nil_parts [] ys is = (refl, is)
 append_nil_parts (x ∷ xs) ys is = absurd (cc)
 
-no_mistake : (line : ToldLine) (error : Option Mistake) (errors : List Misread) → cons_option (option_map (λ wrong. misread wrong line) error) errors ≡ []
+no_mistake : (line : ToldLine) (error : Option Mistake) (errors : List Misread)
+    → cons_option (option_map (λ wrong. misread wrong line) error) errors ≡ []
     → (error ≡ None) × (errors ≡ [])
 no_mistake line None errors is = (refl, is)
 no_mistake line (Some e) errors is = absurd (cc)
 
-none_behind : (n : ℕ) (lines : List ToldLine) → map (misread mistake.TooMany) (take 1 (drop n lines)) ≡ [] → nat_lt n (length lines) ≡ false
+none_behind : (n : ℕ) (lines : List ToldLine) → map (misread mistake.TooMany) (take 1 (drop n lines)) ≡ []
+    → nat_lt n (length lines) ≡ false
 none_behind n [] is = grind (arith, nat_tests)
 none_behind zero (line ∷ lines) is = absurd (cc)
 none_behind (suc n) (line ∷ lines) is = let below = none_behind n lines is in grind (arith, nat_tests)
 
-behind_none : (n : ℕ) (lines : List ToldLine) → length lines ≡ n → map (misread mistake.TooMany) (take 1 (drop n lines)) ≡ []
+behind_none : (n : ℕ) (lines : List ToldLine) → length lines ≡ n
+    → map (misread mistake.TooMany) (take 1 (drop n lines)) ≡ []
 behind_none n lines count = rw (drop_all n lines (omega arith)) refl
 
 nothing : (b : Bool) (f : Misread) → cond b (f ∷ []) [] ≡ [] → b ≡ false
@@ -76,14 +81,16 @@ words_in lines = map (λ (line : ToldLine). line.words) lines
 mistakes_in : Domain → Heading → List ToldLine → List Misread
 mistakes_in domain h lines = filter_map (λ line. option_map (λ wrong. misread wrong line) (result_err (entry_said domain h line.words))) lines
 
-no_errors_in : (domain : Domain) (h : Heading) (lines : List ToldLine) → All (λ line. result_err (entry_said domain h line) ≡ None) (words_in lines) → mistakes_in domain h lines ≡ []
+no_errors_in : (domain : Domain) (h : Heading) (lines : List ToldLine)
+    → All (λ line. result_err (entry_said domain h line) ≡ None) (words_in lines) → mistakes_in domain h lines ≡ []
 unfolding words_in mistakes_in
 no_errors_in domain h [] each = refl
 no_errors_in domain h (line ∷ lines) each =
     let first = All-head (λ (line : Line). result_err (entry_said domain h line) ≡ None) line.words (words_in lines) each in
     rw first (no_errors_in domain h lines (All-tail (λ (line : Line). result_err (entry_said domain h line) ≡ None) line.words (words_in lines) each))
 
-no_errors : (domain : Domain) (h : Heading) (lines : List ToldLine) → mistakes_in domain h lines ≡ [] → All (λ line. result_err (entry_said domain h line) ≡ None) (words_in lines)
+no_errors : (domain : Domain) (h : Heading) (lines : List ToldLine) → mistakes_in domain h lines ≡ []
+    → All (λ line. result_err (entry_said domain h line) ≡ None) (words_in lines)
 unfolding words_in mistakes_in
 no_errors domain h [] is = All-nil (λ (line : Line). result_err (entry_said domain h line) ≡ None)
 no_errors domain h (line ∷ lines) is =
@@ -105,7 +112,8 @@ no_faults domain h lines is =
     let all : take h.entries lines ≡ lines = take_all h.entries lines (omega arith) in
     (count, no_errors domain h lines (rw all at parts.0))
 
-faults_of-none : (domain : Domain) (h : Heading) (lines : List ToldLine) → length lines ≡ h.entries → All (λ line. result_err (entry_said domain h line) ≡ None) (words_in lines)
+faults_of-none : (domain : Domain) (h : Heading) (lines : List ToldLine) → length lines ≡ h.entries
+    → All (λ line. result_err (entry_said domain h line) ≡ None) (words_in lines)
     → faults_of domain h lines ≡ []
 unfolding faults_of mistakes_in
 faults_of-none domain h lines count each =
@@ -123,7 +131,8 @@ told_lines-words (line ∷ lines) = elim (cases_Bool (is_told line)) [
   | inr silent ↦ rw (silent, told_lines-words lines) refl
 ]
 
-told_first : (told : List ToldLine) (size : Line) (entries : List Line) → words_in told ≡ size ∷ entries → (line : ToldLine) × (more : List ToldLine) × (told ≡ line ∷ more) × (line.words ≡ size) × (words_in more ≡ entries)
+told_first : (told : List ToldLine) (size : Line) (entries : List Line) → words_in told ≡ size ∷ entries
+    → (line : ToldLine) × (more : List ToldLine) × (told ≡ line ∷ more) × (line.words ≡ size) × (words_in more ≡ entries)
 unfolding words_in
 told_first [] size entries is = absurd (cc)
 told_first (line ∷ more) size entries is = (line, more, refl, cc, cc)
@@ -146,7 +155,8 @@ heading_of-kind kind size h is =
 
 -- the heading fits, and each line behind it says an entry
 listed : (domain : Domain) (h : Heading) (lines : List ToldLine) (m : Matrix) → matrix_listed domain h lines ≡ Ok m
-    → (length (words_in lines) ≡ h.entries) × All (λ line. result_err (entry_said domain h line) ≡ None) (words_in lines)
+    → (length (words_in lines) ≡ h.entries) × All (λ line. result_err (entry_said domain h line) ≡ None)
+    (words_in lines)
     × (m ≡ record { rows = h.rows; cols = h.cols; entries = entries_said domain h (words_in lines) })
 unfolding matrix_listed words_in
 listed domain h lines m is =
@@ -165,7 +175,8 @@ record IsBehind (domain : Domain) (kind : Field × Symmetry) (told : List ToldLi
   fits : has_fitting_shape heading ≡ true
   listing : matrix_listed domain heading entries ≡ Ok m
 
-behind_size : (domain : Domain) (kind : Field × Symmetry) (size : ToldLine) (lines : List ToldLine) (m : Matrix) (found : Option Heading) → heading_of kind size.words ≡ found
+behind_size : (domain : Domain) (kind : Field × Symmetry) (size : ToldLine) (lines : List ToldLine) (m : Matrix)
+    (found : Option Heading) → heading_of kind size.words ≡ found
     → option_map_or (λ h. cond (has_fitting_shape h) (matrix_listed domain h lines) (Err (misread mistake.NotSquare size))) found (Err (misread mistake.SizeLine size)) ≡ Ok m
     → IsBehind domain kind (size ∷ lines) m
 behind_size domain kind size lines m None sized is = absurd (cc)
@@ -174,14 +185,17 @@ behind_size domain kind size lines m (Some h) sized is = elim (cases_Bool (has_f
   | inr other ↦ let bad : ◌≡◌ {A = Result Matrix Misread} (Err (misread mistake.NotSquare size)) (Ok m) = rw other at is in absurd (cc)
 ]
 
-behind : (domain : Domain) (kind : Field × Symmetry) (told : List ToldLine) (m : Matrix) → matrix_behind domain kind told ≡ Ok m → IsBehind domain kind told m
+behind : (domain : Domain) (kind : Field × Symmetry) (told : List ToldLine) (m : Matrix)
+    → matrix_behind domain kind told ≡ Ok m → IsBehind domain kind told m
 unfolding matrix_behind
 behind domain kind [] m is = absurd (cc)
 behind domain kind (size ∷ lines) m is = behind_size domain kind size lines m (heading_of kind size.words) refl is
 
-stands-kind : (domain : Domain) (text : List ℕ) (m : Matrix) (banner : Line) (lines : List Line) (found : Option (Field × Symmetry)) (unsupported : Misread)
+stands-kind : (domain : Domain) (text : List ℕ) (m : Matrix) (banner : Line) (lines : List Line)
+    (found : Option (Field × Symmetry)) (unsupported : Misread)
     → map words_of (lines_of text) ≡ banner ∷ lines → is_banner banner ≡ true → kind_of domain banner ≡ found
-    → option_map_or (λ kind. matrix_behind domain kind (told_lines lines)) found (Err unsupported) ≡ Ok m → StandsFor domain text m
+    → option_map_or (λ kind. matrix_behind domain kind (told_lines lines)) found (Err unsupported) ≡ Ok m
+    → StandsFor domain text m
 unfolding words_in
 stands-kind domain text m banner lines None unsupported cut announced known is = absurd (cc)
 stands-kind domain text m banner lines (Some kind) unsupported cut announced known is =
@@ -205,7 +219,8 @@ stands-kind domain text m banner lines (Some kind) unsupported cut announced kno
       stands = each.2;
     }
 
-stands-lines : (domain : Domain) (text : List ℕ) (m : Matrix) (all : List Line) → map words_of (lines_of text) ≡ all → matrix_in_lines domain all ≡ Ok m → StandsFor domain text m
+stands-lines : (domain : Domain) (text : List ℕ) (m : Matrix) (all : List Line) → map words_of (lines_of text) ≡ all
+    → matrix_in_lines domain all ≡ Ok m → StandsFor domain text m
 unfolding matrix_in_lines
 stands-lines domain text m [] cut is = absurd (cc)
 stands-lines domain text m (banner ∷ lines) cut is = elim (cases_Bool (is_banner banner)) [
@@ -215,18 +230,21 @@ stands-lines domain text m (banner ∷ lines) cut is = elim (cases_Bool (is_bann
 ]
 
 -- a matrix that is found by numbered mistakes is found
-numbered-ok : (n : ℕ) (r : Result Matrix Misread) (m : Matrix) → result_map_both (λ m. m) (fault_at n) r ≡ Ok m → r ≡ Ok m
+numbered-ok : (n : ℕ) (r : Result Matrix Misread) (m : Matrix) → result_map_both (λ m. m) (fault_at n) r ≡ Ok m
+    → r ≡ Ok m
 numbered-ok n (Ok found) m is = cc
 numbered-ok n (Err wrong) m is = absurd (cc)
 
 -- a text of which a matrix is read stands for it
-pub matrix_in-stands : (domain : Domain) (text : List ℕ) (m : Matrix) → matrix_in domain text ≡ Ok m → StandsFor domain text m
+pub matrix_in-stands : (domain : Domain) (text : List ℕ) (m : Matrix) → matrix_in domain text ≡ Ok m
+    → StandsFor domain text m
 unfolding matrix_in
 matrix_in-stands domain text m is =
     stands-lines domain text m (map words_of (lines_of text)) refl (numbered-ok (length (lines_of text)) (matrix_in_lines domain (map words_of (lines_of text))) m is)
 
 -- ..and of a text that stands for a matrix it is read
-pub stands_for-matrix_in : (domain : Domain) (text : List ℕ) (m : Matrix) → StandsFor domain text m → matrix_in domain text ≡ Ok m
+pub stands_for-matrix_in : (domain : Domain) (text : List ℕ) (m : Matrix) → StandsFor domain text m
+    → matrix_in domain text ≡ Ok m
 unfolding matrix_in matrix_in_lines matrix_behind matrix_listed words_in
 stands_for-matrix_in domain text m s =
     let first = told_first (told_lines s.lines) s.size s.entries (told_lines-words s.lines ∙ s.said) in
@@ -240,12 +258,14 @@ stands_for-matrix_in domain text m s =
 
 -- ---- dimensions
 
-pub stands_for-dimensions : (domain : Domain) (text : List ℕ) (m : Matrix) → StandsFor domain text m → (is_dimension m.rows ≡ true) × (is_dimension m.cols ≡ true)
+pub stands_for-dimensions : (domain : Domain) (text : List ℕ) (m : Matrix) → StandsFor domain text m
+    → (is_dimension m.rows ≡ true) × (is_dimension m.cols ≡ true)
 stands_for-dimensions domain text m s =
     let sized = heading_of-kind (s.heading.field, s.heading.symmetry) s.size s.heading s.sized in
     (ap (λ (m : Matrix). is_dimension m.rows) s.stands ∙ sized.1, ap (λ (m : Matrix). is_dimension m.cols) s.stands ∙ sized.2)
 
-pub matrix_in-dimensions : (domain : Domain) (text : List ℕ) (m : Matrix) → matrix_in domain text ≡ Ok m → (is_dimension m.rows ≡ true) × (is_dimension m.cols ≡ true)
+pub matrix_in-dimensions : (domain : Domain) (text : List ℕ) (m : Matrix) → matrix_in domain text ≡ Ok m
+    → (is_dimension m.rows ≡ true) × (is_dimension m.cols ≡ true)
 matrix_in-dimensions domain text m is = stands_for-dimensions domain text m (matrix_in-stands domain text m is)
 
 -- ---- entries
@@ -256,14 +276,16 @@ pub record IsListed (domain : Domain) (rows cols : ℕ) (e : Entry) : Type 0 whe
   pub col : e.col < cols
   pub word : IsWordOf domain e.word
 
-position-bounds : (i j m n : ℕ) (b : Bool) → (nat_le 1 i && nat_le i m && nat_le 1 j && nat_le j n && b) ≡ true → (i - 1 < m) × (j - 1 < n)
+position-bounds : (i j m n : ℕ) (b : Bool) → (nat_le 1 i && nat_le i m && nat_le 1 j && nat_le j n && b) ≡ true
+    → (i - 1 < m) × (j - 1 < n)
 position-bounds i j m n b is =
     let row : i - 1 < m = grind (arith, nat_tests) in
     let col : j - 1 < n = grind (arith, nat_tests) in
     (row, col)
 
 said-value : (domain : Domain) (h : Heading) (i j : ℕ) (value : Option ℤ) (e : Entry) → is_position h i j ≡ true
-    → option_map_or (λ z. Ok (entry_at (i - 1) (j - 1) (word_of domain z))) value (Err mistake.Value) ≡ Ok e → IsListed domain h.rows h.cols e
+    → option_map_or (λ z. Ok (entry_at (i - 1) (j - 1) (word_of domain z))) value (Err mistake.Value) ≡ Ok e
+    → IsListed domain h.rows h.cols e
 said-value domain h i j None e inside is = absurd (cc)
 said-value domain h i j (Some z) e inside is =
     let same : e ≡ entry_at (i - 1) (j - 1) (word_of domain z) = cc in
@@ -271,7 +293,8 @@ said-value domain h i j (Some z) e inside is =
     subst (IsListed domain h.rows h.cols) (sym same) (record { row = bounds.0; col = bounds.1; word = IsWordOf-word_of domain z })
 
 -- the entry that a line says
-pub entry_said-listed : (domain : Domain) (h : Heading) (line : Line) (e : Entry) → entry_said domain h line ≡ Ok e → IsListed domain h.rows h.cols e
+pub entry_said-listed : (domain : Domain) (h : Heading) (line : Line) (e : Entry) → entry_said domain h line ≡ Ok e
+    → IsListed domain h.rows h.cols e
 unfolding entry_said
 entry_said-listed domain h line e is =
     let i = nth_word line 0 in
@@ -286,7 +309,8 @@ entry_said-listed domain h line e is =
     ]
 
 -- its mirror, where there is one
-mirror : (domain : Domain) (field : Field) (s : Symmetry) (rows cols : ℕ) (e : Entry) → (is_general s || (rows == cols)) ≡ true → can_hold domain field s ≡ true
+mirror : (domain : Domain) (field : Field) (s : Symmetry) (rows cols : ℕ) (e : Entry)
+    → (is_general s || (rows == cols)) ≡ true → can_hold domain field s ≡ true
     → IsListed domain rows cols e → All (IsListed domain rows cols) (with_mirror s e)
 mirror domain f symmetry.General rows cols e fits holds said = All-cons (IsListed domain rows cols) e [] said (All-nil (IsListed domain rows cols))
 mirror domain f symmetry.Symmetric rows cols e fits holds said =
@@ -309,7 +333,8 @@ mirror Int64 f symmetry.SkewSymmetric rows cols e fits holds said =
 mirror _ f symmetry.SkewSymmetric rows cols e fits holds said = absurd (cc)
 
 -- what holds of each line's entries holds of all
-entries_said-all : (P : Entry → Type 0) (domain : Domain) (h : Heading) (lines : List Line) → ((line : Line) (e : Entry) → entry_said domain h line ≡ Ok e → All P (with_mirror h.symmetry e))
+entries_said-all : (P : Entry → Type 0) (domain : Domain) (h : Heading) (lines : List Line)
+    → ((line : Line) (e : Entry) → entry_said domain h line ≡ Ok e → All P (with_mirror h.symmetry e))
     → All P (entries_said domain h lines)
 entries_said-all P domain h [] each = All-nil P
 entries_said-all P domain h (line ∷ lines) each =
@@ -322,7 +347,8 @@ entries_said-all P domain h (line ∷ lines) each =
     ] in
     first (entry_said domain h line) refl
 
-kind_of-holds : (domain : Domain) (banner : Line) (f : Field) (s : Symmetry) → kind_of domain banner ≡ Some (f, s) → can_hold domain f s ≡ true
+kind_of-holds : (domain : Domain) (banner : Line) (f : Field) (s : Symmetry) → kind_of domain banner ≡ Some (f, s)
+    → can_hold domain f s ≡ true
 unfolding kind_of
 kind_of-holds domain banner f s is = elim (cases_Bool (says (codes "coordinate") (nth_word banner 2))) [
   | inr other ↦ let bad : ◌≡◌ {A = Option (Field × Symmetry)} None (Some (f, s)) = rw other at is in absurd (cc)
@@ -335,19 +361,22 @@ kind_of-holds domain banner f s is = elim (cases_Bool (says (codes "coordinate")
 ]
 
 -- all entries of a text
-pub stands_for-entries : (domain : Domain) (text : List ℕ) (m : Matrix) → StandsFor domain text m → All (IsListed domain m.rows m.cols) m.entries
+pub stands_for-entries : (domain : Domain) (text : List ℕ) (m : Matrix) → StandsFor domain text m
+    → All (IsListed domain m.rows m.cols) m.entries
 stands_for-entries domain text m s =
     let h = s.heading in
     let holds = kind_of-holds domain s.banner h.field h.symmetry s.kind in
     let all = entries_said-all (IsListed domain h.rows h.cols) domain h s.entries (λ line e is. mirror domain h.field h.symmetry h.rows h.cols e s.fits holds (entry_said-listed domain h line e is)) in
     subst (λ (m : Matrix). All (IsListed domain m.rows m.cols) m.entries) (sym s.stands) all
 
-pub matrix_in-inside : (domain : Domain) (text : List ℕ) (m : Matrix) → matrix_in domain text ≡ Ok m → IsInside m.rows m.cols m.entries
+pub matrix_in-inside : (domain : Domain) (text : List ℕ) (m : Matrix) → matrix_in domain text ≡ Ok m
+    → IsInside m.rows m.cols m.entries
 matrix_in-inside domain text m is =
     All-weaker (IsListed domain m.rows m.cols) (λ (e : Entry). (e.row < m.rows) × (e.col < m.cols)) (λ e listed. (listed.row, listed.col)) m.entries
     (stands_for-entries domain text m (matrix_in-stands domain text m is))
 
-pub matrix_in-words : (domain : Domain) (text : List ℕ) (m : Matrix) → matrix_in domain text ≡ Ok m → All (λ e. IsWordOf domain e.word) m.entries
+pub matrix_in-words : (domain : Domain) (text : List ℕ) (m : Matrix) → matrix_in domain text ≡ Ok m
+    → All (λ e. IsWordOf domain e.word) m.entries
 matrix_in-words domain text m is =
     All-weaker (IsListed domain m.rows m.cols) (λ (e : Entry). IsWordOf domain e.word) (λ e listed. listed.word) m.entries
     (stands_for-entries domain text m (matrix_in-stands domain text m is))
@@ -358,7 +387,8 @@ matrix_in-words domain text m is =
 tuple_at : Domain → Entry → Tuple
 tuple_at domain e = record { place = place.Two e.row e.col; value = value_of domain e.word }
 
-as_tuples : (domain : Domain) (rows cols : ℕ) (entries : List Entry) → IsInside rows cols entries → All (λ e. IsWordOf domain e.word) entries
+as_tuples : (domain : Domain) (rows cols : ℕ) (entries : List Entry) → IsInside rows cols entries
+    → All (λ e. IsWordOf domain e.word) entries
     → (map (entry_of domain) (map (tuple_at domain) entries) ≡ entries) × (are_inside (Two rows cols) (map (tuple_at domain) entries) ≡ true)
 unfolding tuple_at
 as_tuples domain rows cols [] inside words = (refl, refl)
@@ -377,7 +407,8 @@ sums-in Uint64 is = refl
 sums-in (User k) is = absurd (cc)
 
 -- entries inside dimensions, with words of the domain, make an object
-pub object_read-is_object : (domain : Domain) (m : Matrix) → is_built_in domain ≡ true → IsInside m.rows m.cols m.entries → All (λ e. IsWordOf domain e.word) m.entries → IsObject (object_read domain m)
+pub object_read-is_object : (domain : Domain) (m : Matrix) → is_built_in domain ≡ true
+    → IsInside m.rows m.cols m.entries → All (λ e. IsWordOf domain e.word) m.entries → IsObject (object_read domain m)
 object_read-is_object domain m is inside words =
     let tuples = map (tuple_at domain) m.entries in
     let made = as_tuples domain m.rows m.cols m.entries inside words in

@@ -15,7 +15,8 @@ use Rattle.model.specs.declared.shape.Shape.TheVariants.{One, Two}
 use Rattle.model.specs.Object.{AreWordsOf, Content, IsObject, IsWithin, Object, cast_content, col_of, cols_of, empty_object, is_inside, is_matrix, row_of, rows_of, same_shape, transposed_object, with_entry}
 use Rattle.model.specs.Object.{without_entry}
 
-pub objects_equal : (a b : Object) → a.domain ≡ b.domain → a.shape ≡ b.shape → ((i j : ℕ) → a.content i j ≡ b.content i j) → a ≡ b
+pub objects_equal : (a b : Object) → a.domain ≡ b.domain → a.shape ≡ b.shape
+    → ((i j : ℕ) → a.content i j ≡ b.content i j) → a ≡ b
 objects_equal a b domain shape same = λ k. record { domain = domain k; shape = shape k; content = λ i j. same i j k }
 
 pub same_domain-true : (a b : Domain) → same_domain a b ≡ true → a ≡ b
@@ -28,16 +29,19 @@ same_domain-true _ _ h = absurd (cc)
 -- ---- casts
 
 -- casting a map to the domain of its words changes nothing
-pub own_word : (domain : Domain) (o : Option ℕ) → ((word : ℕ) → o ≡ Some word → IsWordOf domain word) → option_map (cast_of domain domain) o ≡ o
+pub own_word : (domain : Domain) (o : Option ℕ) → ((word : ℕ) → o ≡ Some word → IsWordOf domain word)
+    → option_map (cast_of domain domain) o ≡ o
 own_word domain None words = refl
 own_word domain (Some word) words = ap Some (cast_own domain word (words word refl))
 
-pub cast_word-own : (from to : Domain) (o : Option ℕ) → same_domain from to ≡ true → ((word : ℕ) → o ≡ Some word → IsWordOf from word) → o ≡ option_map (cast_of from to) o
+pub cast_word-own : (from to : Domain) (o : Option ℕ) → same_domain from to ≡ true
+    → ((word : ℕ) → o ≡ Some word → IsWordOf from word) → o ≡ option_map (cast_of from to) o
 cast_word-own from to o same words =
     let is : from ≡ to = same_domain-true from to same in
     rw (← is) (sym (own_word from o words))
 
-pub cast_content-own : (from to : Domain) (c : Content) → same_domain from to ≡ true → AreWordsOf from c → (i j : ℕ) → c i j ≡ cast_content from to c i j
+pub cast_content-own : (from to : Domain) (c : Content) → same_domain from to ≡ true → AreWordsOf from c → (i j : ℕ)
+    → c i j ≡ cast_content from to c i j
 cast_content-own from to c same words i j = cast_word-own from to (c i j) same (words i j)
 
 -- what is cast is a word of the domain to which it is cast
@@ -48,7 +52,8 @@ cast_word from to (Some x) word is = let same : cast_of from to x ≡ word = cc 
 pub cast_content-words : (from to : Domain) (c : Content) → AreWordsOf to (cast_content from to c)
 cast_content-words from to c i j word is = cast_word from to (c i j) word is
 
-pub cast_content-within : (from to : Domain) (rows cols : ℕ) (c : Content) → IsWithin rows cols c → IsWithin rows cols (cast_content from to c)
+pub cast_content-within : (from to : Domain) (rows cols : ℕ) (c : Content) → IsWithin rows cols c
+    → IsWithin rows cols (cast_content from to c)
 cast_content-within from to rows cols c within i j outside = rw (within i j outside) refl
 
 -- ---- objects
@@ -57,7 +62,8 @@ pub empty-is_object : (domain : Domain) (shape : Shape) → IsObject (empty_obje
 empty-is_object domain shape = record { within = λ i j outside. refl; words = λ i j word is. absurd (cc) }
 
 -- a place inside a shape is inside its rows and columns
-pub inside-bounds : (p : Place) (shape : Shape) → is_inside p shape ≡ true → (row_of p < rows_of shape) × (col_of p < cols_of shape)
+pub inside-bounds : (p : Place) (shape : Shape) → is_inside p shape ≡ true
+    → (row_of p < rows_of shape) × (col_of p < cols_of shape)
 inside-bounds (place.One i) (One n) h = (grind (arith, nat_tests), omega arith)
 inside-bounds (place.Two i j) (Two m n) h = let parts = and_parts (nat_lt i m) (nat_lt j n) h in (grind (arith, nat_tests), grind (arith, nat_tests))
 inside-bounds (place.One i) (Two m n) h = absurd (cc)
@@ -66,15 +72,18 @@ inside-bounds (place.Two i j) (One n) h = absurd (cc)
 entry_within : (at : Bool) (word : ℕ) (o : Option ℕ) → at ≡ false → o ≡ None → cond at (Some word) o ≡ None
 entry_within at word o apart none = rw apart none
 
-not_there : (i j row col rows cols : ℕ) → row < rows → col < cols → (nat_lt i rows && nat_lt j cols) ≡ false → ((i == row) && (j == col)) ≡ false
+not_there : (i j row col rows cols : ℕ) → row < rows → col < cols → (nat_lt i rows && nat_lt j cols) ≡ false
+    → ((i == row) && (j == col)) ≡ false
 not_there i j row col rows cols in_rows in_cols outside = grind (arith, nat_tests)
 
-entry_word : (domain : Domain) (at : Bool) (set word : ℕ) (o : Option ℕ) → IsWordOf domain set → ((w : ℕ) → o ≡ Some w → IsWordOf domain w) → cond at (Some set) o ≡ Some word → IsWordOf domain word
+entry_word : (domain : Domain) (at : Bool) (set word : ℕ) (o : Option ℕ) → IsWordOf domain set
+    → ((w : ℕ) → o ≡ Some w → IsWordOf domain w) → cond at (Some set) o ≡ Some word → IsWordOf domain word
 entry_word domain true set word o small old is = let same : set ≡ word = cc in rw same at small
 entry_word domain false set word o small old is = old word is
 
 -- a map with a value set at a place inside a shape has nothing outside that
-pub set-within : (o : Object) (p : Place) (word : ℕ) → IsWithin (rows_of o.shape) (cols_of o.shape) o.content → is_inside p o.shape ≡ true
+pub set-within : (o : Object) (p : Place) (word : ℕ) → IsWithin (rows_of o.shape) (cols_of o.shape) o.content
+    → is_inside p o.shape ≡ true
     → IsWithin (rows_of o.shape) (cols_of o.shape) (with_entry o.content (row_of p) (col_of p) word)
 set-within o p word within inside i j outside =
     let bounds = inside-bounds p o.shape inside in

@@ -42,27 +42,33 @@ use Rattle.model.proofs.StoredLaws.{row_words-domain}
 
 -- ---- two inputs
 
-multiplied-words : (form : Form) (semiring : SemiringName) (n : ℕ) (a b : Content) → offers (combines_by semiring.add) (sum_domain semiring) ≡ true → AreWordsOf (sum_domain semiring) (multiplied form semiring n a b)
+multiplied-words : (form : Form) (semiring : SemiringName) (n : ℕ) (a b : Content)
+    → offers (combines_by semiring.add) (sum_domain semiring) ≡ true
+    → AreWordsOf (sum_domain semiring) (multiplied form semiring n a b)
 multiplied-words MatrixMatrix semiring n a b offered = product-words semiring n a b offered
 multiplied-words MatrixVector semiring n a b offered = product-words semiring n a b offered
 multiplied-words VectorMatrix semiring n a b offered = λ i j word is. product-words semiring n (transposed_content a) b offered j i word is
 
-either-word : (d : Domain) (f g : ℕ → ℕ) (h : ℕ → ℕ → ℕ) (x y : Option ℕ) (word : ℕ) → ((w : ℕ) → IsWordOf d (f w)) → ((w : ℕ) → IsWordOf d (g w)) → ((v w : ℕ) → IsWordOf d (h v w))
+either-word : (d : Domain) (f g : ℕ → ℕ) (h : ℕ → ℕ → ℕ) (x y : Option ℕ) (word : ℕ) → ((w : ℕ) → IsWordOf d (f w))
+    → ((w : ℕ) → IsWordOf d (g w)) → ((v w : ℕ) → IsWordOf d (h v w))
     → of_either f g h x y ≡ Some word → IsWordOf d word
 either-word d f g h None None word left right both is = absurd (cc)
 either-word d f g h (Some x) None word left right both is = let same : f x ≡ word = cc in rw same at (left x)
 either-word d f g h None (Some y) word left right both is = let same : g y ≡ word = cc in rw same at (right y)
 either-word d f g h (Some x) (Some y) word left right both is = let same : h x y ≡ word = cc in rw same at (both x y)
 
-both-word : (d : Domain) (h : ℕ → ℕ → ℕ) (x y : Option ℕ) (word : ℕ) → ((v w : ℕ) → IsWordOf d (h v w)) → of_both h x y ≡ Some word → IsWordOf d word
+both-word : (d : Domain) (h : ℕ → ℕ → ℕ) (x y : Option ℕ) (word : ℕ) → ((v w : ℕ) → IsWordOf d (h v w))
+    → of_both h x y ≡ Some word → IsWordOf d word
 both-word d h None y word both is = absurd (cc)
 both-word d h (Some x) None word both is = absurd (cc)
 both-word d h (Some x) (Some y) word both is = let same : h x y ≡ word = cc in rw same at (both x y)
 
-eval_cast-word : (op : OpName) (a b : Object) (x y : ℕ) → IsWordOf (answer_domain op.kind op.domain) (eval_cast op a b x y)
+eval_cast-word : (op : OpName) (a b : Object) (x y : ℕ)
+    → IsWordOf (answer_domain op.kind op.domain) (eval_cast op a b x y)
 eval_cast-word op a b x y = IsWordOf-eval op.kind op.domain (cast_of a.domain op.domain x) (cast_of b.domain op.domain y)
 
-combined-words : (positions : Positions) (op : OpName) (a b : Object) → AreWordsOf (answer_domain op.kind op.domain) (combined positions op a b)
+combined-words : (positions : Positions) (op : OpName) (a b : Object)
+    → AreWordsOf (answer_domain op.kind op.domain) (combined positions op a b)
 combined-words Union op a b i j word is =
     let answer = answer_domain op.kind op.domain in
     either-word answer (cast_of a.domain answer) (cast_of b.domain answer) (eval_cast op a b) (a.content i j) (b.content i j) word
@@ -70,7 +76,8 @@ combined-words Union op a b i j word is =
 combined-words Intersection op a b i j word is =
     both-word (answer_domain op.kind op.domain) (eval_cast op a b) (a.content i j) (b.content i j) word (eval_cast-word op a b) is
 
-two-words : (computes : TwoInputs) (a b : Object) → is_offered (OfTwo computes a b) ≡ true → AreWordsOf (plan_of_two computes (signature_of a) (signature_of b)).domain (computed_of_two computes a b)
+two-words : (computes : TwoInputs) (a b : Object) → is_offered (OfTwo computes a b) ≡ true
+    → AreWordsOf (plan_of_two computes (signature_of a) (signature_of b)).domain (computed_of_two computes a b)
 two-words (Multiply form semiring) a b offered =
     multiplied-words form semiring (inner_size form a.shape) (in_domain semiring.domain a) (in_domain semiring.domain b)
     (and_parts (offers semiring.multiply semiring.domain) (offers (combines_by semiring.add) (sum_domain semiring)) offered).1
@@ -78,21 +85,25 @@ two-words (Combine positions op) a b offered = combined-words positions op a b
 
 -- ---- one input
 
-function-word : (function : FunctionName) (i j word : ℕ) → IsWordOf (function_answer function) (function_of function i j word)
+function-word : (function : FunctionName) (i j word : ℕ)
+    → IsWordOf (function_answer function) (function_of function i j word)
 function-word (Unary op) i j word = IsWordOf-unary_eval op.kind op.domain word
 function-word (First op value) i j word = IsWordOf-eval op.kind op.domain _ word
 function-word (Second op value) i j word = IsWordOf-eval op.kind op.domain word _
 function-word (Index op scalar) i j word = IsWordOf-index_eval op.kind op.domain word i j _
 
-mapped-word : (d : Domain) (f : ℕ → ℕ) (o : Option ℕ) (word : ℕ) → ((w : ℕ) → IsWordOf d (f w)) → option_map f o ≡ Some word → IsWordOf d word
+mapped-word : (d : Domain) (f : ℕ → ℕ) (o : Option ℕ) (word : ℕ) → ((w : ℕ) → IsWordOf d (f w))
+    → option_map f o ≡ Some word → IsWordOf d word
 mapped-word d f None word each is = absurd (cc)
 mapped-word d f (Some x) word each is = let same : f x ≡ word = cc in rw same at (each x)
 
-kept-word : (test : ℕ → Bool) (o : Option ℕ) (word : ℕ) → option_and_then (λ w. cond (test w) (Some w) None) o ≡ Some word → o ≡ Some word
+kept-word : (test : ℕ → Bool) (o : Option ℕ) (word : ℕ)
+    → option_and_then (λ w. cond (test w) (Some w) None) o ≡ Some word → o ≡ Some word
 kept-word test None word is = absurd (cc)
 kept-word test (Some x) word is = elim (test x) as (λ t. cond t (Some x) None ≡ Some word → Some x ≡ Some word) [ true ↦ λ e. e | false ↦ λ e. absurd (cc) ] is
 
-pub summed-word : (monoid : MonoidName) (words : List ℕ) (word : ℕ) → offers (combines_by monoid.kind) monoid.domain ≡ true → All (IsWordOf monoid.domain) words
+pub summed-word : (monoid : MonoidName) (words : List ℕ) (word : ℕ)
+    → offers (combines_by monoid.kind) monoid.domain ≡ true → All (IsWordOf monoid.domain) words
     → sum_of monoid.kind monoid.domain words ≡ Some word → IsWordOf monoid.domain word
 summed-word monoid [] word offered all is = absurd (cc)
 summed-word monoid (first ∷ words) word offered all is =
@@ -102,7 +113,8 @@ column-word : (first : Bool) (o : Option ℕ) (word : ℕ) → cond first o None
 column-word true o word is = is
 column-word false o word is = absurd (cc)
 
-one-words : (c : Signature) (computes : OneInput) (a : Object) → offers_one computes ≡ true → IsObject a → AreWordsOf (plan_of_one c computes (signature_of a)).domain (computed_of_one c.shape computes a)
+one-words : (c : Signature) (computes : OneInput) (a : Object) → offers_one computes ≡ true → IsObject a
+    → AreWordsOf (plan_of_one c computes (signature_of a)).domain (computed_of_one c.shape computes a)
 one-words c (Apply function) a offered are i j word is =
     mapped-word (function_answer function) (function_of function i j) (in_domain (function_domain function) a i j) word (function-word function i j) is
 one-words c (Select op scalar) a offered are i j word is = are.words i j word (kept-word _ (a.content i j) word is)
@@ -115,7 +127,8 @@ one-words c (Assign region) a offered are i j word is = placed-words a.domain (r
 
 -- ---- any operation
 
-pub operation-words : (c : Signature) (op : Operation Object) → is_offered op ≡ true → All IsObject (inputs_of op) → AreWordsOf (plan_of c (renamed_operation signature_of op)).domain (operation c op)
+pub operation-words : (c : Signature) (op : Operation Object) → is_offered op ≡ true → All IsObject (inputs_of op)
+    → AreWordsOf (plan_of c (renamed_operation signature_of op)).domain (operation c op)
 unfolding operation
 operation-words c (Fill value region) offered are =
     filled-words c.domain (rows_of c.shape) (cols_of c.shape) (rows_in region) (cols_in region) (word_of c.domain value) (IsWordOf-word_of c.domain value)

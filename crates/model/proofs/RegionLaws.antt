@@ -19,7 +19,8 @@ use Rattle.model.specs.Regions.{cols_in, cut_to, extracted, filled, found_at, is
 -- ---- lists
 
 -- behind the last place of a list there is no index
-pub index_at-none : (size : ℕ) (list : Indices) (k : ℕ) → nat_lt k (count_of size list) ≡ false → index_at size list k ≡ None
+pub index_at-none : (size : ℕ) (list : Indices) (k : ℕ) → nat_lt k (count_of size list) ≡ false
+    → index_at size list k ≡ None
 index_at-none size All k past = rw past refl
 index_at-none size (These items) k past = slice_get_past items k (grind (arith, nat_tests))
 
@@ -32,7 +33,8 @@ unlisted_from (x ∷ items) size i n below past =
     rw differs (unlisted_from items size i (n + 1) parts.1 past)
 
 -- indices below a size don't list one that isn't
-pub place_in-none : (size : ℕ) (list : Indices) (i : ℕ) → are_below size list ≡ true → nat_lt i size ≡ false → place_in size list i ≡ None
+pub place_in-none : (size : ℕ) (list : Indices) (i : ℕ) → are_below size list ≡ true → nat_lt i size ≡ false
+    → place_in size list i ≡ None
 place_in-none size All i below past = rw past refl
 place_in-none size (These items) i below past = position_from-zero (λ x. x == i) items ∙ unlisted_from items size i 0 below past
 
@@ -43,7 +45,8 @@ found_at-no_col c None = refl
 found_at-no_col c (Some i) = refl
 
 -- nothing is found outside a shape where no row or no column is
-found-within : (m n : ℕ) (c : Content) (row col : ℕ → Option ℕ) → ((i : ℕ) → nat_lt i m ≡ false → row i ≡ None) → ((j : ℕ) → nat_lt j n ≡ false → col j ≡ None)
+found-within : (m n : ℕ) (c : Content) (row col : ℕ → Option ℕ) → ((i : ℕ) → nat_lt i m ≡ false → row i ≡ None)
+    → ((j : ℕ) → nat_lt j n ≡ false → col j ≡ None)
     → IsWithin m n (λ i j. found_at c (row i) (col j))
 found-within m n c row col rows cols i j outside =
     elim (cases_Bool (nat_lt i m)) [
@@ -51,22 +54,27 @@ found-within m n c row col rows cols i j outside =
       | inr past ↦ rw (rows i past) refl
     ]
 
-found-word : (domain : Domain) (c : Content) (row col : Option ℕ) (word : ℕ) → AreWordsOf domain c → found_at c row col ≡ Some word → IsWordOf domain word
+found-word : (domain : Domain) (c : Content) (row col : Option ℕ) (word : ℕ) → AreWordsOf domain c
+    → found_at c row col ≡ Some word → IsWordOf domain word
 found-word domain c None col word words is = absurd (cc)
 found-word domain c (Some i) None word words is = absurd (cc)
 found-word domain c (Some i) (Some j) word words is = words i j word is
 
-pub extracted-within : (m n : ℕ) (rows cols : Indices) (c : Content) → IsWithin (count_of m rows) (count_of n cols) (extracted m n rows cols c)
+pub extracted-within : (m n : ℕ) (rows cols : Indices) (c : Content)
+    → IsWithin (count_of m rows) (count_of n cols) (extracted m n rows cols c)
 extracted-within m n rows cols c = found-within (count_of m rows) (count_of n cols) c (index_at m rows) (index_at n cols) (index_at-none m rows) (index_at-none n cols)
 
-pub extracted-words : (domain : Domain) (m n : ℕ) (rows cols : Indices) (c : Content) → AreWordsOf domain c → AreWordsOf domain (extracted m n rows cols c)
+pub extracted-words : (domain : Domain) (m n : ℕ) (rows cols : Indices) (c : Content) → AreWordsOf domain c
+    → AreWordsOf domain (extracted m n rows cols c)
 extracted-words domain m n rows cols c words i j word is = found-word domain c (index_at m rows i) (index_at n cols j) word words is
 
-pub placed-within : (m n : ℕ) (rows cols : Indices) (c : Content) → are_below m rows ≡ true → are_below n cols ≡ true → IsWithin m n (placed m n rows cols c)
+pub placed-within : (m n : ℕ) (rows cols : Indices) (c : Content) → are_below m rows ≡ true → are_below n cols ≡ true
+    → IsWithin m n (placed m n rows cols c)
 placed-within m n rows cols c low_rows low_cols =
     found-within m n c (place_in m rows) (place_in n cols) (λ i. place_in-none m rows i low_rows) (λ j. place_in-none n cols j low_cols)
 
-pub placed-words : (domain : Domain) (m n : ℕ) (rows cols : Indices) (c : Content) → AreWordsOf domain c → AreWordsOf domain (placed m n rows cols c)
+pub placed-words : (domain : Domain) (m n : ℕ) (rows cols : Indices) (c : Content) → AreWordsOf domain c
+    → AreWordsOf domain (placed m n rows cols c)
 placed-words domain m n rows cols c words i j word is = found-word domain c (place_in m rows i) (place_in n cols j) word words is
 
 and_false : (b : Bool) → (b && false) ≡ false
@@ -74,21 +82,25 @@ and_false true = refl
 and_false false = refl
 
 -- a position outside a shape isn't listed
-pub is_listed-outside : (m n : ℕ) (rows cols : Indices) → are_below m rows ≡ true → are_below n cols ≡ true → (i j : ℕ) → (nat_lt i m && nat_lt j n) ≡ false → is_listed m n rows cols i j ≡ false
+pub is_listed-outside : (m n : ℕ) (rows cols : Indices) → are_below m rows ≡ true → are_below n cols ≡ true → (i j : ℕ)
+    → (nat_lt i m && nat_lt j n) ≡ false → is_listed m n rows cols i j ≡ false
 is_listed-outside m n rows cols low_rows low_cols i j outside =
     elim (cases_Bool (nat_lt i m)) [
       | inl inside ↦ rw (place_in-none n cols j low_cols (rw inside at outside)) (and_false (is_some (place_in m rows i)))
       | inr past ↦ rw (place_in-none m rows i low_rows past) refl
     ]
 
-pub filled-within : (m n : ℕ) (rows cols : Indices) (word : ℕ) → are_below m rows ≡ true → are_below n cols ≡ true → IsWithin m n (filled m n rows cols word)
+pub filled-within : (m n : ℕ) (rows cols : Indices) (word : ℕ) → are_below m rows ≡ true → are_below n cols ≡ true
+    → IsWithin m n (filled m n rows cols word)
 filled-within m n rows cols word low_rows low_cols i j outside = rw (is_listed-outside m n rows cols low_rows low_cols i j outside) refl
 
-filled-word : (listed : Bool) (word w : ℕ) (o : Option ℕ) → o ≡ (if listed then Some word else None) → o ≡ Some w → word ≡ w
+filled-word : (listed : Bool) (word w : ℕ) (o : Option ℕ) → o ≡ (if listed then Some word else None) → o ≡ Some w
+    → word ≡ w
 filled-word true word w o is some = cc
 filled-word false word w o is some = absurd (cc)
 
-pub filled-words : (domain : Domain) (m n : ℕ) (rows cols : Indices) (word : ℕ) → IsWordOf domain word → AreWordsOf domain (filled m n rows cols word)
+pub filled-words : (domain : Domain) (m n : ℕ) (rows cols : Indices) (word : ℕ) → IsWordOf domain word
+    → AreWordsOf domain (filled m n rows cols word)
 filled-words domain m n rows cols word of i j w is =
     let same = filled-word (is_listed m n rows cols i j) word w (filled m n rows cols word i j) refl is in rw same at of
 
@@ -125,7 +137,8 @@ all_at : (inside : Bool) (k i : ℕ) → (if inside then Some k else None) ≡ S
 all_at true k i there = (refl, cc)
 all_at false k i there = absurd (cc)
 
-listed_apart : (x : ℕ) (items : List ℕ) (k i : ℕ) → list_all (λ y. not (x == y)) items ≡ true → slice_get items k ≡ Some i → (x == i) ≡ false
+listed_apart : (x : ℕ) (items : List ℕ) (k i : ℕ) → list_all (λ y. not (x == y)) items ≡ true
+    → slice_get items k ≡ Some i → (x == i) ≡ false
 listed_apart x [] k i apart there = absurd (cc)
 listed_apart x (y ∷ items) zero i apart there =
     let parts = and_parts (not (x == y)) (list_all (λ y. not (x == y)) items) apart in
@@ -134,7 +147,8 @@ listed_apart x (y ∷ items) zero i apart there =
 listed_apart x (y ∷ items) (suc k) i apart there =
     listed_apart x items k i (and_parts (not (x == y)) (list_all (λ y. not (x == y)) items) apart).1 there
 
-place_of_index : (items : List ℕ) (from k i : ℕ) → is_distinct items ≡ true → slice_get items k ≡ Some i → position_from (λ x. x == i) from items ≡ Some (from + k)
+place_of_index : (items : List ℕ) (from k i : ℕ) → is_distinct items ≡ true → slice_get items k ≡ Some i
+    → position_from (λ x. x == i) from items ≡ Some (from + k)
 place_of_index [] from k i distinct there = absurd (cc)
 place_of_index (x ∷ items) from zero i distinct there =
     let same : x ≡ i = cc in
@@ -144,14 +158,16 @@ place_of_index (x ∷ items) from (suc k) i distinct there =
     rw (listed_apart x items k i parts.0 there) (place_of_index items (from + 1) k i parts.1 there ∙ ap Some (omega arith))
 
 -- where none is repeated, the place of the index that stands at a place of a list is that place
-pub place_in-index_at : (size : ℕ) (list : Indices) (k i : ℕ) → are_distinct list ≡ true → index_at size list k ≡ Some i → place_in size list i ≡ Some k
+pub place_in-index_at : (size : ℕ) (list : Indices) (k i : ℕ) → are_distinct list ≡ true
+    → index_at size list k ≡ Some i → place_in size list i ≡ Some k
 place_in-index_at size All k i distinct there = let at = all_at (nat_lt k size) k i there in rw (← at.1, at.0) refl
 place_in-index_at size (These items) k i distinct there =
     position_from-zero (λ x. x == i) items ∙ place_of_index items 0 k i distinct there ∙ ap Some (omega arith)
 
 -- Where no index is repeated, what is put at lists of rows and columns stands at the k-th row and the l-th column as it
 -- stood at (k, l).
-pub placed_at_listed : (m n : ℕ) (rows cols : Indices) (c : Content) (k l i j : ℕ) → are_distinct rows ≡ true → are_distinct cols ≡ true
+pub placed_at_listed : (m n : ℕ) (rows cols : Indices) (c : Content) (k l i j : ℕ) → are_distinct rows ≡ true
+    → are_distinct cols ≡ true
     → index_at m rows k ≡ Some i → index_at n cols l ≡ Some j → placed m n rows cols c i j ≡ c k l
 placed_at_listed m n rows cols c k l i j apart_rows apart_cols row col =
     rw (place_in-index_at m rows k i apart_rows row, place_in-index_at n cols l j apart_cols col) refl

@@ -39,14 +39,18 @@ listed-all m n i j =
     ]
 
 -- where all positions are written, and neither map has anything outside them
-chosen : (here : Bool) (new old : Option ℕ) → (here ≡ false → new ≡ None) → (here ≡ false → old ≡ None) → cond here new old ≡ new
+chosen : (here : Bool) (new old : Option ℕ) → (here ≡ false → new ≡ None) → (here ≡ false → old ≡ None)
+    → cond here new old ≡ new
 chosen true new old none gone = refl
 chosen false new old none gone = gone refl ∙ sym (none refl)
 
 -- to assign to all rows and columns without mask and accumulator is to replace
-pub assign-all : (out : Out Object) (a : Object) → out.mask ≡ None → out.accum ≡ None → out.desc.complement ≡ false → out.desc.transpose_first ≡ false
-    → IsWithin (rows_of out.c.shape) (cols_of out.c.shape) out.c.content → IsWithin (rows_of out.c.shape) (cols_of out.c.shape) a.content
-    → (i j : ℕ) → result_of out (OfOne (Assign (region.Two All All)) a) i j ≡ cast_content a.domain out.c.domain a.content i j
+pub assign-all : (out : Out Object) (a : Object) → out.mask ≡ None → out.accum ≡ None → out.desc.complement ≡ false
+    → out.desc.transpose_first ≡ false
+    → IsWithin (rows_of out.c.shape) (cols_of out.c.shape) out.c.content
+    → IsWithin (rows_of out.c.shape) (cols_of out.c.shape) a.content
+    → (i j : ℕ)
+    → result_of out (OfOne (Assign (region.Two All All)) a) i j ≡ cast_content a.domain out.c.domain a.content i j
 unfolding result_of operation
 assign-all out a no_mask no_accum plain straight old new i j =
     let m = rows_of out.c.shape in
@@ -56,5 +60,6 @@ assign-all out a no_mask no_accum plain straight old new i j =
     (λ outside. rw (new i j outside) refl) (old i j))
 
 -- one shape and then another keep what fits both
-pub cut-twice : (m n k l : ℕ) (c : Content) (i j : ℕ) → cut_to m n (cut_to k l c) i j ≡ (if (nat_lt i m && nat_lt j n) && (nat_lt i k && nat_lt j l) then c i j else None)
+pub cut-twice : (m n k l : ℕ) (c : Content) (i j : ℕ)
+    → cut_to m n (cut_to k l c) i j ≡ (if (nat_lt i m && nat_lt j n) && (nat_lt i k && nat_lt j l) then c i j else None)
 cut-twice m n k l c i j = elim (cases_Bool (nat_lt i m && nat_lt j n)) [ inl inside ↦ rw inside refl | inr outside ↦ rw outside refl ]

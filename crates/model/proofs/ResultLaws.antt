@@ -56,7 +56,8 @@ abbrev pub KeepsInside : Object → Type 0
 KeepsInside o = IsWithin (rows_of o.shape) (cols_of o.shape) o.content
 
 -- a product of maps that lie inside m rows, and inside n columns
-product-within : (semiring : SemiringName) (inner m n : ℕ) (a b : Content) → ((i k : ℕ) → nat_lt i m ≡ false → a i k ≡ None)
+product-within : (semiring : SemiringName) (inner m n : ℕ) (a b : Content)
+    → ((i k : ℕ) → nat_lt i m ≡ false → a i k ≡ None)
     → ((k j : ℕ) → nat_lt j n ≡ false → b k j ≡ None) → IsWithin m n (product semiring inner a b)
 product-within semiring inner m n a b first second i j outside =
     elim (cases_Bool (nat_lt i m)) [
@@ -65,10 +66,12 @@ product-within semiring inner m n a b first second i j outside =
     ]
 
 -- an input in another domain has nothing below its rows, and nothing behind its columns
-no_row : (domain : Domain) (o : Object) → KeepsInside o → (i k : ℕ) → nat_lt i (rows_of o.shape) ≡ false → in_domain domain o i k ≡ None
+no_row : (domain : Domain) (o : Object) → KeepsInside o → (i k : ℕ) → nat_lt i (rows_of o.shape) ≡ false
+    → in_domain domain o i k ≡ None
 no_row domain o inside i k past = cast_content-within o.domain domain (rows_of o.shape) (cols_of o.shape) o.content inside i k (rw past refl)
 
-no_col : (domain : Domain) (o : Object) → KeepsInside o → (k j : ℕ) → nat_lt j (cols_of o.shape) ≡ false → in_domain domain o k j ≡ None
+no_col : (domain : Domain) (o : Object) → KeepsInside o → (k j : ℕ) → nat_lt j (cols_of o.shape) ≡ false
+    → in_domain domain o k j ≡ None
 no_col domain o inside k j past =
     cast_content-within o.domain domain (rows_of o.shape) (cols_of o.shape) o.content inside k j (rw past (beyond_col (nat_lt k (rows_of o.shape))))
 
@@ -79,7 +82,8 @@ and_turned false true h = refl
 and_turned false false h = refl
 
 -- a product of objects that are of the kinds of its form
-multiplied-within : (form : Form) (semiring : SemiringName) (a b : Object) → are_factors form a.shape b.shape ≡ true → KeepsInside a → KeepsInside b
+multiplied-within : (form : Form) (semiring : SemiringName) (a b : Object) → are_factors form a.shape b.shape ≡ true
+    → KeepsInside a → KeepsInside b
     → let shape = product_shape form a.shape b.shape in IsWithin (rows_of shape) (cols_of shape)
     (multiplied form semiring (inner_size form a.shape) (in_domain semiring.domain a) (in_domain semiring.domain b))
 multiplied-within MatrixMatrix semiring a b kinds first second =
@@ -96,7 +100,8 @@ multiplied-within VectorMatrix semiring a b kinds first second =
     (and_turned (nat_lt i (cols_of b.shape)) (nat_lt j 1) outside)
 
 -- where neither has a value, their union and their intersection have none
-combined-within : (positions : Positions) (op : OpName) (a b : Object) → same_shape a.shape b.shape ≡ true → KeepsInside a → KeepsInside b
+combined-within : (positions : Positions) (op : OpName) (a b : Object) → same_shape a.shape b.shape ≡ true
+    → KeepsInside a → KeepsInside b
     → IsWithin (rows_of a.shape) (cols_of a.shape) (combined positions op a b)
 combined-within Union op a b same first second i j outside =
     let shapes = same_shape-rows a.shape b.shape same in
@@ -109,7 +114,8 @@ row_words-none : (c : Content) (i : ℕ) (ks : List ℕ) → ((k : ℕ) → c i 
 row_words-none c i [] none = refl
 row_words-none c i (k ∷ ks) none = rw (none k) (row_words-none c i ks none)
 
-row_sums-within : (monoid : MonoidName) (cols m : ℕ) (c : Content) → ((i k : ℕ) → nat_lt i m ≡ false → c i k ≡ None) → IsWithin m 1 (row_sums monoid cols c)
+row_sums-within : (monoid : MonoidName) (cols m : ℕ) (c : Content) → ((i k : ℕ) → nat_lt i m ≡ false → c i k ≡ None)
+    → IsWithin m 1 (row_sums monoid cols c)
 row_sums-within monoid cols m c none i j outside =
     elim (cases_Bool (j == 0)) [
       | inl first ↦
@@ -122,12 +128,14 @@ row_sums-within monoid cols m c none i j outside =
 abbrev IsFit : Plan → Type 0
 IsFit plan = (plan.kinds ≡ true) × (plan.fits ≡ true) × (plan.inside ≡ true)
 
-transposed-within_shape : (shape : Shape) (c : Content) → is_matrix shape ≡ true → IsWithin (rows_of shape) (cols_of shape) c
+transposed-within_shape : (shape : Shape) (c : Content) → is_matrix shape ≡ true
+    → IsWithin (rows_of shape) (cols_of shape) c
     → IsWithin (rows_of (transposed_shape shape)) (cols_of (transposed_shape shape)) (transposed_content c)
 transposed-within_shape (Two m n) c is inside = λ i j outside. inside j i (and_turned (nat_lt i n) (nat_lt j m) outside)
 transposed-within_shape (One n) c is inside = absurd (cc)
 
-one-within : (c : Signature) (computes : OneInput) (a : Object) → IsFit (plan_of_one c computes (signature_of a)) → KeepsInside a
+one-within : (c : Signature) (computes : OneInput) (a : Object) → IsFit (plan_of_one c computes (signature_of a))
+    → KeepsInside a
     → let shape = (plan_of_one c computes (signature_of a)).shape in IsWithin (rows_of shape) (cols_of shape) (computed_of_one c.shape computes a)
 one-within c (Apply function) a fit inside i j outside = rw (inside i j outside) refl
 one-within c (Select op scalar) a fit inside i j outside = rw (inside i j outside) refl
@@ -140,7 +148,8 @@ one-within c (Assign region) a fit inside i j outside =
     placed-within (rows_of c.shape) (cols_of c.shape) (rows_in region) (cols_in region) a.content parts.0 parts.1 i j outside
 one-within c (ReduceRows monoid) a fit inside i j outside = row_sums-within monoid (cols_of a.shape) (rows_of a.shape) (in_domain monoid.domain a) (no_row monoid.domain a inside) i j outside
 
-pub operation-within : (c : Signature) (op : Operation Object) → IsFit (plan_of c (renamed_operation signature_of op)) → All KeepsInside (inputs_of op)
+pub operation-within : (c : Signature) (op : Operation Object) → IsFit (plan_of c (renamed_operation signature_of op))
+    → All KeepsInside (inputs_of op)
     → let shape = (plan_of c (renamed_operation signature_of op)).shape in IsWithin (rows_of shape) (cols_of shape) (operation c op)
 unfolding operation
 operation-within c (Fill value region) fit inside =
@@ -163,7 +172,8 @@ transposed_if-within : (flag : Bool) (o : Object) → KeepsInside o → KeepsIns
 transposed_if-within true o inside = transposed_as-within o.domain o.shape o.content inside
 transposed_if-within false o inside = inside
 
-transposed-within : (desc : Desc) (op : Operation Object) → All KeepsInside (inputs_of op) → All KeepsInside (inputs_of (transposed transposed_object desc op))
+transposed-within : (desc : Desc) (op : Operation Object) → All KeepsInside (inputs_of op)
+    → All KeepsInside (inputs_of (transposed transposed_object desc op))
 transposed-within desc (Fill value region) inside = All-nil KeepsInside
 transposed-within desc (OfOne computes a) inside =
     All-cons KeepsInside (transposed_if transposed_object (transposes_one computes desc) a) []
@@ -176,11 +186,13 @@ transposed-within desc (OfTwo computes a b) inside =
     All-cons KeepsInside a' (b' ∷ []) (transposed_if-within desc.transpose_first a first)
     (All-cons KeepsInside b' [] (transposed_if-within desc.transpose_second b second) (All-nil KeepsInside))
 
-transposed_if-signature : (flag : Bool) (o : Object) → signature_of (transposed_if transposed_object flag o) ≡ transposed_if transposed_signature flag (signature_of o)
+transposed_if-signature : (flag : Bool) (o : Object)
+    → signature_of (transposed_if transposed_object flag o) ≡ transposed_if transposed_signature flag (signature_of o)
 transposed_if-signature true o = refl
 transposed_if-signature false o = refl
 
-pub transposed-signature : (desc : Desc) (op : Operation Object) → renamed_operation signature_of (transposed transposed_object desc op) ≡ transposed transposed_signature desc (renamed_operation signature_of op)
+pub transposed-signature : (desc : Desc) (op : Operation Object)
+    → renamed_operation signature_of (transposed transposed_object desc op) ≡ transposed transposed_signature desc (renamed_operation signature_of op)
 transposed-signature desc (Fill value region) = refl
 transposed-signature desc (OfOne computes a) = rw (transposed_if-signature (transposes_one computes desc) a) refl
 transposed-signature desc (OfTwo computes a b) = rw (transposed_if-signature desc.transpose_first a, transposed_if-signature desc.transpose_second b) refl
@@ -200,13 +212,15 @@ either-none : (test : Bool) (x y : Option ℕ) → x ≡ None → y ≡ None →
 either-none true x y first second = first
 either-none false x y first second = second
 
-landed-within : (out : Out Object) (is_written : ℕ → ℕ → Bool) (values : Content) (rows cols : ℕ) → IsWithin rows cols out.c.content → IsWithin rows cols values
+landed-within : (out : Out Object) (is_written : ℕ → ℕ → Bool) (values : Content) (rows cols : ℕ)
+    → IsWithin rows cols out.c.content → IsWithin rows cols values
     → IsWithin rows cols (landed out is_written values)
 landed-within out is_written values rows cols old new i j outside =
     either-none (is_written i j) (accumulated_by out.accum (out.c.content i j) (values i j)) (out.c.content i j)
     (rw (old i j outside, new i j outside) (accumulated-none out.accum)) (old i j outside)
 
-masked-within : (out : Out Object) (z : Content) (rows cols : ℕ) → IsWithin rows cols out.c.content → IsWithin rows cols z → IsWithin rows cols (masked out z)
+masked-within : (out : Out Object) (z : Content) (rows cols : ℕ) → IsWithin rows cols out.c.content
+    → IsWithin rows cols z → IsWithin rows cols (masked out z)
 masked-within out z rows cols old new i j outside =
     chosen-none (mask_set out i j) out.desc.replace (z i j) (out.c.content i j) (new i j outside) (old i j outside)
 
@@ -215,43 +229,52 @@ abbrev AccumulatesIn : Domain → Option OpName → Type 0
 AccumulatesIn domain None = Unit {0}
 AccumulatesIn domain (Some op) = answer_domain op.kind op.domain ≡ domain
 
-accumulated-word : (domain : Domain) (op : OpName) (old new : Option ℕ) (word : ℕ) → answer_domain op.kind op.domain ≡ domain
-    → ((w : ℕ) → old ≡ Some w → IsWordOf domain w) → ((w : ℕ) → new ≡ Some w → IsWordOf domain w) → accumulated op old new ≡ Some word → IsWordOf domain word
+accumulated-word : (domain : Domain) (op : OpName) (old new : Option ℕ) (word : ℕ)
+    → answer_domain op.kind op.domain ≡ domain
+    → ((w : ℕ) → old ≡ Some w → IsWordOf domain w) → ((w : ℕ) → new ≡ Some w → IsWordOf domain w)
+    → accumulated op old new ≡ Some word → IsWordOf domain word
 accumulated-word domain op None new word gives olds news is = news word is
 accumulated-word domain op (Some x) None word gives olds news is = olds word is
 accumulated-word domain op (Some x) (Some y) word gives olds news is =
     let same : eval_of op.kind op.domain x y ≡ word = cc in
     subst (λ (d : Domain). IsWordOf d word) gives (rw same at (IsWordOf-eval op.kind op.domain x y))
 
-accumulated_by-word : (domain : Domain) (accum : Option OpName) (old new : Option ℕ) (word : ℕ) → AccumulatesIn domain accum
-    → ((w : ℕ) → old ≡ Some w → IsWordOf domain w) → ((w : ℕ) → new ≡ Some w → IsWordOf domain w) → accumulated_by accum old new ≡ Some word → IsWordOf domain word
+accumulated_by-word : (domain : Domain) (accum : Option OpName) (old new : Option ℕ) (word : ℕ)
+    → AccumulatesIn domain accum
+    → ((w : ℕ) → old ≡ Some w → IsWordOf domain w) → ((w : ℕ) → new ≡ Some w → IsWordOf domain w)
+    → accumulated_by accum old new ≡ Some word → IsWordOf domain word
 accumulated_by-word domain None old new word gives olds news is = news word is
 accumulated_by-word domain (Some op) old new word gives olds news is = accumulated-word domain op old new word gives olds news is
 
-chosen-word : (domain : Domain) (test replace : Bool) (x y : Option ℕ) (word : ℕ) → (x ≡ Some word → IsWordOf domain word) → (y ≡ Some word → IsWordOf domain word)
+chosen-word : (domain : Domain) (test replace : Bool) (x y : Option ℕ) (word : ℕ)
+    → (x ≡ Some word → IsWordOf domain word) → (y ≡ Some word → IsWordOf domain word)
     → cond test x (cond replace None y) ≡ Some word → IsWordOf domain word
 chosen-word domain true replace x y word first second is = first is
 chosen-word domain false true x y word first second is = absurd (cc)
 chosen-word domain false false x y word first second is = second is
 
-either-word : (domain : Domain) (test : Bool) (x y : Option ℕ) (word : ℕ) → (x ≡ Some word → IsWordOf domain word) → (y ≡ Some word → IsWordOf domain word)
+either-word : (domain : Domain) (test : Bool) (x y : Option ℕ) (word : ℕ) → (x ≡ Some word → IsWordOf domain word)
+    → (y ≡ Some word → IsWordOf domain word)
     → cond test x y ≡ Some word → IsWordOf domain word
 either-word domain true x y word first second is = first is
 either-word domain false x y word first second is = second is
 
-landed-words : (out : Out Object) (is_written : ℕ → ℕ → Bool) (values : Content) (domain : Domain) → AccumulatesIn domain out.accum → AreWordsOf domain out.c.content → AreWordsOf domain values
+landed-words : (out : Out Object) (is_written : ℕ → ℕ → Bool) (values : Content) (domain : Domain)
+    → AccumulatesIn domain out.accum → AreWordsOf domain out.c.content → AreWordsOf domain values
     → AreWordsOf domain (landed out is_written values)
 landed-words out is_written values domain gives old new i j word is =
     either-word domain (is_written i j) (accumulated_by out.accum (out.c.content i j) (values i j)) (out.c.content i j) word
     (accumulated_by-word domain out.accum (out.c.content i j) (values i j) word gives (old i j) (new i j)) (old i j word) is
 
-masked-words : (out : Out Object) (z : Content) (domain : Domain) → AreWordsOf domain out.c.content → AreWordsOf domain z → AreWordsOf domain (masked out z)
+masked-words : (out : Out Object) (z : Content) (domain : Domain) → AreWordsOf domain out.c.content
+    → AreWordsOf domain z → AreWordsOf domain (masked out z)
 masked-words out z domain old new i j word is =
     chosen-word domain (mask_set out i j) out.desc.replace (z i j) (out.c.content i j) word (new i j word) (old i j word) is
 
 -- ---- accepted operations
 
-accumulator_gives : (domain : Domain) (accum : Option OpName) → option_map_or (accumulates domain) accum true ≡ true → AccumulatesIn domain accum
+accumulator_gives : (domain : Domain) (accum : Option OpName) → option_map_or (accumulates domain) accum true ≡ true
+    → AccumulatesIn domain accum
 accumulator_gives domain None h = tt
 accumulator_gives domain (Some op) h =
     same_domain-true (answer_domain op.kind op.domain) domain
@@ -260,7 +283,8 @@ accumulator_gives domain (Some op) h =
 -- what an accepted operation leaves lies inside the shape of its output
 pub result-within : (out : Out Object) (op : Operation Object)
     → operation_fault (renamed_out signature_of out) (renamed_operation signature_of op) ≡ None
-    → KeepsInside out.c → All KeepsInside (inputs_of op) → IsWithin (rows_of out.c.shape) (cols_of out.c.shape) (result_of out op)
+    → KeepsInside out.c → All KeepsInside (inputs_of op)
+    → IsWithin (rows_of out.c.shape) (cols_of out.c.shape) (result_of out op)
 unfolding result_of
 result-within out op accepted old inputs =
     let c = signature_of out.c in

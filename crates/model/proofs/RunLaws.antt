@@ -20,7 +20,9 @@ had_memory-right : (xs ys : List Answer) → HadMemory (xs ++ ys) → HadMemory 
 had_memory-right [] ys h = h
 had_memory-right (x ∷ xs) ys h = had_memory-right xs ys (All-tail IsNoWant x (xs ++ ys) h)
 
-pub run-at_once : (number : ℕ) (before : State) (readings : List (Reading File)) (answers : List Answer) → IsRun number before readings answers → HadMemory answers → answers ≡ answers_from number before.environment readings
+pub run-at_once : (number : ℕ) (before : State) (readings : List (Reading File)) (answers : List Answer)
+    → IsRun number before readings answers → HadMemory answers
+    → answers ≡ answers_from number before.environment readings
 unfolding IsRun answers_from
 run-at_once number before [] answers none had = none
 run-at_once number before (reading ∷ readings) answers (said, after, later, transposed, run, split) had =
@@ -57,7 +59,8 @@ had_memory (a ∷ answers) none =
     All-cons IsNoWant a answers (λ is. none.no_refusal (here OutOfMemory is), λ is. none.no_failure (here InvalidObject is)) (had_memory answers others)
 
 -- what is written by a run
-pub ran : (readings : List (Reading File)) (old new : List ℕ) (answers : List Answer) → IsRun 1 first_state readings answers → new ≡ old ++ flat_map answer_text answers → Ran readings old new
+pub ran : (readings : List (Reading File)) (old new : List ℕ) (answers : List Answer)
+    → IsRun 1 first_state readings answers → new ≡ old ++ flat_map answer_text answers → Ran readings old new
 unfolding out_of_readings
 ran readings old new answers run written =
     let at_once : HadMemory answers → new ≡ old ++ out_of_readings readings =

@@ -74,7 +74,8 @@ with_object-are_objects same env name new count are is other o found =
     chosen-is_object (same name other) new (env.find_object other) o is (are other o) found
 
 -- what is found without one name was found before
-left-is_object : (same : Bool) (old : Option Object) (o : Object) → (old ≡ Some o → IsObject o) → cond same None old ≡ Some o → IsObject o
+left-is_object : (same : Bool) (old : Option Object) (o : Object) → (old ≡ Some o → IsObject o)
+    → cond same None old ≡ Some o → IsObject o
 left-is_object true old o olds found = absurd (cc)
 left-is_object false old o olds found = olds found
 

@@ -42,7 +42,8 @@ MayBeOf d o = (word : ℕ) → o ≡ Some word → IsWordOf d word
 
 -- ---- operators
 
-eval-stored : (op : OpName) (from other : Domain) (x y : ℕ) → are_compatible from op.domain ≡ true → are_compatible other op.domain ≡ true
+eval-stored : (op : OpName) (from other : Domain) (x y : ℕ) → are_compatible from op.domain ≡ true
+    → are_compatible other op.domain ≡ true
     → IsWordOf from x → IsWordOf other y
     → eval_of op.kind op.domain (cast_of from op.domain x) (cast_of other op.domain y) ≡ eval_of op.kind op.domain x y
 eval-stored op from other x y h g p q =
@@ -77,7 +78,8 @@ alone-stored : (kind : BinaryKind) (from d : Domain) (x : ℕ) → are_compatibl
     → cast_of from (answer_domain kind d) x ≡ cast_of d (answer_domain kind d) x
 alone-stored kind from d x h p = answer_either (λ answer. cast_of from answer x ≡ cast_of d answer x) d (own-cast from d x h p) (truth-cast from d x p) kind
 
-index-stored : (kind : IndexKind) (d from : Domain) (word i j s : ℕ) → takes_index kind d from ≡ true → IsWordOf from word
+index-stored : (kind : IndexKind) (d from : Domain) (word i j s : ℕ) → takes_index kind d from ≡ true
+    → IsWordOf from word
     → index_eval_of kind d (cast_of from d word) i j s ≡ index_eval_of kind d word i j s
 index-stored index.ValueEq d from word i j s h p = let same = value_of-cast from d word h p in rw same refl
 index-stored index.ValueNe d from word i j s h p = let same = value_of-cast from d word h p in rw same refl
@@ -87,7 +89,8 @@ index-stored index.ValueGt d from word i j s h p = let same = value_of-cast from
 index-stored index.ValueGe d from word i j s h p = let same = value_of-cast from d word h p in rw same refl
 index-stored _ d from word i j s h p = refl
 
-function-stored : (function : FunctionName) (from : Domain) (i j word : ℕ) → takes function from ≡ true → IsWordOf from word
+function-stored : (function : FunctionName) (from : Domain) (i j word : ℕ) → takes function from ≡ true
+    → IsWordOf from word
     → function_of function i j (cast_of from (function_domain function) word) ≡ function_of function i j word
 function-stored (Unary op) from i j word h p =
     let same = value_of-cast from op.domain word h p in λ t. word_of op.domain (unary_formula op.kind (same t))
@@ -97,7 +100,8 @@ function-stored (Index op scalar) from i j word h p = index-stored op.kind op.do
 
 -- ---- operations that go position by position
 
-either-stored : (op : OpName) (a b : Object) (x y : Option ℕ) → are_compatible a.domain op.domain ≡ true → are_compatible b.domain op.domain ≡ true
+either-stored : (op : OpName) (a b : Object) (x y : Option ℕ) → are_compatible a.domain op.domain ≡ true
+    → are_compatible b.domain op.domain ≡ true
     → MayBeOf a.domain x → MayBeOf b.domain y → let answer = answer_domain op.kind op.domain in
     of_either (cast_of a.domain answer) (cast_of b.domain answer) (eval_cast op a b) x y
     ≡ of_either (cast_of op.domain answer) (cast_of op.domain answer) (eval_of op.kind op.domain) x y
@@ -106,39 +110,46 @@ either-stored op a b (Some x) None h g p q = ap Some (alone-stored op.kind a.dom
 either-stored op a b None (Some y) h g p q = ap Some (alone-stored op.kind b.domain op.domain y g (q y refl))
 either-stored op a b (Some x) (Some y) h g p q = ap Some (eval-stored op a.domain b.domain x y h g (p x refl) (q y refl))
 
-pub union-stored : (op : OpName) (a b : Object) → are_compatible a.domain op.domain ≡ true → are_compatible b.domain op.domain ≡ true
+pub union-stored : (op : OpName) (a b : Object) → are_compatible a.domain op.domain ≡ true
+    → are_compatible b.domain op.domain ≡ true
     → AreWordsOf a.domain a.content → AreWordsOf b.domain b.content → (i j : ℕ) → let answer = answer_domain op.kind op.domain in
     union op a b i j ≡ of_either (cast_of op.domain answer) (cast_of op.domain answer) (eval_of op.kind op.domain) (a.content i j) (b.content i j)
 union-stored op a b h g first second i j = either-stored op a b (a.content i j) (b.content i j) h g (first i j) (second i j)
 
-both-stored : (op : OpName) (a b : Object) (x y : Option ℕ) → are_compatible a.domain op.domain ≡ true → are_compatible b.domain op.domain ≡ true
+both-stored : (op : OpName) (a b : Object) (x y : Option ℕ) → are_compatible a.domain op.domain ≡ true
+    → are_compatible b.domain op.domain ≡ true
     → MayBeOf a.domain x → MayBeOf b.domain y → of_both (eval_cast op a b) x y ≡ of_both (eval_of op.kind op.domain) x y
 both-stored op a b None y h g p q = refl
 both-stored op a b (Some x) None h g p q = refl
 both-stored op a b (Some x) (Some y) h g p q = ap Some (eval-stored op a.domain b.domain x y h g (p x refl) (q y refl))
 
-pub intersection-stored : (op : OpName) (a b : Object) → are_compatible a.domain op.domain ≡ true → are_compatible b.domain op.domain ≡ true
+pub intersection-stored : (op : OpName) (a b : Object) → are_compatible a.domain op.domain ≡ true
+    → are_compatible b.domain op.domain ≡ true
     → AreWordsOf a.domain a.content → AreWordsOf b.domain b.content → (i j : ℕ)
     → intersection op a b i j ≡ of_both (eval_of op.kind op.domain) (a.content i j) (b.content i j)
 intersection-stored op a b h g first second i j = both-stored op a b (a.content i j) (b.content i j) h g (first i j) (second i j)
 
-each-stored : (f : ℕ → ℕ) (g : ℕ → ℕ) (d : Domain) (o : Option ℕ) → ((word : ℕ) → IsWordOf d word → f (g word) ≡ f word) → MayBeOf d o
+each-stored : (f : ℕ → ℕ) (g : ℕ → ℕ) (d : Domain) (o : Option ℕ)
+    → ((word : ℕ) → IsWordOf d word → f (g word) ≡ f word) → MayBeOf d o
     → option_map f (option_map g o) ≡ option_map f o
 each-stored f g d None same p = refl
 each-stored f g d (Some word) same p = ap Some (same word (p word refl))
 
-pub applied-stored : (function : FunctionName) (a : Object) → takes function a.domain ≡ true → AreWordsOf a.domain a.content → (i j : ℕ)
+pub applied-stored : (function : FunctionName) (a : Object) → takes function a.domain ≡ true
+    → AreWordsOf a.domain a.content → (i j : ℕ)
     → applied function (in_domain (function_domain function) a) i j ≡ applied function a.content i j
 applied-stored function a h words i j =
     each-stored (function_of function i j) (cast_of a.domain (function_domain function)) a.domain (a.content i j)
     (λ word p. function-stored function a.domain i j word h p) (words i j)
 
-kept-stored : (test same : ℕ → Bool) (d : Domain) (o : Option ℕ) → ((word : ℕ) → IsWordOf d word → test word ≡ same word) → MayBeOf d o
+kept-stored : (test same : ℕ → Bool) (d : Domain) (o : Option ℕ)
+    → ((word : ℕ) → IsWordOf d word → test word ≡ same word) → MayBeOf d o
     → option_and_then (λ word. cond (test word) (Some word) None) o ≡ option_and_then (λ word. cond (same word) (Some word) None) o
 kept-stored test same d None is p = refl
 kept-stored test same d (Some word) is p = ap (λ b. cond b (Some word) None) (is word (p word refl))
 
-pub selected-stored : (op : IndexName) (s : ℕ) (a : Object) → takes_index op.kind op.domain a.domain ≡ true → AreWordsOf a.domain a.content → (i j : ℕ)
+pub selected-stored : (op : IndexName) (s : ℕ) (a : Object) → takes_index op.kind op.domain a.domain ≡ true
+    → AreWordsOf a.domain a.content → (i j : ℕ)
     → kept_where (passes_cast op s a) a.content i j ≡ kept_where (λ i j word. passes op.kind op.domain word i j s) a.content i j
 selected-stored op s a h words i j =
     kept-stored (passes_cast op s a i j) (λ word. passes op.kind op.domain word i j s) a.domain (a.content i j)
@@ -146,24 +157,30 @@ selected-stored op s a h words i j =
 
 -- ---- products
 
-product_of-stored : (semiring : SemiringName) (from other : Domain) (x y : Option ℕ) → are_compatible from semiring.domain ≡ true → are_compatible other semiring.domain ≡ true
-    → MayBeOf from x → MayBeOf other y → product_of semiring (option_map (cast_of from semiring.domain) x) (option_map (cast_of other semiring.domain) y) ≡ product_of semiring x y
+product_of-stored : (semiring : SemiringName) (from other : Domain) (x y : Option ℕ)
+    → are_compatible from semiring.domain ≡ true → are_compatible other semiring.domain ≡ true
+    → MayBeOf from x → MayBeOf other y → product_of semiring (option_map (cast_of from semiring.domain) x)
+    (option_map (cast_of other semiring.domain) y) ≡ product_of semiring x y
 product_of-stored semiring from other None y h g p q = refl
 product_of-stored semiring from other (Some x) None h g p q = refl
 product_of-stored semiring from other (Some x) (Some y) h g p q =
     let op : OpName = record { kind = semiring.multiply; domain = semiring.domain } in
     ap Some (eval-stored op from other x y h g (p x refl) (q y refl))
 
-product-stored : (semiring : SemiringName) (n : ℕ) (from other : Domain) (a b : Content) → are_compatible from semiring.domain ≡ true → are_compatible other semiring.domain ≡ true
+product-stored : (semiring : SemiringName) (n : ℕ) (from other : Domain) (a b : Content)
+    → are_compatible from semiring.domain ≡ true → are_compatible other semiring.domain ≡ true
     → AreWordsOf from a → AreWordsOf other b → (i j : ℕ)
-    → product semiring n (cast_content from semiring.domain a) (cast_content other semiring.domain b) i j ≡ product semiring n a b i j
+    → product semiring n (cast_content from semiring.domain a)
+    (cast_content other semiring.domain b) i j ≡ product semiring n a b i j
 unfolding product
 product-stored semiring n from other a b h g first second i j =
     λ t. semiring_sum_of semiring (filter_map (λ k. product_of-stored semiring from other (a i k) (b k j) h g (first i k) (second k j) t) (below n))
 
-pub multiplied-stored : (form : Form) (semiring : SemiringName) (n : ℕ) (a b : Object) → are_compatible a.domain semiring.domain ≡ true → are_compatible b.domain semiring.domain ≡ true
+pub multiplied-stored : (form : Form) (semiring : SemiringName) (n : ℕ) (a b : Object)
+    → are_compatible a.domain semiring.domain ≡ true → are_compatible b.domain semiring.domain ≡ true
     → AreWordsOf a.domain a.content → AreWordsOf b.domain b.content → (i j : ℕ)
-    → multiplied form semiring n (in_domain semiring.domain a) (in_domain semiring.domain b) i j ≡ multiplied form semiring n a.content b.content i j
+    → multiplied form semiring n (in_domain semiring.domain a)
+    (in_domain semiring.domain b) i j ≡ multiplied form semiring n a.content b.content i j
 multiplied-stored MatrixMatrix semiring n a b h g first second i j = product-stored semiring n a.domain b.domain a.content b.content h g first second i j
 multiplied-stored MatrixVector semiring n a b h g first second i j = product-stored semiring n a.domain b.domain a.content b.content h g first second i j
 multiplied-stored VectorMatrix semiring n a b h g first second i j =
@@ -171,7 +188,8 @@ multiplied-stored VectorMatrix semiring n a b h g first second i j =
 
 -- ---- sums
 
-row_words-cast : (f : ℕ → ℕ) (c : Content) (i : ℕ) (ks : List ℕ) → filter_map (λ k. option_map f (c i k)) ks ≡ map f (filter_map (λ k. c i k) ks)
+row_words-cast : (f : ℕ → ℕ) (c : Content) (i : ℕ) (ks : List ℕ)
+    → filter_map (λ k. option_map f (c i k)) ks ≡ map f (filter_map (λ k. c i k) ks)
 row_words-cast f c i [] = refl
 row_words-cast f c i (k ∷ ks) =
     let rest = row_words-cast f c i ks in
@@ -186,7 +204,8 @@ all_words-cast f c cols (k ∷ ks) =
     ∙ ap (λ ws. map f (row_words cols c k) ++ ws) (all_words-cast f c cols ks)
     ∙ sym (map-append f (row_words cols c k) (flat_map (row_words cols c) ks))
 
-row_words-are : (d : Domain) (c : Content) (i : ℕ) (ks : List ℕ) → AreWordsOf d c → All (IsWordOf d) (filter_map (λ k. c i k) ks)
+row_words-are : (d : Domain) (c : Content) (i : ℕ) (ks : List ℕ) → AreWordsOf d c
+    → All (IsWordOf d) (filter_map (λ k. c i k) ks)
 row_words-are d c i [] words = All-nil (IsWordOf d)
 row_words-are d c i (k ∷ ks) words =
     let rest = row_words-are d c i ks words in
@@ -194,17 +213,20 @@ row_words-are d c i (k ∷ ks) words =
     [ None ↦ λ none. rest | Some word ↦ λ some. All-cons (IsWordOf d) word (filter_map (λ k. c i k) ks) (words i k word some) rest ] in
     found (c i k) refl
 
-all_words-are : (d : Domain) (c : Content) (cols : ℕ) (ks : List ℕ) → AreWordsOf d c → All (IsWordOf d) (flat_map (row_words cols c) ks)
+all_words-are : (d : Domain) (c : Content) (cols : ℕ) (ks : List ℕ) → AreWordsOf d c
+    → All (IsWordOf d) (flat_map (row_words cols c) ks)
 all_words-are d c cols [] words = All-nil (IsWordOf d)
 all_words-are d c cols (k ∷ ks) words =
     All-append (IsWordOf d) (row_words cols c k) (flat_map (row_words cols c) ks) (row_words-are d c k (below cols) words) (all_words-are d c cols ks words)
 
 -- the words of a row of a map that is cast are of the domain to which it is cast
-pub row_words-domain : (d : Domain) (cols : ℕ) (a : Object) (i : ℕ) → All (IsWordOf d) (row_words cols (in_domain d a) i)
+pub row_words-domain : (d : Domain) (cols : ℕ) (a : Object) (i : ℕ)
+    → All (IsWordOf d) (row_words cols (in_domain d a) i)
 row_words-domain d cols a i = row_words-are d (in_domain d a) i (below cols) (cast_content-words a.domain d a.content)
 
 -- what is put onto a word is the same, cast or not
-fold-stored : (kind : MonoidKind) (from d : Domain) (start : ℕ) (words : List ℕ) → are_compatible from d ≡ true → All (IsWordOf from) words
+fold-stored : (kind : MonoidKind) (from d : Domain) (start : ℕ) (words : List ℕ) → are_compatible from d ≡ true
+    → All (IsWordOf from) words
     → fold (eval_of (combines_by kind) d) start (map (cast_of from d) words) ≡ fold (eval_of (combines_by kind) d) start words
 fold-stored kind from d start [] h all = refl
 fold-stored kind from d start (word ∷ words) h all =
@@ -217,29 +239,36 @@ casts_are : (from d : Domain) (words : List ℕ) → All (IsWordOf d) (map (cast
 casts_are from d words = All-map (IsWordOf d) (cast_of from d) words (λ k e within. IsWordOf-cast from d (get_or words k e))
 
 -- words combined from the monoid's identity are the sum of the cast words
-folded_all : (kind : MonoidKind) (from d : Domain) (words : List ℕ) → offers (combines_by kind) d ≡ true → are_compatible from d ≡ true → All (IsWordOf from) words
-    → unwrap_or (sum_of kind d (map (cast_of from d) words)) (identity_of kind d) ≡ fold (eval_of (combines_by kind) d) (identity_of kind d) words
+folded_all : (kind : MonoidKind) (from d : Domain) (words : List ℕ) → offers (combines_by kind) d ≡ true
+    → are_compatible from d ≡ true → All (IsWordOf from) words
+    → unwrap_or (sum_of kind d (map (cast_of from d) words)) (identity_of kind d) ≡ fold (eval_of (combines_by kind) d)
+    (identity_of kind d) words
 folded_all kind from d words offered h all =
     sym (sum-from_identity kind d (map (cast_of from d) words) offered (casts_are from d words))
     ∙ fold-stored kind from d (identity_of kind d) words h all
 
 -- ..where there is one
-pub sum-stored : (kind : MonoidKind) (from d : Domain) (word : ℕ) (words : List ℕ) → offers (combines_by kind) d ≡ true → are_compatible from d ≡ true
+pub sum-stored : (kind : MonoidKind) (from d : Domain) (word : ℕ) (words : List ℕ) → offers (combines_by kind) d ≡ true
+    → are_compatible from d ≡ true
     → All (IsWordOf from) (word ∷ words)
     → sum_of kind d (map (cast_of from d) (word ∷ words)) ≡ Some (fold (eval_of (combines_by kind) d) (identity_of kind d) (word ∷ words))
 sum-stored kind from d word words offered h all = ap Some (folded_all kind from d (word ∷ words) offered h all)
 
 -- the words of a row of an object, cast
-pub row_words-stored : (d : Domain) (cols : ℕ) (a : Object) (i : ℕ) → row_words cols (in_domain d a) i ≡ map (cast_of a.domain d) (row_words cols a.content i)
+pub row_words-stored : (d : Domain) (cols : ℕ) (a : Object) (i : ℕ)
+    → row_words cols (in_domain d a) i ≡ map (cast_of a.domain d) (row_words cols a.content i)
 row_words-stored d cols a i = row_words-cast (cast_of a.domain d) a.content i (below cols)
 
-pub row_words-all : (cols : ℕ) (a : Object) (i : ℕ) → AreWordsOf a.domain a.content → All (IsWordOf a.domain) (row_words cols a.content i)
+pub row_words-all : (cols : ℕ) (a : Object) (i : ℕ) → AreWordsOf a.domain a.content
+    → All (IsWordOf a.domain) (row_words cols a.content i)
 row_words-all cols a i words = row_words-are a.domain a.content i (below cols) words
 
 -- the sum of all values of an object
-pub sum_in-stored : (monoid : MonoidName) (a : Object) → offers (combines_by monoid.kind) monoid.domain ≡ true → are_compatible a.domain monoid.domain ≡ true
+pub sum_in-stored : (monoid : MonoidName) (a : Object) → offers (combines_by monoid.kind) monoid.domain ≡ true
+    → are_compatible a.domain monoid.domain ≡ true
     → AreWordsOf a.domain a.content
-    → sum_in monoid a ≡ fold (eval_of (combines_by monoid.kind) monoid.domain) (identity_of monoid.kind monoid.domain) (all_words (rows_of a.shape) (cols_of a.shape) a.content)
+    → sum_in monoid a ≡ fold (eval_of (combines_by monoid.kind) monoid.domain) (identity_of monoid.kind monoid.domain)
+    (all_words (rows_of a.shape) (cols_of a.shape) a.content)
 sum_in-stored monoid a offered h words =
     let rows = rows_of a.shape in
     let cols = cols_of a.shape in

@@ -24,7 +24,8 @@ use Rattle.model.specs.Text.{ended}
 abbrev pub IsPrinted : List ℕ → Type 0
 IsPrinted line = All (λ b. 32 ≤ b) line
 
-parts_ended : (lines : List (List ℕ)) → All IsPrinted lines → slice_split (λ b. b == 10) (flat_map ended lines) ≡ lines ++ [] ∷ []
+parts_ended : (lines : List (List ℕ)) → All IsPrinted lines
+    → slice_split (λ b. b == 10) (flat_map ended lines) ≡ lines ++ [] ∷ []
 parts_ended [] all = refl
 parts_ended (line ∷ lines) all =
     let feed : ℕ → Bool = λ b. b == 10 in
@@ -67,7 +68,8 @@ no_blanks word is = All-weaker (λ b. 33 ≤ b) (λ b. is_blank b ≡ false) (λ
 not_empty : (word : List ℕ) → IsWord word → (length word == 0) ≡ false
 not_empty word is = let filled = is.filled in grind (arith, nat_tests)
 
-pub words_of-three : (a b c : List ℕ) → IsWord a → IsWord b → IsWord c → words_of (a ++ 32 ∷ b ++ 32 ∷ c) ≡ a ∷ b ∷ c ∷ []
+pub words_of-three : (a b c : List ℕ) → IsWord a → IsWord b → IsWord c
+    → words_of (a ++ 32 ∷ b ++ 32 ∷ c) ≡ a ∷ b ∷ c ∷ []
 words_of-three a b c p q r =
     let parts : slice_split is_blank (a ++ 32 ∷ b ++ 32 ∷ c) ≡ a ∷ b ∷ c ∷ [] =
     ap (slice_split is_blank) (append_assoc a (32 ∷ b) (32 ∷ c))
@@ -153,7 +155,8 @@ signed_decimal-value (negsuc n) is =
       value = rw (number-said (suc n) (decimal (suc n)) number) refl;
     }
 
-pub value_of-of_64_bits : (domain : Domain) (word : ℕ) → is_built_in domain ≡ true → IsWordOf domain word → is_of_64_bits (value_of domain word) ≡ true
+pub value_of-of_64_bits : (domain : Domain) (word : ℕ) → is_built_in domain ≡ true → IsWordOf domain word
+    → is_of_64_bits (value_of domain word) ≡ true
 value_of-of_64_bits Boolean word built_in is = each_truth (λ w. is_of_64_bits (value_of Boolean w) ≡ true) refl refl word is
 value_of-of_64_bits Int64 word built_in is = grind (arith, nat_tests)
 value_of-of_64_bits Uint64 word built_in is = grind (arith, nat_tests)

@@ -23,7 +23,8 @@ pairs_head R x xs h k d within = h zero (suc k) d (omega arith) (omega arith)
 pub pairs_tail : {X : Type 0} (R : X → X → Type 0) (x : X) (xs : List X) → AllPairs R (x ∷ xs) → AllPairs R xs
 pairs_tail R x xs h i j d below within = h (suc i) (suc j) d (omega arith) (omega arith)
 
-pub pairs_cons : {X : Type 0} (R : X → X → Type 0) (x : X) (xs : List X) → All (R x) xs → AllPairs R xs → AllPairs R (x ∷ xs)
+pub pairs_cons : {X : Type 0} (R : X → X → Type 0) (x : X) (xs : List X) → All (R x) xs → AllPairs R xs
+    → AllPairs R (x ∷ xs)
 pairs_cons R x xs h t zero zero d below within = absurd (omega arith)
 pairs_cons R x xs h t zero (suc j) d below within = h j d (omega arith)
 pairs_cons R x xs h t (suc i) zero d below within = absurd (omega arith)
@@ -37,7 +38,8 @@ position_of t = (row_of t.place, col_of t.place)
 abbrev pub position_cmp : ℕ × ℕ → ℕ × ℕ → Ordering
 position_cmp p q = ordering_then (nat_cmp p.0 q.0) (nat_cmp p.1 q.1)
 
-ties_is : (i j row col : ℕ) → (not (is_lt (ordering_then (nat_cmp i row) (nat_cmp j col))) && not (is_lt (ordering_then (nat_cmp row i) (nat_cmp col j)))) ≡ (eqb i row && eqb j col)
+ties_is : (i j row col : ℕ)
+    → (not (is_lt (ordering_then (nat_cmp i row) (nat_cmp j col))) && not (is_lt (ordering_then (nat_cmp row i) (nat_cmp col j)))) ≡ (eqb i row && eqb j col)
 ties_is i j row col = grind (arith, nat_tests)
 
 behind_is : (t u : Tuple) → is_lt (position_cmp (position_of u) (position_of t)) ≡ false → IsNotBehind t u
@@ -50,7 +52,8 @@ order_from_sorted ts sorted i j d below within =
     behind_is (get_or ts i d) (get_or ts j d) far
 
 -- a stable sort keeps the tuples of each position in their order
-tuples_at-sorted : (ts sorted : List Tuple) → IsStableByKey position_of position_cmp ts sorted → (i j : ℕ) → tuples_at sorted i j ≡ tuples_at ts i j
+tuples_at-sorted : (ts sorted : List Tuple) → IsStableByKey position_of position_cmp ts sorted → (i j : ℕ)
+    → tuples_at sorted i j ≡ tuples_at ts i j
 tuples_at-sorted ts sorted stable i j =
     let tie : Tuple → Bool = λ t. not (is_lt (position_cmp (i, j) (position_of t))) && not (is_lt (position_cmp (position_of t) (i, j))) in
     let is : Tuple → Bool = λ t. eqb i (row_of t.place) && eqb j (col_of t.place) in
@@ -59,7 +62,9 @@ tuples_at-sorted ts sorted stable i j =
     let two = filter_agree tie is (λ t. ties_is i j (row_of t.place) (col_of t.place)) ts in
     sym one ∙ kept ∙ two
 
-pub are_sorted_from : (ts sorted : List Tuple) → IsPermutation ts sorted → IsSortedByKey position_of position_cmp sorted → IsStableByKey position_of position_cmp ts sorted → AreSortedFrom ts sorted
+pub are_sorted_from : (ts sorted : List Tuple) → IsPermutation ts sorted
+    → IsSortedByKey position_of position_cmp sorted → IsStableByKey position_of position_cmp ts sorted
+    → AreSortedFrom ts sorted
 are_sorted_from ts sorted moved rise stable = record {
   same = moved;
   order = order_from_sorted sorted rise;
@@ -69,7 +74,8 @@ are_sorted_from ts sorted moved rise stable = record {
 -- ---- places that are listed once
 
 -- where the first two differ, the first is of no other's place
-rest_apart : (t u : Tuple) (us : List Tuple) → AllPairs IsNotBehind (t ∷ u ∷ us) → same_place t.place u.place ≡ false → list_all (λ v. not (same_place t.place v.place)) us ≡ true
+rest_apart : (t u : Tuple) (us : List Tuple) → AllPairs IsNotBehind (t ∷ u ∷ us) → same_place t.place u.place ≡ false
+    → list_all (λ v. not (same_place t.place v.place)) us ≡ true
 rest_apart t u [] order other = refl
 rest_apart t u (v ∷ us) order other =
     let first = pairs_head IsNotBehind t (u ∷ v ∷ us) order in
@@ -81,11 +87,13 @@ rest_apart t u (v ∷ us) order other =
     rw away (rest_apart t v us others away)
 
 -- the first two of more are of two places
-pub single_next : (t u : Tuple) (us : List Tuple) → AllPairs IsNotBehind (t ∷ u ∷ us) → same_place t.place u.place ≡ false → are_single (t ∷ u ∷ us) ≡ are_single (u ∷ us)
+pub single_next : (t u : Tuple) (us : List Tuple) → AllPairs IsNotBehind (t ∷ u ∷ us)
+    → same_place t.place u.place ≡ false → are_single (t ∷ u ∷ us) ≡ are_single (u ∷ us)
 single_next t u us order other = rw (other, rest_apart t u us order other) refl
 
 -- no tuple of a place is there, where each is of another
-at_none : (p : Place) (ts : List Tuple) → list_all (λ u. not (same_place p u.place)) ts ≡ true → tuples_at ts (row_of p) (col_of p) ≡ []
+at_none : (p : Place) (ts : List Tuple) → list_all (λ u. not (same_place p u.place)) ts ≡ true
+    → tuples_at ts (row_of p) (col_of p) ≡ []
 at_none p [] h = refl
 at_none p (u ∷ us) h =
     elim (cases_Bool (same_place p u.place)) [
@@ -93,7 +101,8 @@ at_none p (u ∷ us) h =
       | inr other ↦ let rest : list_all (λ u. not (same_place p u.place)) us ≡ true = rw other at h in rw other (at_none p us rest)
     ]
 
-none_at : (p : Place) (ts : List Tuple) → tuples_at ts (row_of p) (col_of p) ≡ [] → list_all (λ u. not (same_place p u.place)) ts ≡ true
+none_at : (p : Place) (ts : List Tuple) → tuples_at ts (row_of p) (col_of p) ≡ []
+    → list_all (λ u. not (same_place p u.place)) ts ≡ true
 none_at p [] h = refl
 none_at p (u ∷ us) h =
     elim (cases_Bool (same_place p u.place)) [

@@ -108,7 +108,8 @@ lacks-from byte (b ∷ word) is =
     let other : (b == byte) ≡ false = grind (arith, nat_tests) in
     All-cons (λ b. (b == byte) ≡ false) b word other (lacks-from byte word parts.1)
 
-split-joined : (byte : ℕ) (word : List ℕ) (words : List (List ℕ)) → All (Lacks byte) (word ∷ words) → slice_split (λ b. b == byte) (joined byte (word ∷ words)) ≡ word ∷ words
+split-joined : (byte : ℕ) (word : List ℕ) (words : List (List ℕ)) → All (Lacks byte) (word ∷ words)
+    → slice_split (λ b. b == byte) (joined byte (word ∷ words)) ≡ word ∷ words
 split-joined byte word [] all = slice_split_none (λ b. b == byte) word (All-head (Lacks byte) word [] all)
 split-joined byte word (next ∷ words) all =
     let here : (byte == byte) ≡ true = grind (arith, nat_tests) in
@@ -160,7 +161,8 @@ domain-lacks (User k) is =
     let small : k < 2 ^ 32 = is k refl in
     All-append (λ b. (b == 46) ≡ false) (codes "USER:") (decimal k) (lacks-from 46 (codes "USER:") refl) (decimal-lacks 46 k (omega arith) (omega arith))
 
-dotted_of-dotted : (name : List ℕ) (d : Domain) → Lacks 46 name → IsDomain d → dotted_of (dotted (name ∷ domain_name d ∷ [])) ≡ Some (name, d)
+dotted_of-dotted : (name : List ℕ) (d : Domain) → Lacks 46 name → IsDomain d
+    → dotted_of (dotted (name ∷ domain_name d ∷ [])) ≡ Some (name, d)
 unfolding dotted_of domain_of
 dotted_of-dotted name d lacks is =
     let parts = split-joined 46 name (domain_name d ∷ []) (All-cons (Lacks 46) name (domain_name d ∷ []) lacks (All-cons (Lacks 46) (domain_name d) [] (domain-lacks d is) (All-nil (Lacks 46)))) in
@@ -174,7 +176,8 @@ pub unary_name_of-word : (op : UnaryName) → IsDomain op.domain → unary_name_
 unfolding unary_name_of
 unary_name_of-word op is = rw (dotted_of-dotted (unary_name op.kind) op.domain (unary-lacks op.kind) is, unary-named op.kind) refl
 
-pub monoid_name_of-word : (monoid : MonoidName) → IsDomain monoid.domain → monoid_name_of (monoid_word monoid) ≡ Some monoid
+pub monoid_name_of-word : (monoid : MonoidName) → IsDomain monoid.domain
+    → monoid_name_of (monoid_word monoid) ≡ Some monoid
 unfolding monoid_name_of
 monoid_name_of-word monoid is = rw (dotted_of-dotted (monoid_name monoid.kind) monoid.domain (monoid-lacks monoid.kind) is, monoid-named monoid.kind) refl
 
@@ -184,11 +187,13 @@ unfolding index_from_name
 index-pointed index.RowIndex rest = refl
 index-pointed _ rest = refl
 
-by_position : (op : IndexName) (d : Domain) → is_by_position op.kind ≡ true → op.domain ≡ d → d ≡ Int64 → index_name_of (index_name op.kind) ≡ Some op
+by_position : (op : IndexName) (d : Domain) → is_by_position op.kind ≡ true → op.domain ≡ d → d ≡ Int64
+    → index_name_of (index_name op.kind) ≡ Some op
 unfolding index_name_of by_position_of
 by_position op d is same own = rw (index-named op.kind, is) (ap (λ (d : Domain). Some (record { kind = op.kind; domain = d })) (sym (same ∙ own)))
 
-by_value : (op : IndexName) → is_by_position op.kind ≡ false → IsDomain op.domain → index_name_of (dotted (index_name op.kind ∷ domain_name op.domain ∷ [])) ≡ Some op
+by_value : (op : IndexName) → is_by_position op.kind ≡ false → IsDomain op.domain
+    → index_name_of (dotted (index_name op.kind ∷ domain_name op.domain ∷ [])) ≡ Some op
 unfolding index_name_of by_position_of by_value_of
 by_value op other is =
     rw (index-pointed op.kind (domain_name op.domain), dotted_of-dotted (index_name op.kind) op.domain (index-lacks op.kind) is, index-named op.kind, other) refl
@@ -199,7 +204,8 @@ index_name_of-word op is = elim (cases_Bool (is_by_position op.kind)) [
   | inr other ↦ rw other (by_value op other is.0)
 ]
 
-pub semiring_name_of-word : (semiring : SemiringName) → IsDomain semiring.domain → semiring_name_of (semiring_word semiring) ≡ Some semiring
+pub semiring_name_of-word : (semiring : SemiringName) → IsDomain semiring.domain
+    → semiring_name_of (semiring_word semiring) ≡ Some semiring
 unfolding semiring_name_of domain_of
 semiring_name_of-word semiring is =
     let add = monoid_name semiring.add in
@@ -218,11 +224,13 @@ op-some op = go op.kind (46 ∷ domain_name op.domain) where
   go binary.First rest = refl
   go _ rest = refl
 
-pub perhaps-name : (name : Option Name) → IfSome name IsName → perhaps name_of (word_or_none (λ name. name) name) ≡ Some name
+pub perhaps-name : (name : Option Name) → IfSome name IsName
+    → perhaps name_of (word_or_none (λ name. name) name) ≡ Some name
 perhaps-name None is = refl
 perhaps-name (Some name) is = rw (name-some name is, name_of-name name is) refl
 
-pub perhaps-op : (op : Option OpName) → IfSome op (λ op. IsDomain op.domain) → perhaps op_name_of (word_or_none op_word op) ≡ Some op
+pub perhaps-op : (op : Option OpName) → IfSome op (λ op. IsDomain op.domain)
+    → perhaps op_name_of (word_or_none op_word op) ≡ Some op
 perhaps-op None is = refl
 perhaps-op (Some op) is = rw (op-some op, op_name_of-word op is) refl
 
@@ -234,7 +242,8 @@ one_of-place i is = rw (number_of-decimal i is) refl
 two_of-place : (i j : ℕ) → IsIndex i → IsIndex j → two_of (decimal i) (decimal j) ≡ Some (Two i j)
 two_of-place i j row col = rw (number_of-decimal i row, number_of-decimal j col) refl
 
-all_read-written : {A : Type 0} (P : A → Type 0) (read : List ℕ → Option A) (write : A → List ℕ) (xs : List A) → ((x : A) → P x → read (write x) ≡ Some x) → All P xs → all_read read (map write xs) ≡ Some xs
+all_read-written : {A : Type 0} (P : A → Type 0) (read : List ℕ → Option A) (write : A → List ℕ) (xs : List A)
+    → ((x : A) → P x → read (write x) ≡ Some x) → All P xs → all_read read (map write xs) ≡ Some xs
 all_read-written P read write [] each all = refl
 all_read-written P read write (x ∷ xs) each all = rw (each x (All-head P x xs all), all_read-written P read write xs each (All-tail P x xs all)) refl
 
@@ -262,7 +271,8 @@ no_colon word b first low = elim (cases_Bool (bytes_eq word (codes ":"))) [
       absurd (omega (arith, is, low))
 ]
 
-first_of_listed : (i : ℕ) (items : List ℕ) → IsIndex i → get_or (listed (map decimal (i ∷ items))) 0 0 ≡ get_or (decimal i) 0 0
+first_of_listed : (i : ℕ) (items : List ℕ) → IsIndex i
+    → get_or (listed (map decimal (i ∷ items))) 0 0 ≡ get_or (decimal i) 0 0
 first_of_listed i [] is = refl
 first_of_listed i (next ∷ items) is = front (decimal i) (44 ∷ listed (map decimal (next ∷ items))) (decimal-number i is).word.filled where
   front : (word rest : List ℕ) → 0 < length word → get_or (word ++ rest) 0 0 ≡ get_or word 0 0
@@ -294,7 +304,8 @@ tuple_of-word t place value = go t.place t.value place value where
       (All-cons (Lacks 44) (decimal j) (text ∷ []) (decimal-lacks 44 j is.1 (omega arith)) (All-cons (Lacks 44) text [] (value-lacks z value) (All-nil (Lacks 44))))) in
       rw (parts, two_of-place i j is.0 is.1, value_of_word-value z value) refl
 
-pub tuples_of-words : (tuples : List Tuple) → All IsTuple tuples → are_alike tuples ≡ true → tuples_of (map tuple_word tuples) ≡ Some tuples
+pub tuples_of-words : (tuples : List Tuple) → All IsTuple tuples → are_alike tuples ≡ true
+    → tuples_of (map tuple_word tuples) ≡ Some tuples
 unfolding tuples_of
 tuples_of-words tuples all alike = rw (all_read-written IsTuple tuple_of tuple_word tuples (λ t is. tuple_of-word t is.0 is.1) all, alike) refl
 
@@ -343,7 +354,8 @@ desc_of-word d = flags-written d.replace d.structure d.complement d.transpose_fi
 abbrev IsRead : Call Name Name → Type 0
 IsRead call = command_of (words_for call) ≡ Some (Called call)
 
-written-create : (name : Name) (d : Domain) (s : Shape) → IsName name → IsDomain d → IsShape s → IsRead (Create name d s)
+written-create : (name : Name) (d : Domain) (s : Shape) → IsName name → IsDomain d → IsShape s
+    → IsRead (Create name d s)
 unfolding command_of call_of matrix_of vector_of domain_of
 written-create name d (shape.One size) named is sized = rw (name_of-name name named, domain-named d is, number_of-decimal size sized) refl
 written-create name d (shape.Two rows cols) named is sized = rw (name_of-name name named, domain-named d is, number_of-decimal rows sized.0, number_of-decimal cols sized.1) refl
@@ -353,7 +365,9 @@ unfolding command_of call_of resize_of
 written-resize object (shape.One size) named sized = rw (name_of-name object named, number_of-decimal size sized) refl
 written-resize object (shape.Two rows cols) named sized = rw (name_of-name object named, number_of-decimal rows sized.0, number_of-decimal cols sized.1) refl
 
-written-build : (object : Name) (dup : Option OpName) (tuples : List Tuple) → IsName object → IfSome dup (λ op. IsDomain op.domain) → All IsTuple tuples → are_alike tuples ≡ true → IsRead (Build object dup tuples)
+written-build : (object : Name) (dup : Option OpName) (tuples : List Tuple) → IsName object
+    → IfSome dup (λ op. IsDomain op.domain) → All IsTuple tuples → are_alike tuples ≡ true
+    → IsRead (Build object dup tuples)
 unfolding command_of call_of entry_call_of build_of
 written-build object dup tuples named is all alike =
     let long : nat_le 3 (suc (suc (suc (length (map tuple_word tuples))))) ≡ true = grind (arith, nat_tests) in
@@ -374,7 +388,8 @@ unfolding command_of call_of entry_call_of get_of place_of
 written-get object (One i) named is = rw (number_of-decimal i is, name_of-name object named) refl
 written-get object (Two i j) named is = rw (number_of-decimal i is.0, number_of-decimal j is.1, name_of-name object named) refl
 
-written-names : (object : Name) → IsName object → IsRead (Free object) × IsRead (Clear object) × IsRead (Nvals object) × IsRead (Print object)
+written-names : (object : Name) → IsName object
+    → IsRead (Free object) × IsRead (Clear object) × IsRead (Nvals object) × IsRead (Print object)
 unfolding command_of call_of entry_call_of only_name_of
 written-names object named =
     let name = name_of-name object named in
@@ -384,30 +399,35 @@ written-dup : (name object : Name) → IsName name → IsName object → IsRead 
 unfolding command_of call_of dup_of
 written-dup name object new old = rw (name_of-name name new, name_of-name object old) refl
 
-written-reduce : (object : Name) (monoid : MonoidName) → IsName object → IsDomain monoid.domain → IsRead (Reduce object monoid)
+written-reduce : (object : Name) (monoid : MonoidName) → IsName object → IsDomain monoid.domain
+    → IsRead (Reduce object monoid)
 unfolding command_of call_of entry_call_of reduce_of
 written-reduce object monoid named is = rw (name_of-name object named, monoid_name_of-word monoid is) refl
 
 -- ---- operations
 
-written-multiply : (out : Out Name) (form : Form) (semiring : SemiringName) (a b : Name) → IsOut out → IsDomain semiring.domain → IsName a → IsName b
+written-multiply : (out : Out Name) (form : Form) (semiring : SemiringName) (a b : Name) → IsOut out
+    → IsDomain semiring.domain → IsName a → IsName b
     → IsRead (Operate out (OfTwo (Multiply form semiring) a b))
 unfolding command_of call_of entry_call_of operate_of operation_of multiply_of out_of_words
 written-multiply out MatrixMatrix semiring a b is fits first second = rw (semiring_name_of-word semiring fits, name_of-name a first, name_of-name b second, name_of-name out.c is.0, perhaps-name out.mask is.1, perhaps-op out.accum is.2, desc_of-word out.desc) refl
 written-multiply out _ semiring a b is fits first second = rw (semiring_name_of-word semiring fits, name_of-name a first, name_of-name b second, name_of-name out.c is.0, perhaps-name out.mask is.1, perhaps-op out.accum is.2, desc_of-word out.desc) refl
 
-written-combine : (out : Out Name) (positions : Positions) (op : OpName) (a b : Name) → IsOut out → IsDomain op.domain → IsName a → IsName b
+written-combine : (out : Out Name) (positions : Positions) (op : OpName) (a b : Name) → IsOut out → IsDomain op.domain
+    → IsName a → IsName b
     → IsRead (Operate out (OfTwo (Combine positions op) a b))
 unfolding command_of call_of entry_call_of operate_of operation_of combine_of out_of_words
 written-combine out Union op a b is fits first second = rw (op_name_of-word op fits, name_of-name a first, name_of-name b second, name_of-name out.c is.0, perhaps-name out.mask is.1, perhaps-op out.accum is.2, desc_of-word out.desc) refl
 written-combine out Intersection op a b is fits first second = rw (op_name_of-word op fits, name_of-name a first, name_of-name b second, name_of-name out.c is.0, perhaps-name out.mask is.1, perhaps-op out.accum is.2, desc_of-word out.desc) refl
 
-written-fill : (out : Out Name) (z : ℤ) (r : Region) → IsOut out → IsValue z → IsRegion r → IsRead (Operate out (Fill z r))
+written-fill : (out : Out Name) (z : ℤ) (r : Region) → IsOut out → IsValue z → IsRegion r
+    → IsRead (Operate out (Fill z r))
 unfolding command_of call_of entry_call_of operate_of operation_of moving_of fill_of region_of out_of_words
 written-fill out z (region.One indices) is value fits = rw (indices_of-word indices fits, value_of_word-value z value, name_of-name out.c is.0, perhaps-name out.mask is.1, perhaps-op out.accum is.2, desc_of-word out.desc) refl
 written-fill out z (region.Two rows cols) is value fits = rw (indices_of-word rows fits.0, indices_of-word cols fits.1, value_of_word-value z value, name_of-name out.c is.0, perhaps-name out.mask is.1, perhaps-op out.accum is.2, desc_of-word out.desc) refl
 
-written-one : (out : Out Name) (computes : OneInput) (a : Name) → IsOut out → IsOneInput computes → IsName a → IsRead (Operate out (OfOne computes a))
+written-one : (out : Out Name) (computes : OneInput) (a : Name) → IsOut out → IsOneInput computes → IsName a
+    → IsRead (Operate out (OfOne computes a))
 unfolding command_of call_of entry_call_of operate_of operation_of moving_of one_input_of apply_of apply_index_of apply_first_of apply_second_of select_of reduce_rows_of transpose_of extract_of assign_of region_of out_of_words
 written-one out (Apply (function.Unary op)) a is fits named = rw (unary_name_of-word op fits, name_of-name a named, name_of-name out.c is.0, perhaps-name out.mask is.1, perhaps-op out.accum is.2, desc_of-word out.desc) refl
 written-one out (Apply (function.Index op scalar)) a is fits named = rw (index_name_of-word op fits.0, name_of-name a named, value_of_word-value scalar fits.1, name_of-name out.c is.0, perhaps-name out.mask is.1, perhaps-op out.accum is.2, desc_of-word out.desc) refl

@@ -38,14 +38,16 @@ edited-after (Remove p q ∷ es) c i j = edited-after es (edited_once c (Remove 
 -- ---- edits that are done twice
 
 -- edits name a position, or leave it as it was
-named_or_not : (i j : ℕ) (es : List Edit) → ((v : Option ℕ) → after i j es v ≡ v) ⊎ ((v w : Option ℕ) → after i j es v ≡ after i j es w)
+named_or_not : (i j : ℕ) (es : List Edit)
+    → ((v : Option ℕ) → after i j es v ≡ v) ⊎ ((v w : Option ℕ) → after i j es v ≡ after i j es w)
 named_or_not i j [] = inl (λ v. refl)
 named_or_not i j (e ∷ es) =
     elim (named_or_not i j es) [
       | inr named ↦ inr (λ v w. named (after_one i j v e) (after_one i j w e))
       | inl not_named ↦ one_named e es not_named
     ] where
-      one_named : (e : Edit) (es : List Edit) → ((v : Option ℕ) → after i j es v ≡ v) → ((v : Option ℕ) → after i j (e ∷ es) v ≡ v) ⊎ ((v w : Option ℕ) → after i j (e ∷ es) v ≡ after i j (e ∷ es) w)
+      one_named : (e : Edit) (es : List Edit) → ((v : Option ℕ) → after i j es v ≡ v)
+          → ((v : Option ℕ) → after i j (e ∷ es) v ≡ v) ⊎ ((v w : Option ℕ) → after i j (e ∷ es) v ≡ after i j (e ∷ es) w)
       one_named (Set p q new) es rest =
           elim (cases_Bool (eqb i p && eqb j q)) [
             | inl at ↦ inr (λ v w. rw at refl)
@@ -57,7 +59,8 @@ named_or_not i j (e ∷ es) =
             | inr away ↦ inl (λ v. rw away (rest v))
           ]
 
-after-twice : (i j : ℕ) (xs ys : List Edit) (v : Option ℕ) → after i j (xs ++ ys) (after i j xs v) ≡ after i j (xs ++ ys) v
+after-twice : (i j : ℕ) (xs ys : List Edit) (v : Option ℕ)
+    → after i j (xs ++ ys) (after i j xs v) ≡ after i j (xs ++ ys) v
 after-twice i j xs ys v =
     let once = fold-append (after_one i j) v xs ys in
     let twice = fold-append (after_one i j) (after i j xs v) xs ys in
@@ -67,14 +70,16 @@ after-twice i j xs ys v =
     ]
 
 -- to do some and then all is to do all
-pub edited-twice : (xs ys : List Edit) (b c : Content) (i j : ℕ) → b i j ≡ edited xs c i j → edited (xs ++ ys) b i j ≡ edited (xs ++ ys) c i j
+pub edited-twice : (xs ys : List Edit) (b c : Content) (i j : ℕ) → b i j ≡ edited xs c i j
+    → edited (xs ++ ys) b i j ≡ edited (xs ++ ys) c i j
 edited-twice xs ys b c i j some =
     edited-after (xs ++ ys) b i j
     ∙ ap (after i j (xs ++ ys)) (some ∙ edited-after xs c i j)
     ∙ after-twice i j xs ys (c i j)
     ∙ sym (edited-after (xs ++ ys) c i j)
 
-pub edited-again : (es : List Edit) (k : ℕ) (b c : Content) → ((i j : ℕ) → b i j ≡ edited (take k es) c i j) → (i j : ℕ) → edited es b i j ≡ edited es c i j
+pub edited-again : (es : List Edit) (k : ℕ) (b c : Content) → ((i j : ℕ) → b i j ≡ edited (take k es) c i j)
+    → (i j : ℕ) → edited es b i j ≡ edited es c i j
 edited-again es k b c some i j =
     let whole = take-append-drop k es in
     rw whole at (edited-twice (take k es) (drop k es) b c i j (some i j))
@@ -103,7 +108,8 @@ after-filter i j (e ∷ es) v =
     ]
 
 -- a stable sort keeps what edits make
-pub edited-sorted : (es sorted : List Edit) → IsStableByKey place_of position_cmp es sorted → (c : Content) (i j : ℕ) → edited sorted c i j ≡ edited es c i j
+pub edited-sorted : (es sorted : List Edit) → IsStableByKey place_of position_cmp es sorted → (c : Content) (i j : ℕ)
+    → edited sorted c i j ≡ edited es c i j
 edited-sorted es sorted stable c i j =
     let tie : Edit → Bool = λ e. not (is_lt (position_cmp (i, j) (place_of e))) && not (is_lt (position_cmp (place_of e) (i, j))) in
     let is = is_at i j in
@@ -116,13 +122,15 @@ edited-sorted es sorted stable c i j =
     ∙ after-filter i j es (c i j)
     ∙ sym (edited-after es c i j)
 
-behind_edit : (e f : Edit) → is_lt (position_cmp (place_of f) (place_of e)) ≡ false → IsNotBehind (set_entry e) (set_entry f)
+behind_edit : (e f : Edit) → is_lt (position_cmp (place_of f) (place_of e)) ≡ false
+    → IsNotBehind (set_entry e) (set_entry f)
 behind_edit (Set i j new) (Set p q other) h = behind_is (entry_at i j 0) (entry_at p q 0) h
 behind_edit (Set i j new) (Remove p q) h = behind_is (entry_at i j 0) (entry_at p q 0) h
 behind_edit (Remove i j) (Set p q other) h = behind_is (entry_at i j 0) (entry_at p q 0) h
 behind_edit (Remove i j) (Remove p q) h = behind_is (entry_at i j 0) (entry_at p q 0) h
 
-pub order_of_sorted : (es : List Edit) → IsSortedByKey place_of position_cmp es → AllPairs IsNotBehind (map set_entry es)
+pub order_of_sorted : (es : List Edit) → IsSortedByKey place_of position_cmp es
+    → AllPairs IsNotBehind (map set_entry es)
 order_of_sorted es sorted =
     let total = then_total (on_total (λ (p : ℕ × ℕ). p.0) nat_cmp_total) (on_total (λ (p : ℕ × ℕ). p.1) nat_cmp_total) in
     let far = sorted_far (λ x y. is_lt (position_cmp (place_of x) (place_of y))) (ranks_by total place_of) es sorted in
@@ -130,13 +138,15 @@ order_of_sorted es sorted =
 
 -- ---- edits at once
 
-removals_behind : (e f : Edit) → IsNotBehind (set_entry e) (set_entry f) → IsNotBehind (removal_entry e) (removal_entry f)
+removals_behind : (e f : Edit) → IsNotBehind (set_entry e) (set_entry f)
+    → IsNotBehind (removal_entry e) (removal_entry f)
 removals_behind (Set i j new) (Set p q other) h = h
 removals_behind (Set i j new) (Remove p q) h = h
 removals_behind (Remove i j) (Set p q other) h = h
 removals_behind (Remove i j) (Remove p q) h = h
 
-pub removals_order : (es : List Edit) → AllPairs IsNotBehind (map set_entry es) → AllPairs IsNotBehind (map removal_entry es)
+pub removals_order : (es : List Edit) → AllPairs IsNotBehind (map set_entry es)
+    → AllPairs IsNotBehind (map removal_entry es)
 removals_order es order =
     let before = all_pairs_from_map IsNotBehind set_entry es order in
     all_pairs_map IsNotBehind removal_entry es (λ i j d below within. removals_behind (get_or es i d) (get_or es j d) (before i j d below within))
@@ -155,7 +165,8 @@ removal_in rows cols (Remove i j) h = ((omega arith, h.0), h.1)
 pub sets_inside : (rows cols : ℕ) (es : List Edit) → All (IsInside rows cols) es → AreIn 0 rows cols (map set_entry es)
 sets_inside rows cols es h = All-map (StandsIn rows cols) set_entry es (All-weaker (IsInside rows cols) (λ e. StandsIn rows cols (set_entry e)) (set_in rows cols) es h)
 
-pub removals_inside : (rows cols : ℕ) (es : List Edit) → All (IsInside rows cols) es → AreIn 0 rows cols (map removal_entry es)
+pub removals_inside : (rows cols : ℕ) (es : List Edit) → All (IsInside rows cols) es
+    → AreIn 0 rows cols (map removal_entry es)
 removals_inside rows cols es h = All-map (StandsIn rows cols) removal_entry es (All-weaker (IsInside rows cols) (λ e. StandsIn rows cols (removal_entry e)) (removal_in rows cols) es h)
 
 -- the last word of a position
@@ -170,14 +181,16 @@ joined_later : (w t : ℕ) (ws : List ℕ) → joined_all None ws ≡ Some t →
 joined_later w t [] h = cc
 joined_later w t (x ∷ ws) h = h
 
-last_first : (i j : ℕ) (e : Entry) (es : List Entry) → (eqb i e.row && eqb j e.col) ≡ true → last_at i j es ≡ None → last_at i j (e ∷ es) ≡ Some e.word
+last_first : (i j : ℕ) (e : Entry) (es : List Entry) → (eqb i e.row && eqb j e.col) ≡ true → last_at i j es ≡ None
+    → last_at i j (e ∷ es) ≡ Some e.word
 last_first i j e es at none = let empty : words_at es i j ≡ [] = joined_none (words_at es i j) none in rw (at, empty) refl
 
 last_later : (i j t : ℕ) (e : Entry) (es : List Entry) → last_at i j es ≡ Some t → last_at i j (e ∷ es) ≡ Some t
 last_later i j t e es some =
     elim (cases_Bool (eqb i e.row && eqb j e.col)) [ inl at ↦ rw at (joined_later e.word t (words_at es i j) some) | inr away ↦ rw away some ]
 
-last_away : (i j : ℕ) (e : Entry) (es : List Entry) → (eqb i e.row && eqb j e.col) ≡ false → last_at i j (e ∷ es) ≡ last_at i j es
+last_away : (i j : ℕ) (e : Entry) (es : List Entry) → (eqb i e.row && eqb j e.col) ≡ false
+    → last_at i j (e ∷ es) ≡ last_at i j es
 last_away i j e es away = rw away refl
 
 -- no edit is of a position
@@ -248,11 +261,13 @@ merged-edited es c i j =
       | inl h ↦ rw h.removal (sym (h.stays (c i j))) ∙ sym (edited-after es c i j)
       | inr h ↦ rw (h.removal, h.word) (either h.removes h.last ∙ sym (h.makes (c i j))) ∙ sym (edited-after es c i j)
     ] where
-      either : (removes last : ℕ) → cond (has_word false (Some removes)) (cond (not (has_word true (Some removes))) (Some last) None) (c i j) ≡ cond (eqb removes 0) (Some last) None
+      either : (removes last : ℕ) → cond (has_word false (Some removes))
+          (cond (not (has_word true (Some removes))) (Some last) None) (c i j) ≡ cond (eqb removes 0) (Some last) None
       either removes last = elim (cases_Bool (eqb removes 0)) [ inl set ↦ rw set refl | inr removed ↦ rw removed refl ]
 
 -- edits inside some rows change nothing behind them
-pub edited-behind : (rows cols : ℕ) (es : List Edit) → All (IsInside rows cols) es → (c : Content) (i j : ℕ) → rows ≤ i → edited es c i j ≡ c i j
+pub edited-behind : (rows cols : ℕ) (es : List Edit) → All (IsInside rows cols) es → (c : Content) (i j : ℕ) → rows ≤ i
+    → edited es c i j ≡ c i j
 edited-behind rows cols [] h c i j behind = refl
 edited-behind rows cols (Set p q new ∷ es) h c i j behind =
     let inside = All-head (IsInside rows cols) (Set p q new) es h in

@@ -19,7 +19,8 @@ use Rattle.patch.specs.Runs.{IsNotBehind, runs_from, runs_of}
 
 -- ---- entries that are joined
 
-words_at-skip : (i j : ℕ) (e : Entry) (es : List Entry) → (eqb i e.row && eqb j e.col) ≡ false → words_at (e ∷ es) i j ≡ words_at es i j
+words_at-skip : (i j : ℕ) (e : Entry) (es : List Entry) → (eqb i e.row && eqb j e.col) ≡ false
+    → words_at (e ∷ es) i j ≡ words_at es i j
 words_at-skip i j e es away = rw away refl
 
 words_at-none : (i j : ℕ) (es : List Entry) → All (λ e. (eqb i e.row && eqb j e.col) ≡ false) es → words_at es i j ≡ []
@@ -28,10 +29,12 @@ words_at-none i j (e ∷ es) h =
     words_at-skip i j e es (All-head (λ e. (eqb i e.row && eqb j e.col) ≡ false) e es h) ∙ words_at-none i j es (All-tail (λ e. (eqb i e.row && eqb j e.col) ≡ false) e es h)
 
 -- behind the first entry of another position its own does not come again
-passed : (i j : ℕ) (e f g : Entry) → (eqb i e.row && eqb j e.col) ≡ true → (eqb e.row f.row && eqb e.col f.col) ≡ false → IsNotBehind e f → IsNotBehind f g → (eqb i g.row && eqb j g.col) ≡ false
+passed : (i j : ℕ) (e f g : Entry) → (eqb i e.row && eqb j e.col) ≡ true → (eqb e.row f.row && eqb e.col f.col) ≡ false
+    → IsNotBehind e f → IsNotBehind f g → (eqb i g.row && eqb j g.col) ≡ false
 passed i j e f g at other before behind = grind (arith, nat_tests)
 
-none_behind : (i j : ℕ) (e f : Entry) (fs : List Entry) → AllPairs IsNotBehind (e ∷ f ∷ fs) → (eqb i e.row && eqb j e.col) ≡ true → (eqb e.row f.row && eqb e.col f.col) ≡ false → words_at (f ∷ fs) i j ≡ []
+none_behind : (i j : ℕ) (e f : Entry) (fs : List Entry) → AllPairs IsNotBehind (e ∷ f ∷ fs)
+    → (eqb i e.row && eqb j e.col) ≡ true → (eqb e.row f.row && eqb e.col f.col) ≡ false → words_at (f ∷ fs) i j ≡ []
 none_behind i j e f fs order at other =
     let before = All-head (IsNotBehind e) f fs (all_pairs_head IsNotBehind e (f ∷ fs) order) in
     let behind = all_pairs_head IsNotBehind f fs (all_pairs_tail IsNotBehind e (f ∷ fs) order) in
@@ -40,7 +43,9 @@ none_behind i j e f fs order at other =
     words_at-none i j (f ∷ fs) (All-cons (λ g. (eqb i g.row && eqb j g.col) ≡ false) f fs (passed i j e f f at other before self) away)
 
 -- the words of a position, where the first two entries are joined
-words_joined : (joins : Option OpName) (i j : ℕ) (e f : Entry) (fs : List Entry) → (eqb e.row f.row && eqb e.col f.col) ≡ true → gathered joins (entry_at e.row e.col (joined joins e.word f.word) ∷ fs) i j ≡ gathered joins (e ∷ f ∷ fs) i j
+words_joined : (joins : Option OpName) (i j : ℕ) (e f : Entry) (fs : List Entry)
+    → (eqb e.row f.row && eqb e.col f.col) ≡ true
+    → gathered joins (entry_at e.row e.col (joined joins e.word f.word) ∷ fs) i j ≡ gathered joins (e ∷ f ∷ fs) i j
 words_joined joins i j e f fs same =
     let new = entry_at e.row e.col (joined joins e.word f.word) in
     elim (cases_Bool (eqb i e.row && eqb j e.col)) [
@@ -53,7 +58,8 @@ words_joined joins i j e f fs same =
     ]
 
 -- entries in order that are joined have what the words of each position make
-runs_from-words : (joins : Option OpName) (e : Entry) (fs : List Entry) (i j : ℕ) → AllPairs IsNotBehind (e ∷ fs) → word_at (runs_from joins e fs) i j ≡ gathered joins (e ∷ fs) i j
+runs_from-words : (joins : Option OpName) (e : Entry) (fs : List Entry) (i j : ℕ) → AllPairs IsNotBehind (e ∷ fs)
+    → word_at (runs_from joins e fs) i j ≡ gathered joins (e ∷ fs) i j
 unfolding runs_from word_at
 runs_from-words joins e [] i j order =
     elim (cases_Bool (eqb i e.row && eqb j e.col)) [ inl at ↦ rw at refl | inr away ↦ rw away refl ]
@@ -72,7 +78,8 @@ runs_from-words joins e (f ∷ fs) i j order =
           ])
     ]
 
-runs_of-words : (joins : Option OpName) (es : List Entry) (i j : ℕ) → AllPairs IsNotBehind es → word_at (runs_of joins es) i j ≡ gathered joins es i j
+runs_of-words : (joins : Option OpName) (es : List Entry) (i j : ℕ) → AllPairs IsNotBehind es
+    → word_at (runs_of joins es) i j ≡ gathered joins es i j
 unfolding word_at
 runs_of-words joins [] i j order = refl
 runs_of-words joins (e ∷ es) i j order = runs_from-words joins e es i j order
@@ -89,7 +96,8 @@ in_order (e ∷ es) h = all_pairs_cons IsNotBehind e es (All-weaker (Precedes e)
 apart : (e f : Entry) → Precedes e f → (eqb e.row f.row && eqb e.col f.col) ≡ false
 apart e f before = grind (arith, nat_tests)
 
-runs_from-apart : (joins : Option OpName) (e : Entry) (fs : List Entry) → InOrder (e ∷ fs) → runs_from joins e fs ≡ e ∷ fs
+runs_from-apart : (joins : Option OpName) (e : Entry) (fs : List Entry) → InOrder (e ∷ fs)
+    → runs_from joins e fs ≡ e ∷ fs
 unfolding runs_from
 runs_from-apart joins e [] h = refl
 runs_from-apart joins e (f ∷ fs) h =
@@ -97,13 +105,15 @@ runs_from-apart joins e (f ∷ fs) h =
     rw (apart e f before) (ap (λ es. e ∷ es) (runs_from-apart joins f fs (all_pairs_tail Precedes e (f ∷ fs) h)))
 
 -- so they make what they are
-pub words_in_order : (joins : Option OpName) (es : List Entry) → InOrder es → (i j : ℕ) → word_at es i j ≡ gathered joins es i j
+pub words_in_order : (joins : Option OpName) (es : List Entry) → InOrder es → (i j : ℕ)
+    → word_at es i j ≡ gathered joins es i j
 unfolding word_at
 words_in_order joins [] h i j = refl
 words_in_order joins (e ∷ es) h i j = ap (λ fs. word_at fs i j) (sym (runs_from-apart joins e es h)) ∙ runs_from-words joins e es i j (in_order (e ∷ es) h)
 
 -- they stand where the entries do
-runs_from-all : (P : ℕ → ℕ → Type 0) (joins : Option OpName) (e : Entry) (fs : List Entry) → All (λ e. P e.row e.col) (e ∷ fs) → All (λ e. P e.row e.col) (runs_from joins e fs)
+runs_from-all : (P : ℕ → ℕ → Type 0) (joins : Option OpName) (e : Entry) (fs : List Entry)
+    → All (λ e. P e.row e.col) (e ∷ fs) → All (λ e. P e.row e.col) (runs_from joins e fs)
 unfolding runs_from
 runs_from-all P joins e [] h = h
 runs_from-all P joins e (f ∷ fs) h =
@@ -117,7 +127,8 @@ runs_from-all P joins e (f ∷ fs) h =
       | inr other ↦ rw other (All-cons Q e (runs_from joins f fs) first (runs_from-all P joins f fs rest))
     ]
 
-runs_of-all : (P : ℕ → ℕ → Type 0) (joins : Option OpName) (es : List Entry) → All (λ e. P e.row e.col) es → All (λ e. P e.row e.col) (runs_of joins es)
+runs_of-all : (P : ℕ → ℕ → Type 0) (joins : Option OpName) (es : List Entry) → All (λ e. P e.row e.col) es
+    → All (λ e. P e.row e.col) (runs_of joins es)
 runs_of-all P joins [] h = h
 runs_of-all P joins (e ∷ es) h = runs_from-all P joins e es h
 
@@ -136,17 +147,20 @@ words_at-transposed (e ∷ es) i j =
           rw (away, turned_away) rest
     ]
 
-gathered-transposed : (joins : Option OpName) (es : List Entry) (i j : ℕ) → gathered joins (transposed es) i j ≡ gathered joins es j i
+gathered-transposed : (joins : Option OpName) (es : List Entry) (i j : ℕ)
+    → gathered joins (transposed es) i j ≡ gathered joins es j i
 gathered-transposed joins es i j = ap (joined_all joins) (words_at-transposed es i j)
 
-pub along-words : (joins : Option OpName) (cols : ℕ) (es : List Entry) → AllPairs IsNotBehind es → (i j : ℕ) → word_at (along cols (runs_of joins es)) i j ≡ gathered joins (along cols es) i j
+pub along-words : (joins : Option OpName) (cols : ℕ) (es : List Entry) → AllPairs IsNotBehind es → (i j : ℕ)
+    → word_at (along cols (runs_of joins es)) i j ≡ gathered joins (along cols es) i j
 along-words joins cols es order i j =
     elim (cases_Bool (eqb cols 1)) [
       | inl one ↦ rw one (word_at-transposed (runs_of joins es) i j ∙ runs_of-words joins es j i order ∙ sym (gathered-transposed joins es i j))
       | inr many ↦ rw many (runs_of-words joins es i j order)
     ]
 
-pub along-inside : (joins : Option OpName) (first past cols : ℕ) (es : List Entry) → AreIn first past cols (along cols es) → AreIn first past cols (along cols (runs_of joins es))
+pub along-inside : (joins : Option OpName) (first past cols : ℕ) (es : List Entry)
+    → AreIn first past cols (along cols es) → AreIn first past cols (along cols (runs_of joins es))
 along-inside joins first past cols es h =
     let P : ℕ → ℕ → Type 0 = λ i j. ((first ≤ i) × (i < past)) × (j < cols) in
     let turn : Entry → Entry = λ e. entry_at e.col e.row e.word in
@@ -163,11 +177,13 @@ pub along_twice : (cols : ℕ) (es : List Entry) → along cols (along cols es) 
 along_twice cols es =
     elim (cases_Bool (eqb cols 1)) [ inl one ↦ rw one (transposed_twice es) | inr many ↦ rw many refl ]
 
-transposed_behind : (e f : Entry) → IsNotBehind e f → e.col < 1 → f.col < 1 → IsNotBehind (entry_at e.col e.row e.word) (entry_at f.col f.row f.word)
+transposed_behind : (e f : Entry) → IsNotBehind e f → e.col < 1 → f.col < 1
+    → IsNotBehind (entry_at e.col e.row e.word) (entry_at f.col f.row f.word)
 transposed_behind e f (inl before) one other = inr (omega arith, omega arith)
 transposed_behind e f (inr before) one other = inr (omega arith, omega (arith, before.0))
 
-transposed_order : (es : List Entry) → AllPairs IsNotBehind es → All (λ e. e.col < 1) es → AllPairs IsNotBehind (transposed es)
+transposed_order : (es : List Entry) → AllPairs IsNotBehind es → All (λ e. e.col < 1) es
+    → AllPairs IsNotBehind (transposed es)
 transposed_order [] order h = all_pairs_nil IsNotBehind
 transposed_order (e ∷ es) order h =
     let turn : Entry → Entry = λ e. entry_at e.col e.row e.word in
@@ -176,7 +192,8 @@ transposed_order (e ∷ es) order h =
     all_pairs_cons IsNotBehind (turn e) (transposed es) (All-map (IsNotBehind (turn e)) turn es behind) rest
 
 -- entries in order are so as they lie
-pub along_order : (first past cols : ℕ) (es : List Entry) → AllPairs IsNotBehind es → AreIn first past cols es → AllPairs IsNotBehind (along cols es)
+pub along_order : (first past cols : ℕ) (es : List Entry) → AllPairs IsNotBehind es → AreIn first past cols es
+    → AllPairs IsNotBehind (along cols es)
 along_order first past cols es order inside =
     elim (cases_Bool (eqb cols 1)) [
       | inl one ↦
@@ -193,7 +210,8 @@ position_of e = (e.row, e.col)
 abbrev pub position_cmp : ℕ × ℕ → ℕ × ℕ → Ordering
 position_cmp p q = ordering_then (nat_cmp p.0 q.0) (nat_cmp p.1 q.1)
 
-pub ties_is : (i j row col : ℕ) → (not (is_lt (ordering_then (nat_cmp i row) (nat_cmp j col))) && not (is_lt (ordering_then (nat_cmp row i) (nat_cmp col j)))) ≡ (eqb i row && eqb j col)
+pub ties_is : (i j row col : ℕ)
+    → (not (is_lt (ordering_then (nat_cmp i row) (nat_cmp j col))) && not (is_lt (ordering_then (nat_cmp row i) (nat_cmp col j)))) ≡ (eqb i row && eqb j col)
 ties_is i j row col = grind (arith, nat_tests)
 
 pub behind_is : (e f : Entry) → is_lt (position_cmp (position_of f) (position_of e)) ≡ false → IsNotBehind e f
@@ -206,7 +224,8 @@ order_from_sorted es sorted i j d below within =
     behind_is (get_or es i d) (get_or es j d) far
 
 -- a stable sort keeps the words of each position in their order
-words_at-sorted : (es sorted : List Entry) → IsStableByKey position_of position_cmp es sorted → (i j : ℕ) → words_at sorted i j ≡ words_at es i j
+words_at-sorted : (es sorted : List Entry) → IsStableByKey position_of position_cmp es sorted → (i j : ℕ)
+    → words_at sorted i j ≡ words_at es i j
 words_at-sorted es sorted stable i j =
     let tie : Entry → Bool = λ e. not (is_lt (position_cmp (i, j) (position_of e))) && not (is_lt (position_cmp (position_of e) (i, j))) in
     let is : Entry → Bool = λ e. eqb i e.row && eqb j e.col in
@@ -216,5 +235,6 @@ words_at-sorted es sorted stable i j =
     ap (map (λ (e : Entry). e.word)) (sym one ∙ kept ∙ two)
 
 -- so what entries make does not change with the order of the list
-pub gathered-sorted : (joins : Option OpName) (es sorted : List Entry) → IsStableByKey position_of position_cmp es sorted → (i j : ℕ) → gathered joins sorted i j ≡ gathered joins es i j
+pub gathered-sorted : (joins : Option OpName) (es sorted : List Entry)
+    → IsStableByKey position_of position_cmp es sorted → (i j : ℕ) → gathered joins sorted i j ≡ gathered joins es i j
 gathered-sorted joins es sorted stable i j = ap (joined_all joins) (words_at-sorted es sorted stable i j)

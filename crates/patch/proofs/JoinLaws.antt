@@ -38,7 +38,8 @@ pub record AreOpen (joins : Option OpName) (ends : List FiberEnd) (inner words :
 one_rises : (c : ℕ) → AllPairs (λ a b. a < b) (c ∷ [])
 one_rises c = all_pairs_cons (λ a b. a < b) c [] (All-nil (λ b. c < b)) (all_pairs_nil (λ a b. a < b))
 
-pub open_first : (joins : Option OpName) (first : Entry) (rest : List Entry) → AllPairs IsNotBehind (first ∷ rest) → AreOpen joins [] [] [] first rest (runs_from joins first rest)
+pub open_first : (joins : Option OpName) (first : Entry) (rest : List Entry) → AllPairs IsNotBehind (first ∷ rest)
+    → AreOpen joins [] [] [] first rest (runs_from joins first rest)
 unfolding outers
 open_first joins first rest order = record {
   before_inner = [];
@@ -56,7 +57,9 @@ open_first joins first rest order = record {
 }
 
 -- a word more at the last position
-pub open_same : (joins : Option OpName) (ends : List FiberEnd) (inner words : List ℕ) (last e : Entry) (rest all : List Entry) → AreOpen joins ends inner words last (e ∷ rest) all → (eqb last.row e.row && eqb last.col e.col) ≡ true
+pub open_same : (joins : Option OpName) (ends : List FiberEnd) (inner words : List ℕ) (last e : Entry)
+    (rest all : List Entry) → AreOpen joins ends inner words last (e ∷ rest) all
+    → (eqb last.row e.row && eqb last.col e.col) ≡ true
     → AreOpen joins ends inner words (entry_at last.row last.col (joined joins last.word e.word)) rest all
 unfolding runs_from
 open_same joins ends inner words last e rest all here same =
@@ -78,7 +81,8 @@ open_same joins ends inner words last e rest all here same =
       gives = rw same at here.gives;
     }
 
-along_more : (o : ℕ) (cs ws : List ℕ) (c w : ℕ) → length ws ≡ length cs → entries_along o (cs ++ c ∷ []) (ws ++ w ∷ []) ≡ entries_along o cs ws ++ entry_at o c w ∷ []
+along_more : (o : ℕ) (cs ws : List ℕ) (c w : ℕ) → length ws ≡ length cs
+    → entries_along o (cs ++ c ∷ []) (ws ++ w ∷ []) ≡ entries_along o cs ws ++ entry_at o c w ∷ []
 along_more o [] [] c w h = refl
 along_more o [] (x ∷ ws) c w h = absurd (omega arith)
 along_more o (y ∷ cs) [] c w h = absurd (omega arith)
@@ -94,7 +98,9 @@ one_longer (a ∷ xs) [] x y h = absurd (omega arith)
 one_longer (a ∷ xs) (b ∷ ys) x y h = let rest = one_longer xs ys x y (omega arith) in omega arith
 
 -- the next entry, where it stands at another position
-next_apart : (joins : Option OpName) (last e : Entry) (rest : List Entry) → (eqb last.row e.row && eqb last.col e.col) ≡ false → runs_from joins last (e ∷ rest) ≡ last ∷ runs_from joins e rest
+next_apart : (joins : Option OpName) (last e : Entry) (rest : List Entry)
+    → (eqb last.row e.row && eqb last.col e.col) ≡ false
+    → runs_from joins last (e ∷ rest) ≡ last ∷ runs_from joins e rest
 unfolding runs_from
 next_apart joins last e rest other = rw other refl
 
@@ -102,20 +108,24 @@ next_apart joins last e rest other = rw other refl
 next_behind : (last e : Entry) (rest : List Entry) → AllPairs IsNotBehind (last ∷ e ∷ rest) → IsNotBehind last e
 next_behind last e rest order = All-head (IsNotBehind last) e rest (all_pairs_head IsNotBehind last (e ∷ rest) order)
 
-col_behind : (last e : Entry) → IsNotBehind last e → (eqb last.row e.row && eqb last.col e.col) ≡ false → e.row ≡ last.row → last.col < e.col
+col_behind : (last e : Entry) → IsNotBehind last e → (eqb last.row e.row && eqb last.col e.col) ≡ false
+    → e.row ≡ last.row → last.col < e.col
 col_behind last e before other row = grind (arith, nat_tests)
 
 row_behind : (last e : Entry) → IsNotBehind last e → e.row ≢ last.row → last.row < e.row
 row_behind last e (inl before) other = before
 row_behind last e (inr before) other = absurd (other (sym before.0))
 
-all_below_next : (cols : List ℕ) (c next : ℕ) → AllPairs (λ a b. a < b) (cols ++ c ∷ []) → c < next → All (λ a. a < next) (cols ++ c ∷ [])
+all_below_next : (cols : List ℕ) (c next : ℕ) → AllPairs (λ a b. a < b) (cols ++ c ∷ []) → c < next
+    → All (λ a. a < next) (cols ++ c ∷ [])
 all_below_next cols c next rising below =
     let before : All (λ a. a < c) cols = λ k d within. all_pairs_across (λ a b. a < b) cols (c ∷ []) rising k d within 0 d (omega arith) in
     All-push (λ a. a < next) cols c (All-weaker (λ a. a < c) (λ a. a < next) (λ a p. omega arith) cols before) below
 
 -- an entry of the same fiber more
-pub open_more : (joins : Option OpName) (ends : List FiberEnd) (inner words : List ℕ) (last e : Entry) (rest all : List Entry) → AreOpen joins ends inner words last (e ∷ rest) all → (eqb last.row e.row && eqb last.col e.col) ≡ false → e.row ≡ last.row
+pub open_more : (joins : Option OpName) (ends : List FiberEnd) (inner words : List ℕ) (last e : Entry)
+    (rest all : List Entry) → AreOpen joins ends inner words last (e ∷ rest) all
+    → (eqb last.row e.row && eqb last.col e.col) ≡ false → e.row ≡ last.row
     → AreOpen joins ends (inner ++ last.col ∷ []) (words ++ last.word ∷ []) e rest all
 open_more joins ends inner words last e rest all here other row =
     let before = next_behind last e rest here.order in
@@ -149,17 +159,21 @@ end_behind last inner = end_at last.row (length (inner ++ last.col ∷ []))
 -- the fibers with one more, in the lists as they stand
 record AreEnded (ends : List FiberEnd) (inner words : List ℕ) (last : Entry) (before : List Entry) : Type 1 where
   pub flat : AreFlat (ends ++ end_behind last inner ∷ []) (inner ++ last.col ∷ []) (words ++ last.word ∷ [])
-  pub entries : entries_from 0 (ends ++ end_behind last inner ∷ []) (inner ++ last.col ∷ []) (words ++ last.word ∷ []) ≡ before ++ last ∷ []
-  pub outers_are : (P : ℕ → Type 0) → All (λ r. P r.outer) ends → P last.row → All (λ r. P r.outer) (ends ++ end_behind last inner ∷ [])
+  pub entries : entries_from 0 (ends ++ end_behind last inner ∷ []) (inner ++ last.col ∷ [])
+      (words ++ last.word ∷ []) ≡ before ++ last ∷ []
+  pub outers_are : (P : ℕ → Type 0) → All (λ r. P r.outer) ends → P last.row
+      → All (λ r. P r.outer) (ends ++ end_behind last inner ∷ [])
 
 -- the last fiber ends before the one that is not empty
-one_end_more : (ends : List FiberEnd) (outer count : ℕ) → last_end 0 ends < count → closed ends outer count ≡ ends ++ end_at outer count ∷ []
+one_end_more : (ends : List FiberEnd) (outer count : ℕ) → last_end 0 ends < count
+    → closed ends outer count ≡ ends ++ end_at outer count ∷ []
 one_end_more ends outer count below =
     let other : last_end 0 ends ≢ count = λ e. absurd (omega arith) in
     rw (ne_eqb (last_end 0 ends) count other) refl
 
 -- the fiber ends with the last entry
-ended : (joins : Option OpName) (ends : List FiberEnd) (inner words : List ℕ) (last : Entry) (rest all : List Entry) (here : AreOpen joins ends inner words last rest all)
+ended : (joins : Option OpName) (ends : List FiberEnd) (inner words : List ℕ) (last : Entry) (rest all : List Entry)
+    (here : AreOpen joins ends inner words last rest all)
     → AreEnded ends inner words last (entries_from 0 ends here.before_inner here.before_words ++ entries_along last.row here.cols here.added)
 ended joins ends inner words last rest all here =
     let F = entries_from 0 ends here.before_inner here.before_words in
@@ -180,7 +194,9 @@ ended joins ends inner words last rest all here =
     }
 
 -- an entry of the next fiber
-pub open_next : (joins : Option OpName) (ends : List FiberEnd) (inner words : List ℕ) (last e : Entry) (rest all : List Entry) → AreOpen joins ends inner words last (e ∷ rest) all → (eqb last.row e.row && eqb last.col e.col) ≡ false → e.row ≢ last.row
+pub open_next : (joins : Option OpName) (ends : List FiberEnd) (inner words : List ℕ) (last e : Entry)
+    (rest all : List Entry) → AreOpen joins ends inner words last (e ∷ rest) all
+    → (eqb last.row e.row && eqb last.col e.col) ≡ false → e.row ≢ last.row
     → AreOpen joins (ends ++ end_behind last inner ∷ []) (inner ++ last.col ∷ []) (words ++ last.word ∷ []) e rest all
 open_next joins ends inner words last e rest all here other row =
     let below = row_behind last e (next_behind last e rest here.order) row in
@@ -206,7 +222,8 @@ open_next joins ends inner words last e rest all here other row =
     }
 
 -- no entry is left behind the last
-pub open_end : (joins : Option OpName) (ends : List FiberEnd) (inner words : List ℕ) (last : Entry) (all : List Entry) → AreOpen joins ends inner words last [] all
+pub open_end : (joins : Option OpName) (ends : List FiberEnd) (inner words : List ℕ) (last : Entry) (all : List Entry)
+    → AreOpen joins ends inner words last [] all
     → AreFlat (ends ++ end_behind last inner ∷ []) (inner ++ last.col ∷ []) (words ++ last.word ∷ [])
     × (entries_from 0 (ends ++ end_behind last inner ∷ []) (inner ++ last.col ∷ []) (words ++ last.word ∷ []) ≡ all)
 unfolding runs_from

@@ -23,11 +23,13 @@ use Rattle.session.specs.Tables.{same_object}
 
 -- ---- faults
 
-taken_name : (count : ℕ) (domain : Domain) (shape : Shape) (taken : Bool) → taken ≡ true → fault_of count (Create taken domain shape) ≡ Some status.NameTaken
+taken_name : (count : ℕ) (domain : Domain) (shape : Shape) (taken : Bool) → taken ≡ true
+    → fault_of count (Create taken domain shape) ≡ Some status.NameTaken
 unfolding early_fault
 taken_name count domain shape taken h = rw h refl
 
-pub there_through : (number : Name → Option Obj) (senv : Environment Obj) (found : Option Obj) → ((o : Obj) → found ≡ Some o → is_some (senv.find_object o) ≡ true)
+pub there_through : (number : Name → Option Obj) (senv : Environment Obj) (found : Option Obj)
+    → ((o : Obj) → found ≡ Some o → is_some (senv.find_object o) ≡ true)
     → is_some found ≡ true → is_some (option_and_then senv.find_object found) ≡ true
 there_through number senv None there h = h
 there_through number senv (Some o) there h = there o refl
@@ -38,12 +40,14 @@ pub fault-taken : (number : Name → Option Obj) (senv : Environment Obj) (name 
 fault-taken number senv name domain shape there taken =
     taken_name senv.count domain shape (is_some (option_and_then senv.find_object (number name))) (there_through number senv (number name) (there name) taken)
 
-pub free_name : (senv : Environment Obj) (found : Option Obj) → is_some found ≡ false → is_some (option_and_then senv.find_object found) ≡ false
+pub free_name : (senv : Environment Obj) (found : Option Obj) → is_some found ≡ false
+    → is_some (option_and_then senv.find_object found) ≡ false
 free_name senv None h = refl
 free_name senv (Some o) h = absurd (true≢false h)
 
 -- where the name is free, the fault is the session's
-pub fault-free : (number : Name → Option Obj) (session : Session) (name : Name) (domain : Domain) (shape : Shape) → made_in session < 2 ^ 64 - 1 → is_some (number name) ≡ false
+pub fault-free : (number : Name → Option Obj) (session : Session) (name : Name) (domain : Domain) (shape : Shape)
+    → made_in session < 2 ^ 64 - 1 → is_some (number name) ≡ false
     → fault_of (environment_of session).count (seen (through number (environment_of session)) (Create name domain shape)) ≡ fault_in session (Create (next_object session) domain shape)
 fault-free number session name domain shape small free =
     ap (λ taken. fault_of (environment_of session).count (Create taken domain shape)) (free_name (environment_of session) (number name) free)
@@ -52,14 +56,16 @@ fault-free number session name domain shape small free =
 -- ---- one more name
 
 -- no name stands yet for the number of a new object
-unnamed : (number : Name → Option Obj) (senv : Environment Obj) (o : Obj) (n : Name) (q : Obj) → ((n : Name) (q : Obj) → number n ≡ Some q → is_some (senv.find_object q) ≡ true)
+unnamed : (number : Name → Option Obj) (senv : Environment Obj) (o : Obj) (n : Name) (q : Obj)
+    → ((n : Name) (q : Obj) → number n ≡ Some q → is_some (senv.find_object q) ≡ true)
     → senv.find_object o ≡ None → number n ≡ Some q → (o.0 == q.0) ≡ true → ⊥
 unnamed number senv o n q there unused is same =
     let one : o ≡ q = same_number o q (eqb-true o.0 q.0 same) in
     let none : is_some (senv.find_object q) ≡ false = ap is_some (rw one at unused) in
     true≢false (sym (there n q is) ∙ none)
 
-pub created : (number new : Name → Option Obj) (senv : Environment Obj) (name : Name) (o : Obj) (object : Object) (count : ℕ)
+pub created : (number new : Name → Option Obj) (senv : Environment Obj) (name : Name) (o : Obj) (object : Object)
+    (count : ℕ)
     → ((q : Name) → new q ≡ cond (bytes_eq name q) (Some o) (number q))
     → ((n : Name) (q : Obj) → number n ≡ Some q → is_some (senv.find_object q) ≡ true) → senv.find_object o ≡ None
     → through new (with_object same_object senv o object count) ≡ with_object bytes_eq (through number senv) name object count
@@ -84,7 +90,8 @@ created number new senv name o object count adds there unused =
     ])
     refl
 
-pub created-effect : (number new : Name → Option Obj) (senv made : Environment Obj) (name : Name) (o : Obj) (domain : Domain) (shape : Shape)
+pub created-effect : (number new : Name → Option Obj) (senv made : Environment Obj) (name : Name) (o : Obj)
+    (domain : Domain) (shape : Shape)
     → ((q : Name) → new q ≡ cond (bytes_eq name q) (Some o) (number q))
     → ((n : Name) (q : Obj) → number n ≡ Some q → is_some (senv.find_object q) ≡ true) → senv.find_object o ≡ None
     → made ≡ effect same_object senv (Create o domain shape)
@@ -96,7 +103,8 @@ created-effect number new senv made name o domain shape adds there unused is =
 -- two names still stand for one object only where they are the same
 pub created-distinct : (number new : Name → Option Obj) (senv : Environment Obj) (name : Name) (o : Obj)
     → ((q : Name) → new q ≡ cond (bytes_eq name q) (Some o) (number q))
-    → ((n : Name) (q : Obj) → number n ≡ Some q → is_some (senv.find_object q) ≡ true) → senv.find_object o ≡ None → AreDistinct number → AreDistinct new
+    → ((n : Name) (q : Obj) → number n ≡ Some q → is_some (senv.find_object q) ≡ true) → senv.find_object o ≡ None
+    → AreDistinct number → AreDistinct new
 created-distinct number new senv name o adds there unused distinct a b q is_a is_b =
     elim (cases_Bool (bytes_eq name a)) [
       | inl same_a ↦ elim (cases_Bool (bytes_eq name b)) [
@@ -118,10 +126,12 @@ created-distinct number new senv name o adds there unused distinct a b q is_a is
     ]
 
 -- each name still stands for an object that is there
-made_there : (senv : Environment Obj) (o q : Obj) (object : Object) (count : ℕ) → is_some (senv.find_object q) ≡ true → is_some ((with_object same_object senv o object count).find_object q) ≡ true
+made_there : (senv : Environment Obj) (o q : Obj) (object : Object) (count : ℕ) → is_some (senv.find_object q) ≡ true
+    → is_some ((with_object same_object senv o object count).find_object q) ≡ true
 made_there senv o q object count h = elim (cases_Bool (o.0 == q.0)) [ inl same ↦ rw same refl | inr apart ↦ rw apart h ]
 
-pub created-there : (number new : Name → Option Obj) (senv made : Environment Obj) (name : Name) (o : Obj) (object : Object)
+pub created-there : (number new : Name → Option Obj) (senv made : Environment Obj) (name : Name) (o : Obj)
+    (object : Object)
     → ((q : Name) → new q ≡ cond (bytes_eq name q) (Some o) (number q))
     → ((n : Name) (q : Obj) → number n ≡ Some q → is_some (senv.find_object q) ≡ true)
     → made ≡ with_object same_object senv o object (senv.count + 1)
@@ -139,7 +149,8 @@ created-there number new senv made name o object adds there is n q stands =
 -- ---- an object that goes again
 
 pub gone_again : (senv made freed : Environment Obj) (o : Obj) (object : Object) → senv.find_object o ≡ None
-    → made ≡ with_object same_object senv o object (senv.count + 1) → freed ≡ without_object same_object made o → freed ≡ senv
+    → made ≡ with_object same_object senv o object (senv.count + 1) → freed ≡ without_object same_object made o
+    → freed ≡ senv
 gone_again senv made freed o object unused is left =
     left ∙ ap (λ (env : Environment Obj). without_object same_object env o) is
     ∙ environments_equal (without_object same_object (with_object same_object senv o object (senv.count + 1)) o) senv
@@ -152,15 +163,19 @@ gone_again senv made freed o object unused is left =
 -- ---- a name for what was made, or what was made gone again
 
 -- what was made is there
-pub new_there : (senv made : Environment Obj) (o : Obj) (object : Object) → made ≡ with_object same_object senv o object (senv.count + 1) → is_some (made.find_object o) ≡ true
+pub new_there : (senv made : Environment Obj) (o : Obj) (object : Object)
+    → made ≡ with_object same_object senv o object (senv.count + 1) → is_some (made.find_object o) ≡ true
 new_there senv made o object is = ap (λ (env : Environment Obj). is_some (env.find_object o)) is ∙ rw (own_number o.0) refl
 
 -- names stay apart, and each stands for an object that is there
-pub names_after : {T E : Type 0} (r : Result T E) (number new : Name → Option Obj) (senv : Environment Obj) (before after : Session) (key : Name) (o : Obj) (object : Object)
-    → environment_of before ≡ with_object same_object senv o object (senv.count + 1) → senv.find_object o ≡ None → AreDistinct number
+pub names_after : {T E : Type 0} (r : Result T E) (number new : Name → Option Obj) (senv : Environment Obj)
+    (before after : Session) (key : Name) (o : Obj) (object : Object)
+    → environment_of before ≡ with_object same_object senv o object (senv.count + 1) → senv.find_object o ≡ None
+    → AreDistinct number
     → ((n : Name) (q : Obj) → number n ≡ Some q → is_some (senv.find_object q) ≡ true)
     → OnOk r ((n : Name) → new n ≡ cond (bytes_eq key n) (Some o) (number n)) → OnOk r (after ≡ before)
-    → OnErr r ((n : Name) → new n ≡ number n) → OnErr r (environment_of after ≡ without_object same_object (environment_of before) o)
+    → OnErr r ((n : Name) → new n ≡ number n)
+    → OnErr r (environment_of after ≡ without_object same_object (environment_of before) o)
     → AreDistinct new × ((n : Name) (q : Obj) → new n ≡ Some q → is_some ((environment_of after).find_object q) ≡ true)
 names_after (Ok x) number new senv before after key o object is unused distinct there adds same kept gone = (
   created-distinct number new senv key o adds there unused distinct,
@@ -174,7 +189,8 @@ names_after (Err e) number new senv before after key o object is unused distinct
 
 -- ---- what is made
 
-pub create-makes : (senv made : Environment Obj) (o : Obj) (domain : Domain) (shape : Shape) → made ≡ effect same_object senv (Create o domain shape)
+pub create-makes : (senv made : Environment Obj) (o : Obj) (domain : Domain) (shape : Shape)
+    → made ≡ effect same_object senv (Create o domain shape)
     → made ≡ with_object same_object senv o (empty_object domain shape) (senv.count + 1)
 unfolding effect
 create-makes senv made o domain shape is = is
@@ -186,7 +202,8 @@ dup-makes senv made o from is = is
 
 -- ---- copies under a name
 
-taken_copy : (count : ℕ) (taken : Bool) (from : Option Object) → taken ≡ true → fault_of count (Dup taken from) ≡ Some status.NameTaken
+taken_copy : (count : ℕ) (taken : Bool) (from : Option Object) → taken ≡ true
+    → fault_of count (Dup taken from) ≡ Some status.NameTaken
 unfolding early_fault
 taken_copy count taken from h = rw h refl
 
@@ -196,18 +213,21 @@ pub dup-taken : (number : Name → Option Obj) (senv : Environment Obj) (name fr
 dup-taken number senv name from there taken =
     taken_copy senv.count (is_some (option_and_then senv.find_object (number name))) (option_and_then senv.find_object (number from)) (there_through number senv (number name) (there name) taken)
 
-copy_of_none : (count : ℕ) (taken : Bool) → taken ≡ false → fault_of count (Dup taken None) ≡ Some status.UninitializedObject
+copy_of_none : (count : ℕ) (taken : Bool) → taken ≡ false
+    → fault_of count (Dup taken None) ≡ Some status.UninitializedObject
 unfolding early_fault
 copy_of_none count taken h = rw h refl
 
-pub dup-missing : (number : Name → Option Obj) (senv : Environment Obj) (name from : Name) → is_some (number name) ≡ false → number from ≡ None
+pub dup-missing : (number : Name → Option Obj) (senv : Environment Obj) (name from : Name)
+    → is_some (number name) ≡ false → number from ≡ None
     → fault_of senv.count (seen (through number senv) (Dup name from)) ≡ Some status.UninitializedObject
 dup-missing number senv name from free none =
     ap (λ (found : Option Obj). fault_of senv.count (Dup (is_some (option_and_then senv.find_object (number name))) (option_and_then senv.find_object found))) none
     ∙ copy_of_none senv.count (is_some (option_and_then senv.find_object (number name))) (free_name senv (number name) free)
 
 -- where the name is free, and the other stands for an object, the fault is the session's
-pub dup-fault : (number : Name → Option Obj) (session : Session) (name from : Name) (q : Obj) → made_in session < 2 ^ 64 - 1 → is_some (number name) ≡ false → number from ≡ Some q
+pub dup-fault : (number : Name → Option Obj) (session : Session) (name from : Name) (q : Obj)
+    → made_in session < 2 ^ 64 - 1 → is_some (number name) ≡ false → number from ≡ Some q
     → fault_of (environment_of session).count (seen (through number (environment_of session)) (Dup name from)) ≡ fault_in session (Dup (next_object session) q)
 dup-fault number session name from q small free is =
     let senv = environment_of session in
@@ -217,7 +237,8 @@ dup-fault number session name from q small free is =
 
 pub dup-effect : (number new : Name → Option Obj) (senv made : Environment Obj) (name from : Name) (o q : Obj)
     → ((n : Name) → new n ≡ cond (bytes_eq name n) (Some o) (number n))
-    → ((n : Name) (p : Obj) → number n ≡ Some p → is_some (senv.find_object p) ≡ true) → senv.find_object o ≡ None → number from ≡ Some q
+    → ((n : Name) (p : Obj) → number n ≡ Some p → is_some (senv.find_object p) ≡ true) → senv.find_object o ≡ None
+    → number from ≡ Some q
     → made ≡ effect same_object senv (Dup o q)
     → through new made ≡ effect bytes_eq (through number senv) (Dup name from)
 unfolding effect

@@ -19,7 +19,8 @@ use Rattle.session.specs.Performed.{Ends}
 use Rattle.session.specs.Tables.{same_object}
 
 -- a name that stands for an object can be freed, and no other
-free_fault : (env : Environment Name) (name : Name) → fault_of env.count (seen env (Free name)) ≡ cond (is_some (env.find_object name)) None (Some status.UninitializedObject)
+free_fault : (env : Environment Name) (name : Name)
+    → fault_of env.count (seen env (Free name)) ≡ cond (is_some (env.find_object name)) None (Some status.UninitializedObject)
 unfolding early_fault
 free_fault env name =
     elim (env.find_object name) as (λ found. fault_of env.count (Free found) ≡ cond (is_some found) None (Some status.UninitializedObject))
@@ -29,8 +30,10 @@ pub fault-unnamed : (number : Name → Option Obj) (senv : Environment Obj) (nam
     → fault_of senv.count (seen (through number senv) (Free name)) ≡ Some status.UninitializedObject
 fault-unnamed number senv name none = free_fault (through number senv) name ∙ rw none refl
 
-pub free_ends : {T : Type 0} (result : Result T Status) (number : Name → Option Obj) (senv : Environment Obj) (name : Name) (o : Obj) → number name ≡ Some o
-    → MatchResult result (λ x. is_some (senv.find_object o) ≡ true) (λ s. (s ≡ status.UninitializedObject) × (senv.find_object o ≡ None))
+pub free_ends : {T : Type 0} (result : Result T Status) (number : Name → Option Obj) (senv : Environment Obj)
+    (name : Name) (o : Obj) → number name ≡ Some o
+    → MatchResult result (λ x. is_some (senv.find_object o) ≡ true)
+    (λ s. (s ≡ status.UninitializedObject) × (senv.find_object o ≡ None))
     → Ends (fault_of senv.count (seen (through number senv) (Free name))) result
 free_ends (Ok x) number senv name o is there = free_fault (through number senv) name ∙ rw (is, there) refl
 free_ends (Err s) number senv name o is absent =
@@ -93,8 +96,10 @@ module _ (number new : Name → Option Obj) (senv freed : Environment Obj) (name
       ap (λ (env : Environment Obj). is_some (env.find_object q)) left ∙ rw (apart_from n q before.0 before.1) (there n q before.1)
 
 -- an object that a name stands for is there, so it is freed
-pub is_freed : {T : Type 0} (result : Result T Status) (senv freed : Environment Obj) (o : Obj) → is_some (senv.find_object o) ≡ true
-    → MatchResult result (λ x. is_some (senv.find_object o) ≡ true) (λ s. (s ≡ status.UninitializedObject) × (senv.find_object o ≡ None))
+pub is_freed : {T : Type 0} (result : Result T Status) (senv freed : Environment Obj) (o : Obj)
+    → is_some (senv.find_object o) ≡ true
+    → MatchResult result (λ x. is_some (senv.find_object o) ≡ true)
+    (λ s. (s ≡ status.UninitializedObject) × (senv.find_object o ≡ None))
     → OnOk result (freed ≡ without_object same_object senv o) → freed ≡ without_object same_object senv o
 is_freed (Ok x) senv freed o there ends left = left
 is_freed (Err s) senv freed o there absent left = absurd (true≢false (sym there ∙ ap is_some absent.1))
@@ -103,7 +108,9 @@ pub on_ok : {T : Type 0} {P : Type 0} (result : Result T Status) → P → OnOk 
 on_ok (Ok x) p = p
 on_ok (Err s) p = tt
 
-pub never_refused : {T : Type 0} (P : Type 0) (result : Result T Status) (senv : Environment Obj) (o : Obj) → is_some (senv.find_object o) ≡ true
-    → MatchResult result (λ x. is_some (senv.find_object o) ≡ true) (λ s. (s ≡ status.UninitializedObject) × (senv.find_object o ≡ None)) → OnErr result P
+pub never_refused : {T : Type 0} (P : Type 0) (result : Result T Status) (senv : Environment Obj) (o : Obj)
+    → is_some (senv.find_object o) ≡ true
+    → MatchResult result (λ x. is_some (senv.find_object o) ≡ true)
+    (λ s. (s ≡ status.UninitializedObject) × (senv.find_object o ≡ None)) → OnErr result P
 never_refused P (Ok x) senv o there ends = tt
 never_refused P (Err s) senv o there absent = absurd (true≢false (sym there ∙ ap is_some absent.1))

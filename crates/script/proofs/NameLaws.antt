@@ -31,14 +31,16 @@ use Rattle.session.specs.declared.sessions.Session.{Session}
 use Rattle.session.specs.Tables.{same_object}
 
 -- what is made of a call's numbers is what is made of its names
-pub along : {K L M A B : Type 0} (number : K → Option L) (h : Option L → M) (k : A → B) (call : Call K A) (r : Call L A) → renamed Some (λ n. n) r ≡ renamed number (λ n. n) call
+pub along : {K L M A B : Type 0} (number : K → Option L) (h : Option L → M) (k : A → B) (call : Call K A)
+    (r : Call L A) → renamed Some (λ n. n) r ≡ renamed number (λ n. n) call
     → renamed (λ name. h (number name)) k call ≡ renamed (λ l. h (Some l)) k r
 along {L = L} {A = A} number h k call r e =
     sym (renamed_twice number h (λ n. n) k call) ∙ ap (λ (c : Call (Option L) A). renamed h k c) (sym e) ∙ renamed_twice Some h (λ n. n) k r
 
 -- ---- faults
 
-seen-unmade : {K : Type 0} (env : Environment K) (call : Call K K) → changes_names call ≡ false → seen env call ≡ renamed env.find_object (λ name. false) call
+seen-unmade : {K : Type 0} (env : Environment K) (call : Call K K) → changes_names call ≡ false
+    → seen env call ≡ renamed env.find_object (λ name. false) call
 seen-unmade env (Create name domain shape) h = absurd (true≢false h)
 seen-unmade env (Dup name o) h = absurd (true≢false h)
 seen-unmade env (Free o) h = refl
@@ -59,7 +61,8 @@ count-left session small =
     rw left refl
 
 -- the fault of a call on names is that of the call on numbers
-pub fault-along : (number : Name → Option Obj) (session : Session) (call : Call Name Name) (r : Call Obj Name) → made_in session < 2 ^ 64 - 1 → changes_names call ≡ false
+pub fault-along : (number : Name → Option Obj) (session : Session) (call : Call Name Name) (r : Call Obj Name)
+    → made_in session < 2 ^ 64 - 1 → changes_names call ≡ false
     → renamed Some (λ n. n) r ≡ renamed number (λ n. n) call
     → fault_of (through number (environment_of session)).count (seen (through number (environment_of session)) call) ≡ fault_in session (numbered session r)
 fault-along number session call r small known e =
@@ -73,7 +76,8 @@ fault-along number session call r small known e =
 
 -- ---- a name that stands for nothing
 
-there_renamed-out : {K X : Type 0} (f : K → Option X) (out : Out K) (operation : Operation K) → list_all is_some (outputs_of (renamed_out f out) ++ inputs_of (renamed_operation f operation)) ≡ list_all (λ k. is_some (f k)) (outputs_of out ++ inputs_of operation)
+there_renamed-out : {K X : Type 0} (f : K → Option X) (out : Out K) (operation : Operation K)
+    → list_all is_some (outputs_of (renamed_out f out) ++ inputs_of (renamed_operation f operation)) ≡ list_all (λ k. is_some (f k)) (outputs_of out ++ inputs_of operation)
 there_renamed-out {K = K} f out (Fill value region) =
     elim out.mask as (λ (mask : Option K). let o : Out K = record out { mask = mask } in
     list_all is_some (outputs_of (renamed_out f o) ++ inputs_of (renamed_operation f (Fill value region))) ≡ list_all (λ k. is_some (f k)) (outputs_of o ++ inputs_of (Fill value region)))
@@ -87,7 +91,8 @@ there_renamed-out {K = K} f out (OfTwo computes a b) =
     list_all is_some (outputs_of (renamed_out f o) ++ inputs_of (renamed_operation f (OfTwo computes a b))) ≡ list_all (λ k. is_some (f k)) (outputs_of o ++ inputs_of (OfTwo computes a b)))
     [ None ↦ refl | Some m ↦ refl ]
 
-pub there_renamed : {K X A B : Type 0} (f : K → Option X) (k : A → B) (call : Call K A) → are_there (renamed f k call) ≡ list_all (λ name. is_some (f name)) (objects_of call)
+pub there_renamed : {K X A B : Type 0} (f : K → Option X) (k : A → B) (call : Call K A)
+    → are_there (renamed f k call) ≡ list_all (λ name. is_some (f name)) (objects_of call)
 there_renamed f k (Create name domain shape) = refl
 there_renamed f k (Dup name o) = refl
 there_renamed f k (Free o) = refl
@@ -106,7 +111,8 @@ either_false : (a b : Bool) → b ≡ false → (a && b) ≡ false
 either_false true b h = h
 either_false false b h = refl
 
-fewer : {K X Y : Type 0} (f : K → Option X) (g : Option X → Option Y) (names : List K) → g None ≡ None → list_all (λ name. is_some (f name)) names ≡ false → list_all (λ name. is_some (g (f name))) names ≡ false
+fewer : {K X Y : Type 0} (f : K → Option X) (g : Option X → Option Y) (names : List K) → g None ≡ None
+    → list_all (λ name. is_some (f name)) names ≡ false → list_all (λ name. is_some (g (f name))) names ≡ false
 fewer f g [] none h = absurd (true≢false h)
 fewer {X = X} {Y = Y} f g (name ∷ names) none h =
     let P : Option X → Type 0 = λ o. (is_some o && list_all (λ n. is_some (f n)) names) ≡ false → (is_some (g o) && list_all (λ n. is_some (g (f n))) names) ≡ false in
@@ -116,7 +122,8 @@ fewer {X = X} {Y = Y} f g (name ∷ names) none h =
     ] in
     each (f name) h
 
-early-missing : (count : ℕ) (call : Call (Option Signature) Bool) → changes_names call ≡ false → are_there call ≡ false → early_fault count call ≡ Some status.UninitializedObject
+early-missing : (count : ℕ) (call : Call (Option Signature) Bool) → changes_names call ≡ false → are_there call ≡ false
+    → early_fault count call ≡ Some status.UninitializedObject
 unfolding early_fault
 early-missing count (Create name domain shape) known h = absurd (true≢false known)
 early-missing count (Dup name o) known h = absurd (true≢false known)
@@ -132,7 +139,8 @@ early-missing count (Print o) known h = rw h refl
 early-missing count (Reduce o monoid) known h = rw h refl
 early-missing count (Operate out operation) known h = rw h refl
 
-pub names_renamed : {K L A B : Type 0} (f : K → L) (k : A → B) (call : Call K A) → changes_names (renamed f k call) ≡ changes_names call
+pub names_renamed : {K L A B : Type 0} (f : K → L) (k : A → B) (call : Call K A)
+    → changes_names (renamed f k call) ≡ changes_names call
 names_renamed f k (Create name domain shape) = refl
 names_renamed f k (Dup name o) = refl
 names_renamed f k (Free o) = refl
@@ -147,12 +155,14 @@ names_renamed f k (Print o) = refl
 names_renamed f k (Reduce o monoid) = refl
 names_renamed f k (Operate out operation) = refl
 
-first_fault : {X : Type 0} (fault : Option X) (x : X) (rest : Option X) → fault ≡ Some x → option_map_or Some fault rest ≡ Some x
+first_fault : {X : Type 0} (fault : Option X) (x : X) (rest : Option X) → fault ≡ Some x
+    → option_map_or Some fault rest ≡ Some x
 first_fault None x rest h = absurd (cc)
 first_fault (Some y) x rest h = h
 
 -- a call on a name that stands for no object
-pub fault-missing : (number : Name → Option Obj) (senv : Environment Obj) (call : Call Name Name) → changes_names call ≡ false → are_there (renamed number (λ n. n) call) ≡ false
+pub fault-missing : (number : Name → Option Obj) (senv : Environment Obj) (call : Call Name Name)
+    → changes_names call ≡ false → are_there (renamed number (λ n. n) call) ≡ false
     → fault_of (through number senv).count (seen (through number senv) call) ≡ Some status.UninitializedObject
 fault-missing number senv call known missing =
     let env = through number senv in
@@ -195,8 +205,10 @@ put_by (Remove o p) = record o { content = without_entry o.content (row_of p) (c
 put_by (Operate out operation) = record out.c { content = result_of out operation }
 put_by _ = no_object
 
-pub effect-unmade : {K : Type 0} (same : K → K → Bool) (env : Environment K) (call : Call K K) → changes_names call ≡ false
-    → effect same env call ≡ option_map_or (λ name. with_object same env name (put_by (on_objects env call)) env.count) (put_to call) env
+pub effect-unmade : {K : Type 0} (same : K → K → Bool) (env : Environment K) (call : Call K K)
+    → changes_names call ≡ false
+    → effect same env call ≡ option_map_or (λ name. with_object same env name (put_by (on_objects env call)) env.count)
+    (put_to call) env
 unfolding effect
 effect-unmade same env (Create name domain shape) h = absurd (true≢false h)
 effect-unmade same env (Dup name o) h = absurd (true≢false h)
@@ -212,7 +224,8 @@ effect-unmade same env (Print o) h = refl
 effect-unmade same env (Reduce o monoid) h = refl
 effect-unmade same env (Operate out operation) h = refl
 
-pub put_renamed : {K L A B : Type 0} (f : K → L) (k : A → B) (call : Call K A) → put_to (renamed f k call) ≡ option_map f (put_to call)
+pub put_renamed : {K L A B : Type 0} (f : K → L) (k : A → B) (call : Call K A)
+    → put_to (renamed f k call) ≡ option_map f (put_to call)
 put_renamed f k (Create name domain shape) = refl
 put_renamed f k (Dup name o) = refl
 put_renamed f k (Free o) = refl
@@ -244,7 +257,8 @@ left_renamed k (Operate out operation) =
     ap (λ (mask : Option Object). let o : Out Object = record { c = out.c; mask = mask; accum = out.accum; desc = out.desc } in let left : Object = record out.c { content = result_of o (renamed_operation (λ o. o) operation) } in left) (own_mask out.mask)
     ∙ ap (λ (o : Operation Object). let left : Object = record out.c { content = result_of out o } in left) (own_operation operation)
 
-pub data_renamed : {A B : Type 0} (k : A → B) (call : Call Object A) → data_lines_of (renamed (λ o. o) k call) ≡ data_lines_of call
+pub data_renamed : {A B : Type 0} (k : A → B) (call : Call Object A)
+    → data_lines_of (renamed (λ o. o) k call) ≡ data_lines_of call
 unfolding data_lines_of
 data_renamed k (Create name domain shape) = refl
 data_renamed k (Dup name o) = refl
@@ -261,7 +275,8 @@ data_renamed k (Reduce o monoid) = refl
 data_renamed k (Operate out operation) = refl
 
 -- the objects of a call on names are those of the call on numbers
-pub on_objects-along : (number : Name → Option Obj) (senv : Environment Obj) (call : Call Name Name) (r : Call Obj Name) → renamed Some (λ n. n) r ≡ renamed number (λ n. n) call
+pub on_objects-along : (number : Name → Option Obj) (senv : Environment Obj) (call : Call Name Name)
+    (r : Call Obj Name) → renamed Some (λ n. n) r ≡ renamed number (λ n. n) call
     → on_objects (through number senv) call ≡ renamed (object_at senv) (λ n. n) r
 on_objects-along number senv call r e = along number (λ o. found_object (option_and_then senv.find_object o)) (λ n. n) call r e
 
@@ -279,7 +294,8 @@ equal_tests true false f g = sym (f refl)
 equal_tests false true f g = g refl
 
 -- another object under a number, and so under the one name that stands for it
-pub place-along : (number : Name → Option Obj) (senv : Environment Obj) (name : Name) (o : Obj) (object : Object) (count : ℕ) → AreDistinct number → number name ≡ Some o
+pub place-along : (number : Name → Option Obj) (senv : Environment Obj) (name : Name) (o : Obj) (object : Object)
+    (count : ℕ) → AreDistinct number → number name ≡ Some o
     → through number (with_object same_object senv o object count) ≡ with_object bytes_eq (through number senv) name object count
 place-along number senv name o object count distinct is =
     let new = with_object same_object senv o object count in

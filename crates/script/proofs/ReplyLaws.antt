@@ -29,15 +29,18 @@ use Rattle.session.specs.Tables.{same_object}
 
 -- ---- the session's call
 
-pub known_along : (number : Name → Option Obj) (session : Session) (call : Call Name Name) (r : Call Obj Name) → changes_names call ≡ false
+pub known_along : (number : Name → Option Obj) (session : Session) (call : Call Name Name) (r : Call Obj Name)
+    → changes_names call ≡ false
     → renamed Some (λ n. n) r ≡ renamed number (λ n. n) call → changes_names (numbered session r) ≡ false
 known_along number session call r known e =
     names_renamed (λ (o : Obj). o) (λ (n : Name). record { 0 = session.next }) r
     ∙ sym (names_renamed Some (λ n. n) r) ∙ ap changes_names e ∙ names_renamed number (λ n. n) call ∙ known
 
 -- the objects of the call by name and by number
-objects_along : {X : Type 0} (what : Call Object Name → X) (same : Call Object Obj → X) → ((k : Name → Obj) (call : Call Object Name) → same (renamed (λ o. o) k call) ≡ what call)
-    → (number : Name → Option Obj) (session : Session) (call : Call Name Name) (r : Call Obj Name) → renamed Some (λ n. n) r ≡ renamed number (λ n. n) call
+objects_along : {X : Type 0} (what : Call Object Name → X) (same : Call Object Obj → X)
+    → ((k : Name → Obj) (call : Call Object Name) → same (renamed (λ o. o) k call) ≡ what call)
+    → (number : Name → Option Obj) (session : Session) (call : Call Name Name) (r : Call Obj Name)
+    → renamed Some (λ n. n) r ≡ renamed number (λ n. n) call
     → what (on_objects (through number (environment_of session)) call) ≡ same (on_objects (environment_of session) (numbered session r))
 objects_along what same ignores number session call r e =
     let senv = environment_of session in
@@ -54,7 +57,8 @@ own_option : {K : Type 0} (o : Option K) → option_map (λ k. k) o ≡ o
 own_option None = refl
 own_option (Some k) = refl
 
-placed : (number : Name → Option Obj) (senv : Environment Obj) (object : Object) (found : Option Name) (made : Option Obj) → AreDistinct number → option_map Some made ≡ option_map number found
+placed : (number : Name → Option Obj) (senv : Environment Obj) (object : Object) (found : Option Name)
+    (made : Option Obj) → AreDistinct number → option_map Some made ≡ option_map number found
     → through number (option_map_or (λ o. with_object same_object senv o object senv.count) made senv)
     ≡ option_map_or (λ name. with_object bytes_eq (through number senv) name object senv.count) found (through number senv)
 placed number senv object None None distinct e = refl
@@ -63,8 +67,10 @@ placed number senv object (Some name) None distinct e = absurd (cc)
 placed number senv object (Some name) (Some o) distinct e =
     let is : number name ≡ Some o = cc in place-along number senv name o object senv.count distinct is
 
-pub effect-along : (number : Name → Option Obj) (session : Session) (new : Environment Obj) (call : Call Name Name) (r : Call Obj Name) → changes_names call ≡ false → AreDistinct number
-    → renamed Some (λ n. n) r ≡ renamed number (λ n. n) call → new ≡ effect same_object (environment_of session) (numbered session r)
+pub effect-along : (number : Name → Option Obj) (session : Session) (new : Environment Obj) (call : Call Name Name)
+    (r : Call Obj Name) → changes_names call ≡ false → AreDistinct number
+    → renamed Some (λ n. n) r ≡ renamed number (λ n. n) call
+    → new ≡ effect same_object (environment_of session) (numbered session r)
     → through number new ≡ effect bytes_eq (through number (environment_of session)) call
 effect-along number session new call r known distinct e is =
     let senv = environment_of session in
@@ -85,19 +91,22 @@ stays_put : (test : Bool) (x : Object) (o : Option Object) → is_some o ≡ tru
 stays_put true x o h = refl
 stays_put false x o h = h
 
-stays_in : (senv : Environment Obj) (object : Object) (made : Option Obj) (q : Obj) → is_some (senv.find_object q) ≡ true
+stays_in : (senv : Environment Obj) (object : Object) (made : Option Obj) (q : Obj)
+    → is_some (senv.find_object q) ≡ true
     → is_some ((option_map_or (λ o. with_object same_object senv o object senv.count) made senv).find_object q) ≡ true
 stays_in senv object None q h = h
 stays_in senv object (Some o) q h = stays_put (same_object o q) object (senv.find_object q) h
 
-pub stays : (senv new : Environment Obj) (call : Call Obj Obj) (q : Obj) → changes_names call ≡ false → new ≡ effect same_object senv call → is_some (senv.find_object q) ≡ true → is_some (new.find_object q) ≡ true
+pub stays : (senv new : Environment Obj) (call : Call Obj Obj) (q : Obj) → changes_names call ≡ false
+    → new ≡ effect same_object senv call → is_some (senv.find_object q) ≡ true → is_some (new.find_object q) ≡ true
 stays senv new call q known is h =
     ap (λ (env : Environment Obj). is_some (env.find_object q)) (is ∙ effect-unmade same_object senv call known)
     ∙ stays_in senv (put_by (on_objects senv call)) (put_to call) q h
 
 -- ---- what it answers
 
-lines_answered : (senv new : Environment Obj) (call : Call Obj Obj) (reply : Reply) → changes_names call ≡ false → new ≡ effect same_object senv call → Answers senv call reply
+lines_answered : (senv new : Environment Obj) (call : Call Obj Obj) (reply : Reply) → changes_names call ≡ false
+    → new ≡ effect same_object senv call → Answers senv call reply
     → reply_lines new reply ≡ data_lines_of (on_objects senv call)
 unfolding data_lines_of effect
 lines_answered senv new (Create name domain shape) reply known is answers = absurd (true≢false known)
@@ -124,7 +133,8 @@ lines_answered senv new (Print o) _ known is answers = absurd answers
 lines_answered senv new (Operate out operation) Done known is answers = refl
 lines_answered senv new (Operate out operation) _ known is answers = absurd answers
 
-asks_answered : (senv new : Environment Obj) (call : Call Obj Obj) (reply : Reply) → changes_names call ≡ false → new ≡ effect same_object senv call → Answers senv call reply → Asks new reply
+asks_answered : (senv new : Environment Obj) (call : Call Obj Obj) (reply : Reply) → changes_names call ≡ false
+    → new ≡ effect same_object senv call → Answers senv call reply → Asks new reply
 asks_answered senv new call Done known is answers = tt
 asks_answered senv new call (Made o) known is answers = tt
 asks_answered senv new call (Value value) known is answers = tt
@@ -132,7 +142,8 @@ asks_answered senv new call (Count number) known is answers = tt
 asks_answered senv new (Print o) (Text asked) known is answers = stays senv new (Print o) asked known is (rw answers.0 answers.1)
 asks_answered senv new _ (Text asked) known is answers = absurd answers
 
-reads_answered : (senv new : Environment Obj) (call : Call Obj Obj) (reply : Reply) → new ≡ effect same_object senv call → Answers senv call reply → HasLines reply → new ≡ senv
+reads_answered : (senv new : Environment Obj) (call : Call Obj Obj) (reply : Reply)
+    → new ≡ effect same_object senv call → Answers senv call reply → HasLines reply → new ≡ senv
 unfolding effect
 reads_answered senv new (Get o p) reply is answers has = is
 reads_answered senv new (Nvals o) reply is answers has = is
@@ -143,7 +154,8 @@ reads_answered senv new _ (Made o) is answers has = absurd has
 reads_answered senv new _ _ is answers has = absurd answers
 
 -- a call makes one object at most
-made_after-most : {T : Type 0} (old : Session) (result : Result T Status) (call : Call Obj Obj) → made_after old result call ≤ made_in old + 1
+made_after-most : {T : Type 0} (old : Session) (result : Result T Status) (call : Call Obj Obj)
+    → made_after old result call ≤ made_in old + 1
 made_after-most old (Err s) call = omega arith
 made_after-most old (Ok x) (Create name domain shape) = omega arith
 made_after-most old (Ok x) (Dup name o) = omega arith
@@ -161,8 +173,10 @@ made_after-most old (Ok x) (Operate out operation) = omega arith
 
 -- ---- together
 
-pub replied : (old new : Objects) (call : Call Name Name) (r : Call Obj Name) (result : Result Reply Status) → made_in old.session < 2 ^ 64 - 1 → changes_names call ≡ false
-    → AreDistinct (number_in old) → new.numbers ≡ old.numbers → renamed Some (λ n. n) r ≡ renamed (number_in old) (λ n. n) call
+pub replied : (old new : Objects) (call : Call Name Name) (r : Call Obj Name) (result : Result Reply Status)
+    → made_in old.session < 2 ^ 64 - 1 → changes_names call ≡ false
+    → AreDistinct (number_in old) → new.numbers ≡ old.numbers
+    → renamed Some (λ n. n) r ≡ renamed (number_in old) (λ n. n) call
     → IsPerformed old.session new.session (numbered old.session r) result
     → IfOk result (Answers (environment_of old.session) (numbered old.session r)) → IsReplied old new call result
 replied old new call r (Ok reply) small known distinct same e done answers =
@@ -196,16 +210,19 @@ replied old new call r (Err s) small known distinct same e done answers =
 -- ---- the table of names after a call
 
 -- each name stands for an object still, whether or not the call was accepted
-pub stays_there : (number : Name → Option Obj) (session new : Session) (call : Call Obj Obj) (result : Result Reply Status) → changes_names call ≡ false
+pub stays_there : (number : Name → Option Obj) (session new : Session) (call : Call Obj Obj)
+    (result : Result Reply Status) → changes_names call ≡ false
     → ((name : Name) (object : Obj) → number name ≡ Some object → is_some ((environment_of session).find_object object) ≡ true)
     → IsPerformed session new call result
-    → (name : Name) (object : Obj) → number name ≡ Some object → is_some ((environment_of new).find_object object) ≡ true
+    → (name : Name) (object : Obj) → number name ≡ Some object
+    → is_some ((environment_of new).find_object object) ≡ true
 stays_there number session new call (Ok reply) known there done name object is =
     stays (environment_of session) (environment_of new) call object known done.effect (there name object is)
 stays_there number session new call (Err s) known there done name object is =
     ap (λ (env : Environment Obj). is_some (env.find_object object)) done.kept ∙ there name object is
 
-pub refused : (old new : Objects) (call : Call Name Name) (s : Status) → fault_of (environment_in old).count (seen (environment_in old) call) ≡ Some s
+pub refused : (old new : Objects) (call : Call Name Name) (s : Status)
+    → fault_of (environment_in old).count (seen (environment_in old) call) ≡ Some s
     → new ≡ old → IsReplied old new call (Err s)
 refused old new call s fault same = record {
   status = inr fault;
@@ -219,7 +236,8 @@ refused old new call s fault same = record {
 
 -- ---- calls whose names are held another way
 
-named_again : {X : Type 0} (now : X → Name) (number : Name → Option Obj) (call : Call X X) (r : Call Obj X) → renamed Some (λ x. x) r ≡ renamed (λ x. number (now x)) (λ x. x) call
+named_again : {X : Type 0} (now : X → Name) (number : Name → Option Obj) (call : Call X X) (r : Call Obj X)
+    → renamed Some (λ x. x) r ≡ renamed (λ x. number (now x)) (λ x. x) call
     → renamed Some (λ n. n) (renamed (λ o. o) now r) ≡ renamed number (λ n. n) (renamed now now call)
 named_again {X = X} now number call r e =
     renamed_twice (λ (o : Obj). o) Some now (λ (n : Name). n) r
@@ -228,24 +246,30 @@ named_again {X = X} now number call r e =
     ∙ renamed_twice (λ (x : X). number (now x)) (λ (o : Option Obj). o) (λ (x : X). x) now call
     ∙ sym (renamed_twice now number now (λ (n : Name). n) call)
 
-numbered_again : {X : Type 0} (now : X → Name) (session : Session) (r : Call Obj X) → numbered session (renamed (λ o. o) now r) ≡ numbered session r
+numbered_again : {X : Type 0} (now : X → Name) (session : Session) (r : Call Obj X)
+    → numbered session (renamed (λ o. o) now r) ≡ numbered session r
 numbered_again now session r = renamed_twice (λ (o : Obj). o) (λ (o : Obj). o) now (λ (n : Name). record { 0 = session.next }) r
 
-pub replied_named : {X : Type 0} (now : X → Name) (old new : Objects) (call : Call X X) (r : Call Obj X) (result : Result Reply Status) → made_in old.session < 2 ^ 64 - 1 → changes_names call ≡ false
-    → AreDistinct (number_in old) → new.numbers ≡ old.numbers → renamed Some (λ x. x) r ≡ renamed (λ x. number_in old (now x)) (λ x. x) call
+pub replied_named : {X : Type 0} (now : X → Name) (old new : Objects) (call : Call X X) (r : Call Obj X)
+    (result : Result Reply Status) → made_in old.session < 2 ^ 64 - 1 → changes_names call ≡ false
+    → AreDistinct (number_in old) → new.numbers ≡ old.numbers
+    → renamed Some (λ x. x) r ≡ renamed (λ x. number_in old (now x)) (λ x. x) call
     → IsPerformed old.session new.session (numbered old.session r) result
-    → IfOk result (Answers (environment_of old.session) (numbered old.session r)) → IsReplied old new (renamed now now call) result
+    → IfOk result (Answers (environment_of old.session) (numbered old.session r))
+    → IsReplied old new (renamed now now call) result
 replied_named now old new call r result small known distinct same e done answers =
     let own = numbered_again now old.session r in
     replied old new (renamed now now call) (renamed (λ o. o) now r) result small (names_renamed now now call ∙ known) distinct same (named_again now (number_in old) call r e)
     (rw own done) (rw own answers)
 
-pub known_named : {X : Type 0} (now : X → Name) (number : Name → Option Obj) (session : Session) (call : Call X X) (r : Call Obj X) → changes_names call ≡ false
+pub known_named : {X : Type 0} (now : X → Name) (number : Name → Option Obj) (session : Session) (call : Call X X)
+    (r : Call Obj X) → changes_names call ≡ false
     → renamed Some (λ x. x) r ≡ renamed (λ x. number (now x)) (λ x. x) call → changes_names (numbered session r) ≡ false
 known_named now number session call r known e =
     sym (ap changes_names (numbered_again now session r)) ∙ known_along number session (renamed now now call) (renamed (λ o. o) now r) (names_renamed now now call ∙ known) (named_again now number call r e)
 
-pub missing_named : {X : Type 0} (now : X → Name) (names : Objects) (call : Call X X) → changes_names call ≡ false → are_there (renamed (λ x. number_in names (now x)) (λ x. x) call) ≡ false
+pub missing_named : {X : Type 0} (now : X → Name) (names : Objects) (call : Call X X) → changes_names call ≡ false
+    → are_there (renamed (λ x. number_in names (now x)) (λ x. x) call) ≡ false
     → IsReplied names names (renamed now now call) (Err status.UninitializedObject)
 missing_named {X = X} now names call known missing =
     let number = number_in names in

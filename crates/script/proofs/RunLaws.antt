@@ -19,7 +19,8 @@ pub record IsUnderWay (sources : Sources) (script rest : List ℕ) (state : Stat
   pub answers : List Answer
   pub split : readings_in sources script ≡ done ++ readings_in sources rest
   pub written : new ≡ old ++ flat_map answer_text answers
-  pub goes_on : (others : List (Reading File)) (more : List Answer) → IsRun number state others more → IsRun 1 first_state (done ++ others) (answers ++ more)
+  pub goes_on : (others : List (Reading File)) (more : List Answer) → IsRun number state others more
+      → IsRun 1 first_state (done ++ others) (answers ++ more)
 
 pub under_way-start : (sources : Sources) (script out : List ℕ) → IsUnderWay sources script script first_state 1 out out
 under_way-start sources script out = record {
@@ -31,7 +32,8 @@ under_way-start sources script out = record {
 }
 
 -- one line more, with its answers
-pub under_way-turn : (sources : Sources) (script rest others line : List ℕ) (before after : State) (number : ℕ) (old new text : List ℕ)
+pub under_way-turn : (sources : Sources) (script rest others line : List ℕ) (before after : State) (number : ℕ)
+    (old new text : List ℕ)
     → lines_of rest ≡ line ∷ lines_of others
     → Says number before (with_file sources (reading_of line)) text after
     → IsUnderWay sources script rest before number old new
@@ -64,6 +66,7 @@ ran-all sources script state number old new way =
     rw all (ran way.done old new way.answers whole way.written)
 
 -- the headline in bytes
-pub headline : (sources : Sources) (script old new : List ℕ) → Ran (readings_in sources script) old new → (text : List ℕ) → new ≡ old ++ text → TellsOfNoWant text → text ≡ out_of sources script
+pub headline : (sources : Sources) (script old new : List ℕ) → Ran (readings_in sources script) old new
+    → (text : List ℕ) → new ≡ old ++ text → TellsOfNoWant text → text ≡ out_of sources script
 unfolding out_of
 headline sources script old new ran text is none = ran.in_bytes text is none

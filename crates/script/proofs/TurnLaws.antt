@@ -25,17 +25,20 @@ abbrev pub state_of : Environment Name → State
 state_of environment = record { environment = environment }
 
 -- a line that is silent
-pub says-nothing : (reading : Reading File) (number : ℕ) (before : Environment Name) (text : List ℕ) → reading ≡ Silent → text ≡ [] → Says number (state_of before) reading text (state_of before)
+pub says-nothing : (reading : Reading File) (number : ℕ) (before : Environment Name) (text : List ℕ) → reading ≡ Silent
+    → text ≡ [] → Says number (state_of before) reading text (state_of before)
 unfolding turn
 says-nothing reading number before text read empty = rw read ([], inl (refl, refl), empty)
 
 -- an answer's text is its first line and its data lines
-text_of_one : (a : Answer) (text : List ℕ) → text ≡ status_line a.number a.status ++ flat_map ended a.data_lines → text ≡ flat_map answer_text (a ∷ [])
+text_of_one : (a : Answer) (text : List ℕ) → text ≡ status_line a.number a.status ++ flat_map ended a.data_lines
+    → text ≡ flat_map answer_text (a ∷ [])
 unfolding answer_text
 text_of_one a text texts = texts ∙ sym (append-nil (answer_text a))
 
 -- an accepted call
-pub says-ok : (reading : Reading File) (call : Call Name Name) (number : ℕ) (before after : Environment Name) (text : List ℕ)
+pub says-ok : (reading : Reading File) (call : Call Name Name) (number : ℕ) (before after : Environment Name)
+    (text : List ℕ)
     → reading ≡ Called call → fault_of before.count (seen before call) ≡ None → after ≡ effect bytes_eq before call
     → text ≡ status_line number status.Ok ++ flat_map ended (data_lines_of (on_objects before call))
     → Says number (state_of before) reading text (state_of after)
@@ -61,8 +64,10 @@ says-fault call number before after s text fault kept texts =
     (said ∷ [], inl (rw fault refl, rw fault (ap state_of kept)), text_of_one said text (texts ∙ sym (append-nil (status_line number s))))
 
 -- a call that is not accepted, where its answer is written
-pub says-refused : {E : Type 0} (r : Result (Unit {0}) E) (reading : Reading File) (call : Call Name Name) (number : ℕ) (before after : Environment Name) (s : Status) (text : List ℕ)
-    → reading ≡ Called call → (s ≡ status.OutOfMemory) ⊎ (fault_of before.count (seen before call) ≡ Some s) → after ≡ before
+pub says-refused : {E : Type 0} (r : Result (Unit {0}) E) (reading : Reading File) (call : Call Name Name) (number : ℕ)
+    (before after : Environment Name) (s : Status) (text : List ℕ)
+    → reading ≡ Called call → (s ≡ status.OutOfMemory) ⊎ (fault_of before.count (seen before call) ≡ Some s)
+    → after ≡ before
     → OnOk r (text ≡ status_line number s)
     → OnOk r (Says number (state_of before) reading text (state_of after))
 says-refused (Err refused) reading call number before after s text read why kept texts = tt
@@ -71,8 +76,10 @@ says-refused (Ok done) reading call number before after s text read (inl memory)
 says-refused (Ok done) reading call number before after s text read (inr fault) kept texts = rw read (says-fault call number before after s text fault kept texts)
 
 -- an accepted load, where its answer is written
-pub says-load : {E : Type 0} (r : Result (Unit {0}) E) (reading : Reading File) (name : Name) (domain : Domain) (file : File) (number : ℕ) (before after : Environment Name) (text : List ℕ)
-    → reading ≡ Loads name domain file → load_fault before.count (is_some (before.find_object name)) file ≡ None → after ≡ loaded bytes_eq before name domain file
+pub says-load : {E : Type 0} (r : Result (Unit {0}) E) (reading : Reading File) (name : Name) (domain : Domain)
+    (file : File) (number : ℕ) (before after : Environment Name) (text : List ℕ)
+    → reading ≡ Loads name domain file → load_fault before.count (is_some (before.find_object name)) file ≡ None
+    → after ≡ loaded bytes_eq before name domain file
     → OnOk r (text ≡ status_line number status.Ok)
     → OnOk r (Says number (state_of before) reading text (state_of after))
 unfolding turn load
@@ -82,16 +89,21 @@ says-load (Ok done) reading name domain file number before after text read accep
     rw read (said ∷ [], inl (rw accepted refl, rw accepted (ap state_of left)), text_of_one said text (texts ∙ sym (append-nil (status_line number status.Ok))))
 
 -- ..and one that is not accepted
-fault-load : (name : Name) (domain : Domain) (file : File) (number : ℕ) (before after : Environment Name) (s : Status) (text : List ℕ)
-    → load_fault before.count (is_some (before.find_object name)) file ≡ Some s → after ≡ before → text ≡ status_line number s
+fault-load : (name : Name) (domain : Domain) (file : File) (number : ℕ) (before after : Environment Name) (s : Status)
+    (text : List ℕ)
+    → load_fault before.count (is_some (before.find_object name)) file ≡ Some s → after ≡ before
+    → text ≡ status_line number s
     → Says number (state_of before) (Loads name domain file) text (state_of after)
 unfolding turn load
 fault-load name domain file number before after s text fault kept texts =
     let said : Answer = record { number = number; status = s; data_lines = [] } in
     (said ∷ [], inl (rw fault refl, rw fault (ap state_of kept)), text_of_one said text (texts ∙ sym (append-nil (status_line number s))))
 
-pub refused-load : {E : Type 0} (r : Result (Unit {0}) E) (reading : Reading File) (name : Name) (domain : Domain) (file : File) (number : ℕ) (before after : Environment Name) (s : Status) (text : List ℕ)
-    → reading ≡ Loads name domain file → (s ≡ status.OutOfMemory) ⊎ (load_fault before.count (is_some (before.find_object name)) file ≡ Some s) → after ≡ before
+pub refused-load : {E : Type 0} (r : Result (Unit {0}) E) (reading : Reading File) (name : Name) (domain : Domain)
+    (file : File) (number : ℕ) (before after : Environment Name) (s : Status) (text : List ℕ)
+    → reading ≡ Loads name domain file
+    → (s ≡ status.OutOfMemory) ⊎ (load_fault before.count (is_some (before.find_object name)) file ≡ Some s)
+    → after ≡ before
     → OnOk r (text ≡ status_line number s)
     → OnOk r (Says number (state_of before) reading text (state_of after))
 refused-load (Err refused) reading name domain file number before after s text read why kept texts = tt
@@ -100,7 +112,8 @@ refused-load (Ok done) reading name domain file number before after s text read 
 refused-load (Ok done) reading name domain file number before after s text read (inr fault) kept texts = rw read (fault-load name domain file number before after s text fault kept texts)
 
 -- a line that is no command, where its answer is written
-pub says-malformed : {E : Type 0} (r : Result (Unit {0}) E) (reading : Reading File) (number : ℕ) (before : Environment Name) (text : List ℕ)
+pub says-malformed : {E : Type 0} (r : Result (Unit {0}) E) (reading : Reading File) (number : ℕ)
+    (before : Environment Name) (text : List ℕ)
     → reading ≡ Malformed
     → OnOk r (text ≡ status_line number status.Syntax)
     → OnOk r (Says number (state_of before) reading text (state_of before))
@@ -111,7 +124,8 @@ says-malformed (Ok done) reading number before text read texts =
     rw read (said ∷ [], inl (refl, refl), text_of_one said text (texts ∙ sym (append-nil (status_line number status.Syntax))))
 
 -- a line that there is no memory to read, where its answer is written
-pub says-unread : {E : Type 0} (r : Result (Unit {0}) E) (reading : Reading File) (number : ℕ) (before : Environment Name) (text : List ℕ)
+pub says-unread : {E : Type 0} (r : Result (Unit {0}) E) (reading : Reading File) (number : ℕ)
+    (before : Environment Name) (text : List ℕ)
     → IsAnswered reading
     → OnOk r (text ≡ status_line number status.OutOfMemory)
     → OnOk r (Says number (state_of before) reading text (state_of before))

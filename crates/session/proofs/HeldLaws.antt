@@ -36,27 +36,32 @@ edited-pushed : (es : List Edit) (e : Edit) (c : Content) → edited (es ++ e �
 edited-pushed es e c = fold-append edited_once c es (e ∷ [])
 
 -- the object with a value set last
-pub set-last : (domain : Domain) (shape : Shape) (es : List Edit) (c : Content) (p : Place) (value : ℤ) (i j word : ℕ) → i ≡ row_of p → j ≡ col_of p → word ≡ word_of domain value
+pub set-last : (domain : Domain) (shape : Shape) (es : List Edit) (c : Content) (p : Place) (value : ℤ) (i j word : ℕ)
+    → i ≡ row_of p → j ≡ col_of p → word ≡ word_of domain value
     → (let o : Object = record { domain = domain; shape = shape; content = edited es c } in
     let new : Object = record { domain = domain; shape = shape; content = edited (es ++ Set i j word ∷ []) c } in new ≡ with_value o p value)
 set-last domain shape es c p value i j word row col named =
     ap (λ (d : Content). let new : Object = record { domain = domain; shape = shape; content = d } in new) (edited-pushed es (Set i j word) c ∙ rw (row, col, named) refl)
 
 -- the object with an entry removed last
-pub removed-last : (domain : Domain) (shape : Shape) (es : List Edit) (c : Content) (p : Place) (i j : ℕ) → i ≡ row_of p → j ≡ col_of p
+pub removed-last : (domain : Domain) (shape : Shape) (es : List Edit) (c : Content) (p : Place) (i j : ℕ)
+    → i ≡ row_of p → j ≡ col_of p
     → (let o : Object = record { domain = domain; shape = shape; content = edited es c } in
     let new : Object = record { domain = domain; shape = shape; content = edited (es ++ Remove i j ∷ []) c } in new ≡ without_value o p)
 removed-last domain shape es c p i j row col =
     ap (λ (d : Content). let new : Object = record { domain = domain; shape = shape; content = d } in new) (edited-pushed es (Remove i j) c ∙ rw (row, col) refl)
 
 -- what is held is an object also with one more edit, whether or not there was memory for it
-pub pushed-inside : {T E : Type 0} (r : Result T E) (es new : List Edit) (rows cols : ℕ) (e : Edit) → OnOk r (new ≡ es ++ e ∷ []) → OnErr r (new ≡ es)
+pub pushed-inside : {T E : Type 0} (r : Result T E) (es new : List Edit) (rows cols : ℕ) (e : Edit)
+    → OnOk r (new ≡ es ++ e ∷ []) → OnErr r (new ≡ es)
     → (place_of e).0 < rows → (place_of e).1 < cols → AreInside rows cols es → AreInside rows cols new
 pushed-inside (Ok x) es new rows cols e pushed kept row col inside = subst (AreInside rows cols) (sym pushed) (All-push (λ f. ((place_of f).0 < rows) × ((place_of f).1 < cols)) es e inside (row, col))
 pushed-inside (Err x) es new rows cols e pushed kept row col inside = subst (AreInside rows cols) (sym kept) inside
 
-pub pushed-set : {T E : Type 0} (r : Result T E) (domain : Domain) (shape : Shape) (es new : List Edit) (c : Content) (p : Place) (value : ℤ) (i j word : ℕ)
-    → OnOk r (new ≡ es ++ Set i j word ∷ []) → OnErr r (new ≡ es) → i ≡ row_of p → j ≡ col_of p → word ≡ word_of domain value → is_inside p shape ≡ true → is_value_of domain value ≡ true
+pub pushed-set : {T E : Type 0} (r : Result T E) (domain : Domain) (shape : Shape) (es new : List Edit) (c : Content)
+    (p : Place) (value : ℤ) (i j word : ℕ)
+    → OnOk r (new ≡ es ++ Set i j word ∷ []) → OnErr r (new ≡ es) → i ≡ row_of p → j ≡ col_of p
+    → word ≡ word_of domain value → is_inside p shape ≡ true → is_value_of domain value ≡ true
     → (let o : Object = record { domain = domain; shape = shape; content = edited es c } in IsObject o) → let o : Object = record { domain = domain; shape = shape; content = edited new c } in IsObject o
 pushed-set (Ok x) domain shape es new c p value i j word pushed kept row col named inside valued is =
     let o : Object = record { domain = domain; shape = shape; content = edited es c } in
@@ -64,7 +69,8 @@ pushed-set (Ok x) domain shape es new c p value i j word pushed kept row col nam
 pushed-set (Err x) domain shape es new c p value i j word pushed kept row col named inside valued is = rw kept is
 
 -- what is held is the same where its edits mean the same of its store
-pub same-meaning : (domain : Domain) (shape : Shape) (es fs : List Edit) (c d : Content) → ((i j : ℕ) → edited es c i j ≡ edited fs d i j)
+pub same-meaning : (domain : Domain) (shape : Shape) (es fs : List Edit) (c d : Content)
+    → ((i j : ℕ) → edited es c i j ≡ edited fs d i j)
     → (let old : Object = record { domain = domain; shape = shape; content = edited fs d } in
     let new : Object = record { domain = domain; shape = shape; content = edited es c } in new ≡ old)
 same-meaning domain shape es fs c d same =
@@ -94,7 +100,8 @@ settled-is held none = ap (λ (es : List Edit). let o : Object = record { domain
 -- ---- other stores
 
 -- the object in another shape, with the entries that fit it, is one
-pub held-resized : (o : Object) (shape : Shape) (content : Content) → IsObject o → ((i j : ℕ) → content i j ≡ cut_to (rows_of shape) (cols_of shape) o.content i j)
+pub held-resized : (o : Object) (shape : Shape) (content : Content) → IsObject o
+    → ((i j : ℕ) → content i j ≡ cut_to (rows_of shape) (cols_of shape) o.content i j)
     → IsObject (record o { shape = shape; content = content })
 held-resized o shape content is cut =
     let after : Object = record o { shape = shape; content = content } in
@@ -106,7 +113,8 @@ held-resized o shape content is cut =
     rw same new
 
 -- what is built of accepted tuples is one
-pub held-built : (o : Object) (dup : Option OpName) (tuples : List Tuple) (content : Content) → BuildsOn o dup tuples → ((i j : ℕ) → content i j ≡ built dup o.domain tuples i j)
+pub held-built : (o : Object) (dup : Option OpName) (tuples : List Tuple) (content : Content) → BuildsOn o dup tuples
+    → ((i j : ℕ) → content i j ≡ built dup o.domain tuples i j)
     → IsObject (record o { content = content })
 held-built o dup tuples content builds is =
     let after : Object = record o { content = content } in
@@ -115,12 +123,14 @@ held-built o dup tuples content builds is =
     rw same (built-is_object o dup tuples builds.joins builds.inside)
 
 -- an object whose store has no entry has none
-pub empty-object : (o : Object) (rows cols n : ℕ) → n ≡ length (entries_of rows cols o.content) → n ≡ 0 → rows ≡ rows_of o.shape → cols ≡ cols_of o.shape → has_entries o ≡ false
+pub empty-object : (o : Object) (rows cols n : ℕ) → n ≡ length (entries_of rows cols o.content) → n ≡ 0
+    → rows ≡ rows_of o.shape → cols ≡ cols_of o.shape → has_entries o ≡ false
 empty-object o rows cols n is zero r c = rw (← r, ← c, ← is, zero) refl
 
 positive : (n : ℕ) → 0 < n → not (n == 0) ≡ true
 positive n more = rw (ne_eqb n 0 (λ e. let none : n ≡ 0 = e in absurd (omega arith))) refl
 
 -- ..and one whose store has some has some
-pub full-object : (o : Object) (rows cols n : ℕ) → n ≡ length (entries_of rows cols o.content) → 0 < n → rows ≡ rows_of o.shape → cols ≡ cols_of o.shape → has_entries o ≡ true
+pub full-object : (o : Object) (rows cols n : ℕ) → n ≡ length (entries_of rows cols o.content) → 0 < n
+    → rows ≡ rows_of o.shape → cols ≡ cols_of o.shape → has_entries o ≡ true
 full-object o rows cols n is more r c = rw (← r, ← c, ← is) (positive n more)

@@ -33,14 +33,17 @@ use Rattle.session.specs.Tables.{same_object}
 use Rattle.session.proofs.SessionLaws.{free-fault, no_late}
 
 -- an accepted call
-performed : {T : Type 0} (old new : Session) (call : Call Obj Obj) (x : T) → fault_in old call ≡ None → environment_of new ≡ effect same_object (environment_of old) call
+performed : {T : Type 0} (old new : Session) (call : Call Obj Obj) (x : T) → fault_in old call ≡ None
+    → environment_of new ≡ effect same_object (environment_of old) call
     → made_in new ≡ made_after {T = T} old (Ok x) call → IsPerformed old new call (Ok x)
 performed old new call x accepted left made = record { status = accepted; effect = left; kept = tt; made = made }
 
 pub performed-create : {T : Type 0} (old new : Session) (domain : Domain) (shape : Shape) (object : Object) (x : T)
     → early_fault (count_in old) (Create false domain shape) ≡ None
-    → environment_of new ≡ with_object same_object (environment_of old) (next_object old) object ((environment_of old).count + 1)
-    → object ≡ empty_object domain shape → made_in new ≡ made_in old + 1 → IsPerformed old new (Create (next_object old) domain shape) (Ok x)
+    → environment_of new ≡ with_object same_object (environment_of old)
+    (next_object old) object ((environment_of old).count + 1)
+    → object ≡ empty_object domain shape → made_in new ≡ made_in old + 1
+    → IsPerformed old new (Create (next_object old) domain shape) (Ok x)
 unfolding effect
 performed-create old new domain shape object x accepted left empty made =
     performed old new (Create (next_object old) domain shape) x (no_late (early_fault (count_in old) (Create false domain shape)) accepted)
@@ -70,8 +73,10 @@ performed-remove old new o p x accepted left made = performed old new (Remove o 
 
 pub performed-dup : {T : Type 0} (old new : Session) (from : Obj) (object : Object) (x : T)
     → early_fault (count_in old) (Dup false (known_in old from)) ≡ None
-    → environment_of new ≡ with_object same_object (environment_of old) (next_object old) object ((environment_of old).count + 1)
-    → object ≡ object_at (environment_of old) from → made_in new ≡ made_in old + 1 → IsPerformed old new (Dup (next_object old) from) (Ok x)
+    → environment_of new ≡ with_object same_object (environment_of old)
+    (next_object old) object ((environment_of old).count + 1)
+    → object ≡ object_at (environment_of old) from → made_in new ≡ made_in old + 1
+    → IsPerformed old new (Dup (next_object old) from) (Ok x)
 unfolding effect
 performed-dup old new from object x accepted left same made =
     performed old new (Dup (next_object old) from) x (no_late (early_fault (count_in old) (Dup false (known_in old from))) accepted)
@@ -88,15 +93,18 @@ performed-resize old new o shape content x accepted left cut made =
     (left ∙ (λ t. with_object same_object (environment_of old) o (record (object_at (environment_of old) o) { shape = shape; content = λ i j. cut i j t }) (environment_of old).count)) made
 
 -- a build of an object without entries has no fault that depends on values
-no_late_build : (early : Option Status) (o : Object) (dup : Option OpName) (tuples : List Tuple) → early ≡ None → has_entries o ≡ false
+no_late_build : (early : Option Status) (o : Object) (dup : Option OpName) (tuples : List Tuple) → early ≡ None
+    → has_entries o ≡ false
     → option_map_or Some early (late_fault {N = Obj} (Build o dup tuples)) ≡ None
 no_late_build early o dup tuples accepted empty = rw (accepted, empty) refl
 
-late_build : (early : Option Status) (o : Object) (dup : Option OpName) (tuples : List Tuple) → early ≡ None → has_entries o ≡ true
+late_build : (early : Option Status) (o : Object) (dup : Option OpName) (tuples : List Tuple) → early ≡ None
+    → has_entries o ≡ true
     → option_map_or Some early (late_fault {N = Obj} (Build o dup tuples)) ≡ Some status.OutputNotEmpty
 late_build early o dup tuples accepted full = rw (accepted, full) refl
 
-pub performed-build : {T : Type 0} (old new : Session) (o : Obj) (dup : Option OpName) (tuples : List Tuple) (content : Content) (x : T)
+pub performed-build : {T : Type 0} (old new : Session) (o : Obj) (dup : Option OpName) (tuples : List Tuple)
+    (content : Content) (x : T)
     → early_fault (count_in old) (known_call {N = Obj} (known_in old) (Build o dup tuples)) ≡ None
     → has_entries (object_at (environment_of old) o) ≡ false
     → environment_of new ≡ with_content same_object (environment_of old) o content
@@ -110,7 +118,8 @@ performed-build old new o dup tuples content x accepted empty left is made =
 -- ..and of one with entries has
 pub refused-build : {T : Type 0} (session new : Session) (o : Obj) (dup : Option OpName) (tuples : List Tuple)
     → early_fault (count_in session) (known_call {N = Obj} (known_in session) (Build o dup tuples)) ≡ None
-    → has_entries (object_at (environment_of session) o) ≡ true → environment_of new ≡ environment_of session → made_in new ≡ made_in session
+    → has_entries (object_at (environment_of session) o) ≡ true → environment_of new ≡ environment_of session
+    → made_in new ≡ made_in session
     → IsPerformed {T = T} session new (Build o dup tuples) (Err status.OutputNotEmpty)
 refused-build session new o dup tuples accepted full kept made = record {
   status = inr (late_build _ (object_at (environment_of session) o) dup tuples accepted full);
@@ -121,8 +130,10 @@ refused-build session new o dup tuples accepted full kept made = record {
 
 -- an object is freed where it is there, and else there is a fault
 pub performed-free : {T : Type 0} (old new : Session) (o : Obj) (r : Result T Status)
-    → MatchResult r (λ x. is_some ((environment_of old).find_object o) ≡ true) (λ s. (s ≡ status.UninitializedObject) × ((environment_of old).find_object o ≡ None))
-    → OnOk r (environment_of new ≡ without_object same_object (environment_of old) o) → OnErr r (environment_of new ≡ environment_of old)
+    → MatchResult r (λ x. is_some ((environment_of old).find_object o) ≡ true)
+    (λ s. (s ≡ status.UninitializedObject) × ((environment_of old).find_object o ≡ None))
+    → OnOk r (environment_of new ≡ without_object same_object (environment_of old) o)
+    → OnErr r (environment_of new ≡ environment_of old)
     → made_in new ≡ made_in old → IsPerformed old new (Free o) r
 unfolding effect
 performed-free old new o (Ok x) there left kept made =
@@ -136,7 +147,8 @@ performed-free old new o (Err s) absent left kept made = record {
   made = made;
 }
 
-found_value : (early : Option Status) (o : Option Object) (x : Object) (p : Place) (word : ℕ) → early ≡ None → o ≡ Some x → x.content (row_of p) (col_of p) ≡ Some word
+found_value : (early : Option Status) (o : Option Object) (x : Object) (p : Place) (word : ℕ) → early ≡ None
+    → o ≡ Some x → x.content (row_of p) (col_of p) ≡ Some word
     → option_map_or Some early (late_fault {N = Obj} (Get (found_object o) p)) ≡ None
 found_value early o x p word accepted there stored = rw (accepted, there, stored) refl
 
@@ -149,7 +161,8 @@ unfolding effect
 performed-get old new o p object word x accepted there stored kept made =
     performed old new (Get o p) x (found_value _ ((environment_of old).find_object o) object p word accepted there stored) kept made
 
-absent_value : (early : Option Status) (o : Option Object) (x : Object) (p : Place) → early ≡ None → o ≡ Some x → x.content (row_of p) (col_of p) ≡ None
+absent_value : (early : Option Status) (o : Option Object) (x : Object) (p : Place) → early ≡ None → o ≡ Some x
+    → x.content (row_of p) (col_of p) ≡ None
     → option_map_or Some early (late_fault {N = Obj} (Get (found_object o) p)) ≡ Some status.NoValue
 absent_value early o x p accepted there none = rw (accepted, there, none) refl
 
@@ -180,7 +193,9 @@ performed-reduce old new o monoid x accepted kept made = performed old new (Redu
 
 -- ---- operations
 
-fault_in-operate : (session : Session) (out : Out Obj) (operation : Operation Obj) → early_fault (count_in session) (Operate (renamed_out (known_in session) out) (renamed_operation (known_in session) operation)) ≡ None
+fault_in-operate : (session : Session) (out : Out Obj) (operation : Operation Obj)
+    → early_fault (count_in session)
+    (Operate (renamed_out (known_in session) out) (renamed_operation (known_in session) operation)) ≡ None
     → fault_in session (Operate out operation) ≡ None
 fault_in-operate session out operation accepted =
     let find = (environment_of session).find_object in
@@ -188,8 +203,10 @@ fault_in-operate session out operation accepted =
     ∙ ap (λ (o : Operation (Option Signature)). early_fault (count_in session) (Operate (renamed_out (known_in session) out) o)) (operation_twice find (option_map signature_of) operation) in
     no_late _ (same ∙ accepted)
 
-pub performed-operate : {T : Type 0} (old new : Session) (out : Out Obj) (operation : Operation Obj) (content : Content) (x : T)
-    → early_fault (count_in old) (Operate (renamed_out (known_in old) out) (renamed_operation (known_in old) operation)) ≡ None
+pub performed-operate : {T : Type 0} (old new : Session) (out : Out Obj) (operation : Operation Obj)
+    (content : Content) (x : T)
+    → early_fault (count_in old)
+    (Operate (renamed_out (known_in old) out) (renamed_operation (known_in old) operation)) ≡ None
     → environment_of new ≡ with_content same_object (environment_of old) out.c content
     → ((i j : ℕ) → content i j ≡ result_of (renamed_out (object_at (environment_of old)) out) (renamed_operation (object_at (environment_of old)) operation) i j)
     → made_in new ≡ made_in old → IsPerformed old new (Operate out operation) (Ok x)

@@ -36,7 +36,8 @@ each_role P old mask first second Mask = mask
 each_role P old mask first second First = first
 each_role P old mask first second Second = second
 
-signature_known : (o : Option Object) (s : Signature) → option_map signature_of o ≡ Some s → signature_of (found_object o) ≡ s
+signature_known : (o : Option Object) (s : Signature) → option_map signature_of o ≡ Some s
+    → signature_of (found_object o) ≡ s
 signature_known None s is = absurd (cc)
 signature_known (Some o) s is = cc
 
@@ -47,7 +48,8 @@ known_there (Some o) s is = refl
 -- the object that takes a role
 pub object_taken : (env : Environment Obj) (recipe : Recipe) (objects : Roles Obj) (stored : Role → Stored)
     → ((role : Role) → option_map signature_of (env.find_object (role_of objects role)) ≡ Some (role_of recipe.signatures role))
-    → ((role : Role) → IsStoreOf env (role_of objects role) (stored role)) → (role : Role) → object_in recipe stored role ≡ taken_in env objects role
+    → ((role : Role) → IsStoreOf env (role_of objects role) (stored role)) → (role : Role)
+    → object_in recipe stored role ≡ taken_in env objects role
 object_taken env recipe objects stored known stores role =
     let same = signature_known (env.find_object (role_of objects role)) (role_of recipe.signatures role) (known role) in
     objects_equal (object_in recipe stored role) (taken_in env objects role) (ap (λ (s : Signature). s.domain) (sym same)) (ap (λ (s : Signature). s.shape) (sym same))
@@ -65,11 +67,13 @@ inputs_taken env recipe objects stored known stores =
     }
 
 -- what a recipe's stores join to
-pub evaluated : (env : Environment Obj) (recipe : Recipe) (objects : Roles Obj) (stored : Role → Stored) (joined : Stored)
+pub evaluated : (env : Environment Obj) (recipe : Recipe) (objects : Roles Obj) (stored : Role → Stored)
+    (joined : Stored)
     → ((role : Role) → option_map signature_of (env.find_object (role_of objects role)) ≡ Some (role_of recipe.signatures role))
     → ((role : Role) → IsStoreOf env (role_of objects role) (stored role))
     → joined.rows ≡ rows_of (output_of recipe).shape → joined.cols ≡ cols_of (output_of recipe).shape
-    → ((i j : ℕ) → content_of joined i j ≡ meaning recipe (object_in recipe stored) i j) → IsEvaluated env recipe objects joined
+    → ((i j : ℕ) → content_of joined i j ≡ meaning recipe (object_in recipe stored) i j)
+    → IsEvaluated env recipe objects joined
 evaluated env recipe objects stored joined known stores rows cols content =
     let same : (role : Role) → object_in recipe stored role ≡ taken_in env objects role = object_taken env recipe objects stored known stores in
     let out = same recipe.out.c in
@@ -84,13 +88,15 @@ evaluated env recipe objects stored joined known stores rows cols content =
     }
 
 -- the output of an operation takes the role of the recipe's output
-output_taken : (out : Out Obj) (operation : Operation Obj) (recipe : Recipe) → recipe.out ≡ out_by_role out → role_of (roles_of out operation) recipe.out.c ≡ out.c
+output_taken : (out : Out Obj) (operation : Operation Obj) (recipe : Recipe) → recipe.out ≡ out_by_role out
+    → role_of (roles_of out operation) recipe.out.c ≡ out.c
 output_taken out (Fill value region) recipe is = ap (λ (o : Out Role). role_of (roles_of out (Fill value region)) o.c) is
 output_taken out (OfOne computes a) recipe is = ap (λ (o : Out Role). role_of (roles_of out (OfOne computes a)) o.c) is
 output_taken out (OfTwo computes a b) recipe is = ap (λ (o : Out Role). role_of (roles_of out (OfTwo computes a b)) o.c) is
 
 -- what an operation's recipe gives is what the operation leaves
-pub left_by_operation : (env : Environment Obj) (out : Out Obj) (operation : Operation Obj) (recipe : Recipe) (stored : Stored)
+pub left_by_operation : (env : Environment Obj) (out : Out Obj) (operation : Operation Obj) (recipe : Recipe)
+    (stored : Stored)
     → IsRecipeOf (λ object. option_map signature_of (env.find_object object)) out operation recipe
     → IsEvaluated env recipe (roles_of out operation) stored → IsLeft env out operation stored
 left_by_operation env out operation recipe stored is given =
@@ -104,16 +110,19 @@ left_by_operation env out operation recipe stored is given =
       is_object = rw c at given.is_object;
     }
 
-pub if_ok_three : {T E : Type 0} (r : Result T E) (P Q R S : T → Type 0) → ((x : T) → P x → Q x → R x → S x) → IfOk r P → IfOk r Q → IfOk r R → IfOk r S
+pub if_ok_three : {T E : Type 0} (r : Result T E) (P Q R S : T → Type 0) → ((x : T) → P x → Q x → R x → S x) → IfOk r P
+    → IfOk r Q → IfOk r R → IfOk r S
 if_ok_three (Ok x) P Q R S f p q s = f x p q s
 if_ok_three (Err e) P Q R S f p q s = tt
 
 -- ---- sums
 
 -- the sum of an object's values is that of its store's words
-pub sum-stored : (monoid : MonoidName) (o : Object) (rows cols : ℕ) → offers (combines_by monoid.kind) monoid.domain ≡ true → are_compatible o.domain monoid.domain ≡ true
+pub sum-stored : (monoid : MonoidName) (o : Object) (rows cols : ℕ)
+    → offers (combines_by monoid.kind) monoid.domain ≡ true → are_compatible o.domain monoid.domain ≡ true
     → AreWordsOf o.domain o.content → rows ≡ rows_of o.shape → cols ≡ cols_of o.shape
-    → fold (eval_of (combines_by monoid.kind) monoid.domain) (identity_of monoid.kind monoid.domain) (all_words rows cols o.content) ≡ sum_in monoid o
+    → fold (eval_of (combines_by monoid.kind) monoid.domain) (identity_of monoid.kind monoid.domain)
+    (all_words rows cols o.content) ≡ sum_in monoid o
 sum-stored monoid o rows cols offered compatible words is_rows is_cols =
     (λ t. fold (eval_of (combines_by monoid.kind) monoid.domain) (identity_of monoid.kind monoid.domain) (all_words (is_rows t) (is_cols t) o.content))
     ∙ sym (sum_in-stored monoid o offered compatible words)

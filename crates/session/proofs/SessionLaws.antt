@@ -30,16 +30,20 @@ no_late None h = refl
 no_late (Some x) h = absurd (cc)
 
 -- where no fault depends on a value, a check that refuses the call decides it
-pub decides_by : {T : Type 0} (fault : Option Status) (r : Result T Status) (s : Status) → r ≡ Err s → fault ≡ Some s → Decides (option_map_or Some fault None) r
+pub decides_by : {T : Type 0} (fault : Option Status) (r : Result T Status) (s : Status) → r ≡ Err s → fault ≡ Some s
+    → Decides (option_map_or Some fault None) r
 decides_by fault r s is why = rw is (ap (λ f. option_map_or Some f None) why)
 
-three : (a b c : Bool) → cond (not a) (Some status.WrongKind) (cond (not b) (Some status.InvalidIndex) (cond (not c) (Some status.InvalidValue) None)) ≡ None → (b ≡ true) × (c ≡ true)
+three : (a b c : Bool) → cond (not a) (Some status.WrongKind)
+    (cond (not b) (Some status.InvalidIndex) (cond (not c) (Some status.InvalidValue) None)) ≡ None
+    → (b ≡ true) × (c ≡ true)
 three true true true h = (refl, refl)
 three true true false h = absurd (cc)
 three true false c h = absurd (cc)
 three false b c h = absurd (cc)
 
-pub set-accepted : (count : ℕ) (o : Option Object) (p : Place) (value : ℤ) → early_fault count (Set (option_map signature_of o) p value) ≡ None
+pub set-accepted : (count : ℕ) (o : Option Object) (p : Place) (value : ℤ)
+    → early_fault count (Set (option_map signature_of o) p value) ≡ None
     → (is_some o ≡ true) × (is_inside p (found_object o).shape ≡ true) × (is_value_of (found_object o).domain value ≡ true)
 unfolding early_fault
 set-accepted count None p value h = absurd (cc)
@@ -47,51 +51,60 @@ set-accepted count (Some o) p value h =
     let both = three (is_of_kind p o.shape) (is_inside p o.shape) (is_value_of o.domain value) h in
     (refl, both.0, both.1)
 
-pub clear-accepted : (count : ℕ) (o : Option Object) → early_fault count (Clear (option_map signature_of o)) ≡ None → is_some o ≡ true
+pub clear-accepted : (count : ℕ) (o : Option Object) → early_fault count (Clear (option_map signature_of o)) ≡ None
+    → is_some o ≡ true
 unfolding early_fault
 clear-accepted count None h = absurd (cc)
 clear-accepted count (Some o) h = refl
 
-two : (a b : Bool) → cond (not a) (Some status.WrongKind) (cond (not b) (Some status.InvalidIndex) None) ≡ None → b ≡ true
+two : (a b : Bool) → cond (not a) (Some status.WrongKind) (cond (not b) (Some status.InvalidIndex) None) ≡ None
+    → b ≡ true
 two true true h = refl
 two true false h = absurd (cc)
 two false b h = absurd (cc)
 
-pub remove-accepted : (count : ℕ) (o : Option Object) (p : Place) → early_fault count (Remove (option_map signature_of o) p) ≡ None
+pub remove-accepted : (count : ℕ) (o : Option Object) (p : Place)
+    → early_fault count (Remove (option_map signature_of o) p) ≡ None
     → (is_some o ≡ true) × (is_inside p (found_object o).shape ≡ true)
 unfolding early_fault
 remove-accepted count None p h = absurd (cc)
 remove-accepted count (Some o) p h = (refl, two (is_of_kind p o.shape) (is_inside p o.shape) h)
 
 -- an object that is there can be freed, and no other
-pub free-fault : (count : ℕ) (o : Option Object) → early_fault count (Free (option_map signature_of o)) ≡ cond (is_some o) None (Some status.UninitializedObject)
+pub free-fault : (count : ℕ) (o : Option Object)
+    → early_fault count (Free (option_map signature_of o)) ≡ cond (is_some o) None (Some status.UninitializedObject)
 unfolding early_fault
 free-fault count None = refl
 free-fault count (Some o) = refl
 
-pub get-accepted : (count : ℕ) (o : Option Object) (p : Place) → early_fault count (Get (option_map signature_of o) p) ≡ None → is_some o ≡ true
+pub get-accepted : (count : ℕ) (o : Option Object) (p : Place)
+    → early_fault count (Get (option_map signature_of o) p) ≡ None → is_some o ≡ true
 unfolding early_fault
 get-accepted count None p h = absurd (cc)
 get-accepted count (Some o) p h = refl
 
-pub nvals-accepted : (count : ℕ) (o : Option Object) → early_fault count (Nvals (option_map signature_of o)) ≡ None → is_some o ≡ true
+pub nvals-accepted : (count : ℕ) (o : Option Object) → early_fault count (Nvals (option_map signature_of o)) ≡ None
+    → is_some o ≡ true
 unfolding early_fault
 nvals-accepted count None h = absurd (cc)
 nvals-accepted count (Some o) h = refl
 
-pub print-accepted : (count : ℕ) (o : Option Object) → early_fault count (Print (option_map signature_of o)) ≡ None → is_some o ≡ true
+pub print-accepted : (count : ℕ) (o : Option Object) → early_fault count (Print (option_map signature_of o)) ≡ None
+    → is_some o ≡ true
 unfolding early_fault
 print-accepted count None h = absurd (cc)
 print-accepted count (Some o) h = refl
 
 -- where a sum is accepted, there is the monoid, and the values are cast to its domain
-summed : (offered compatible : Bool) → cond (not offered) (Some status.NotImplemented) (cond (not compatible) (Some status.DomainMismatch) None) ≡ None
+summed : (offered compatible : Bool) → cond (not offered) (Some status.NotImplemented)
+    (cond (not compatible) (Some status.DomainMismatch) None) ≡ None
     → (offered ≡ true) × (compatible ≡ true)
 summed true true h = (refl, refl)
 summed true false h = absurd (cc)
 summed false compatible h = absurd (cc)
 
-pub reduce-accepted : (count : ℕ) (o : Option Object) (monoid : MonoidName) → early_fault count (Reduce (option_map signature_of o) monoid) ≡ None
+pub reduce-accepted : (count : ℕ) (o : Option Object) (monoid : MonoidName)
+    → early_fault count (Reduce (option_map signature_of o) monoid) ≡ None
     → (is_some o ≡ true) × (offers (combines_by monoid.kind) monoid.domain ≡ true) × (are_compatible (found_object o).domain monoid.domain ≡ true)
 unfolding early_fault
 reduce-accepted count None monoid h = absurd (cc)
@@ -103,22 +116,26 @@ full : (most : Bool) (rest : Option Status) → cond most (Some status.NotImplem
 full true rest h = absurd (cc)
 full false rest h = refl
 
-pub dup-accepted : (count : ℕ) (o : Option Object) → early_fault count (Dup false (option_map signature_of o)) ≡ None → (is_some o ≡ true) × (nat_le MOST_OBJECTS count ≡ false)
+pub dup-accepted : (count : ℕ) (o : Option Object) → early_fault count (Dup false (option_map signature_of o)) ≡ None
+    → (is_some o ≡ true) × (nat_le MOST_OBJECTS count ≡ false)
 unfolding early_fault
 dup-accepted count None h = absurd (cc)
 dup-accepted count (Some o) h = (refl, full (nat_le MOST_OBJECTS count) None h)
 
-resized : (kind allowed : Bool) → cond (not kind) (Some status.WrongKind) (cond (not allowed) (Some status.InvalidValue) None) ≡ None → (kind ≡ true) × (allowed ≡ true)
+resized : (kind allowed : Bool) → cond (not kind) (Some status.WrongKind)
+    (cond (not allowed) (Some status.InvalidValue) None) ≡ None → (kind ≡ true) × (allowed ≡ true)
 resized true true h = (refl, refl)
 resized true false h = absurd (cc)
 resized false allowed h = absurd (cc)
 
-pub resize-accepted : (count : ℕ) (o : Option Object) (shape : Shape) → early_fault count (Resize (option_map signature_of o) shape) ≡ None → is_some o ≡ true
+pub resize-accepted : (count : ℕ) (o : Option Object) (shape : Shape)
+    → early_fault count (Resize (option_map signature_of o) shape) ≡ None → is_some o ≡ true
 unfolding early_fault
 resize-accepted count None shape h = absurd (cc)
 resize-accepted count (Some o) shape h = refl
 
-builds : (kind joins inside values : Bool) → cond (not kind) (Some status.WrongKind) (cond (not joins) (Some status.NotImplemented) (cond (not inside) (Some status.IndexOutOfBounds) (cond (not values) (Some status.InvalidValue) None))) ≡ None
+builds : (kind joins inside values : Bool) → cond (not kind) (Some status.WrongKind)
+    (cond (not joins) (Some status.NotImplemented) (cond (not inside) (Some status.IndexOutOfBounds) (cond (not values) (Some status.InvalidValue) None))) ≡ None
     → (joins ≡ true) × (inside ≡ true) × (values ≡ true)
 builds true true true true h = (refl, refl, refl)
 builds true true true false h = absurd (cc)
@@ -132,7 +149,8 @@ pub record BuildsOn (o : Object) (dup : Option OpName) (tuples : List Tuple) : T
   pub inside : are_inside o.shape tuples ≡ true
   pub values : are_values_of o.domain tuples ≡ true
 
-pub build-accepted : (count : ℕ) (o : Option Object) (dup : Option OpName) (tuples : List Tuple) → early_fault count (Build (option_map signature_of o) dup tuples) ≡ None
+pub build-accepted : (count : ℕ) (o : Option Object) (dup : Option OpName) (tuples : List Tuple)
+    → early_fault count (Build (option_map signature_of o) dup tuples) ≡ None
     → (is_some o ≡ true) × BuildsOn (found_object o) dup tuples
 unfolding early_fault
 build-accepted count None dup tuples h = absurd (cc)
@@ -141,11 +159,13 @@ build-accepted count (Some o) dup tuples h =
     (refl, record { joins = all.0; inside = all.1; values = (and_parts (are_values_of o.domain tuples) (is_some dup || are_single tuples) all.2).0 })
 
 -- the operator of an accepted build is offered
-pub dup-offered : (domain : Domain) (dup : Option OpName) → option_map_or (accumulates domain) dup true ≡ true → option_map_or (λ op. offers op.kind op.domain) dup true ≡ true
+pub dup-offered : (domain : Domain) (dup : Option OpName) → option_map_or (accumulates domain) dup true ≡ true
+    → option_map_or (λ op. offers op.kind op.domain) dup true ≡ true
 dup-offered domain None h = refl
 dup-offered domain (Some op) h = (and_parts (offers op.kind op.domain) (same_domain op.domain domain) (and_parts (offers op.kind op.domain && same_domain op.domain domain) (same_domain (answer_domain op.kind op.domain) domain) h).0).0
 
-pub create-accepted : (count : ℕ) (domain : Domain) (shape : Shape) → early_fault count (Create false domain shape) ≡ None → nat_le MOST_OBJECTS count ≡ false
+pub create-accepted : (count : ℕ) (domain : Domain) (shape : Shape)
+    → early_fault count (Create false domain shape) ≡ None → nat_le MOST_OBJECTS count ≡ false
 unfolding early_fault
 create-accepted count domain shape h = full (nat_le MOST_OBJECTS count) (cond (not (are_dimensions shape)) (Some status.InvalidValue) None) h
 
@@ -155,20 +175,23 @@ last_refused false count h = refl
 
 -- there is a number left for a copy
 pub number_left-dup : (next count : ℕ) (o : Option Object)
-    → early_fault (cond (next == 2 ^ 64 - 1) MOST_OBJECTS count) (Dup false (option_map signature_of o)) ≡ None → (next == 2 ^ 64 - 1) ≡ false
+    → early_fault (cond (next == 2 ^ 64 - 1) MOST_OBJECTS count) (Dup false (option_map signature_of o)) ≡ None
+    → (next == 2 ^ 64 - 1) ≡ false
 number_left-dup next count o h =
     last_refused (next == 2 ^ 64 - 1) count (dup-accepted (cond (next == 2 ^ 64 - 1) MOST_OBJECTS count) o h).1
 
 -- there is a number left for what is made
 pub number_left : (next count : ℕ) (domain : Domain) (shape : Shape)
-    → early_fault (cond (next == 2 ^ 64 - 1) MOST_OBJECTS count) (Create false domain shape) ≡ None → (next == 2 ^ 64 - 1) ≡ false
+    → early_fault (cond (next == 2 ^ 64 - 1) MOST_OBJECTS count) (Create false domain shape) ≡ None
+    → (next == 2 ^ 64 - 1) ≡ false
 number_left next count domain shape h =
     last_refused (next == 2 ^ 64 - 1) count (create-accepted (cond (next == 2 ^ 64 - 1) MOST_OBJECTS count) domain shape h)
 
 -- ---- numbers
 
 -- the objects are below the next number, after one was put under a number
-put_below : (old : Environment Obj) (o : Obj) (object : Object) (count n m : ℕ) → ((q : Obj) → is_some (old.find_object q) ≡ true → q.0 < n) → o.0 < m → n ≤ m
+put_below : (old : Environment Obj) (o : Obj) (object : Object) (count n m : ℕ)
+    → ((q : Obj) → is_some (old.find_object q) ≡ true → q.0 < n) → o.0 < m → n ≤ m
     → (q : Obj) → is_some ((with_object same_object old o object count).find_object q) ≡ true → q.0 < m
 put_below old o object count n m below small more q there =
     elim (cases_Bool (o.0 == q.0)) [
@@ -176,17 +199,21 @@ put_below old o object count n m below small more q there =
       | inr apart ↦ let was : is_some (old.find_object q) ≡ true = rw apart at there in let low : q.0 < n = below q was in omega arith
     ]
 
-pub below-put : (old new : Environment Obj) (o : Obj) (object : Object) (count n m : ℕ) → ((q : Obj) → is_some (old.find_object q) ≡ true → q.0 < n) → o.0 < m → n ≤ m
+pub below-put : (old new : Environment Obj) (o : Obj) (object : Object) (count n m : ℕ)
+    → ((q : Obj) → is_some (old.find_object q) ≡ true → q.0 < n) → o.0 < m → n ≤ m
     → new ≡ with_object same_object old o object count → (q : Obj) → is_some (new.find_object q) ≡ true → q.0 < m
 below-put old new o object count n m below small more is q there =
     put_below old o object count n m below small more q (ap (λ (env : Environment Obj). is_some (env.find_object q)) (sym is) ∙ there)
 
-pub below-kept : (old new : Environment Obj) (n : ℕ) → ((q : Obj) → is_some (old.find_object q) ≡ true → q.0 < n) → new ≡ old → (q : Obj) → is_some (new.find_object q) ≡ true → q.0 < n
+pub below-kept : (old new : Environment Obj) (n : ℕ) → ((q : Obj) → is_some (old.find_object q) ≡ true → q.0 < n)
+    → new ≡ old → (q : Obj) → is_some (new.find_object q) ≡ true → q.0 < n
 below-kept old new n below is q there = below q (ap (λ (env : Environment Obj). is_some (env.find_object q)) (sym is) ∙ there)
 
 -- ..also where memory may have been refused
-pub below-after : {T E : Type 0} (r : Result T E) (old new : Environment Obj) (o : Obj) (object : Object) (count n : ℕ) → ((q : Obj) → is_some (old.find_object q) ≡ true → q.0 < n) → o.0 < n
-    → OnOk r (new ≡ with_object same_object old o object count) → OnErr r (new ≡ old) → (q : Obj) → is_some (new.find_object q) ≡ true → q.0 < n
+pub below-after : {T E : Type 0} (r : Result T E) (old new : Environment Obj) (o : Obj) (object : Object) (count n : ℕ)
+    → ((q : Obj) → is_some (old.find_object q) ≡ true → q.0 < n) → o.0 < n
+    → OnOk r (new ≡ with_object same_object old o object count) → OnErr r (new ≡ old) → (q : Obj)
+    → is_some (new.find_object q) ≡ true → q.0 < n
 below-after (Ok x) old new o object count n below small is kept = below-put old new o object count n n below small (omega arith) is
 below-after (Err e) old new o object count n below small is kept = below-kept old new n below kept
 
@@ -199,7 +226,8 @@ none_from None h = refl
 none_from (Some x) h = absurd (h refl)
 
 -- no object has the next number yet
-pub not_there : (env : Environment Obj) (o : Obj) → ((q : Obj) → is_some (env.find_object q) ≡ true → q.0 < o.0) → env.find_object o ≡ None
+pub not_there : (env : Environment Obj) (o : Obj) → ((q : Obj) → is_some (env.find_object q) ≡ true → q.0 < o.0)
+    → env.find_object o ≡ None
 not_there env o below = none_from (env.find_object o) (λ there. let low : o.0 < o.0 = below o there in absurd (omega arith))
 
 left_there : (gone : Bool) (o : Option Object) → is_some (cond gone None o) ≡ true → is_some o ≡ true
@@ -207,8 +235,10 @@ left_there true o h = absurd (cc)
 left_there false o h = h
 
 -- the objects are below the next number, after one may have been taken out
-pub below-removed : (removed : Bool) (old new : Environment Obj) (o : Obj) (n : ℕ) → ((q : Obj) → is_some (old.find_object q) ≡ true → q.0 < n)
-    → new ≡ cond removed (without_object same_object old o) old → (q : Obj) → is_some (new.find_object q) ≡ true → q.0 < n
+pub below-removed : (removed : Bool) (old new : Environment Obj) (o : Obj) (n : ℕ)
+    → ((q : Obj) → is_some (old.find_object q) ≡ true → q.0 < n)
+    → new ≡ cond removed (without_object same_object old o) old → (q : Obj) → is_some (new.find_object q) ≡ true
+    → q.0 < n
 below-removed true old new o n below is q there =
     below q (left_there (same_object o q) (old.find_object q) (ap (λ (env : Environment Obj). is_some (env.find_object q)) (sym is) ∙ there))
 below-removed false old new o n below is q there = below-kept old new n below is q there

@@ -27,17 +27,20 @@ compares_equal a b =
     ]
 
 -- what a table has after another object was written at a number that is there
-pub get_written : (m n : BTreeMap ℕ Held) (o : ℕ) (held w : Held) → Some held ≡ get_by (nat_cmp o) m → WritesThrough nat_cmp (nat_cmp o) m w n
+pub get_written : (m n : BTreeMap ℕ Held) (o : ℕ) (held w : Held) → Some held ≡ get_by (nat_cmp o) m
+    → WritesThrough nat_cmp (nat_cmp o) m w n
     → (q : ℕ) → get nat_cmp n q ≡ cond (o == q) (Some w) (get nat_cmp m q)
 get_written m n o held w there written q =
     (written.3 (subst IsSome there refl)).0 q ∙ ap (λ (b : Bool). cond b (Some w) (get nat_cmp m q)) (compares_equal o q)
 
-object_written : (same : Bool) (w : Held) (old : Option Held) → option_map object_of (cond same (Some w) old) ≡ cond same (Some (object_of w)) (option_map object_of old)
+object_written : (same : Bool) (w : Held) (old : Option Held)
+    → option_map object_of (cond same (Some w) old) ≡ cond same (Some (object_of w)) (option_map object_of old)
 object_written true w old = refl
 object_written false w old = refl
 
 -- the objects after it
-pub environment_written : (m n : Table) (o : Obj) (held w : Held) → Some held ≡ get_by (nat_cmp o.0) m.by_number → WritesThrough nat_cmp (nat_cmp o.0) m.by_number w n.by_number
+pub environment_written : (m n : Table) (o : Obj) (held w : Held) → Some held ≡ get_by (nat_cmp o.0) m.by_number
+    → WritesThrough nat_cmp (nat_cmp o.0) m.by_number w n.by_number
     → environment_in n ≡ with_object same_object (environment_in m) o (object_of w) (environment_in m).count
 environment_written m n o held w there written =
     let point : (q : Obj) → option_map object_of (get nat_cmp n.by_number q.0) ≡ cond (o.0 == q.0) (Some (object_of w)) (option_map object_of (get nat_cmp m.by_number q.0)) =
@@ -45,11 +48,13 @@ environment_written m n o held w there written =
     λ t. record { find_object = λ q. point q t; count = written.2 t }
 
 -- the object of a number that is there
-pub object_there : (m : Table) (o : Obj) (held : Held) → Some held ≡ get_by (nat_cmp o.0) m.by_number → object_of held ≡ object_at (environment_in m) o
+pub object_there : (m : Table) (o : Obj) (held : Held) → Some held ≡ get_by (nat_cmp o.0) m.by_number
+    → object_of held ≡ object_at (environment_in m) o
 object_there m o held there = ap (λ (g : Option Held). found_object (option_map object_of g)) there
 
 -- where no edits wait on what was written, none wait on more objects than before
-pub stays_settled : {T E : Type 0} (r : Result T E) (m n : Table) (o : Obj) (held w : Held) → Some held ≡ get_by (nat_cmp o.0) m.by_number → WritesThrough nat_cmp (nat_cmp o.0) m.by_number w n.by_number
+pub stays_settled : {T E : Type 0} (r : Result T E) (m n : Table) (o : Obj) (held w : Held)
+    → Some held ≡ get_by (nat_cmp o.0) m.by_number → WritesThrough nat_cmp (nat_cmp o.0) m.by_number w n.by_number
     → OnOk r (w.edits.items ≡ []) → OnOk r ((other : Obj) → IsSettled m other → IsSettled n other)
 stays_settled (Err e) m n o held w there written none = tt
 stays_settled (Ok x) m n o held w there written none = λ other was.

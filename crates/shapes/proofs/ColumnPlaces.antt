@@ -47,7 +47,8 @@ pub record HasPlaces (cols : List ℕ) (n : ℕ) (places : Content) : Type 0 whe
   pub fits : n ≡ length cols
   pub agree : (i j : ℕ) → places i j ≡ index_content cols i j
 
-column_of : (o : Option ℕ) (col word : ℕ) → option_and_then (λ c. cond (eqb c col) (Some 0) None) o ≡ Some word → o ≡ Some col
+column_of : (o : Option ℕ) (col word : ℕ) → option_and_then (λ c. cond (eqb c col) (Some 0) None) o ≡ Some word
+    → o ≡ Some col
 column_of None col word is = absurd (none-some word is)
 column_of (Some c) col word is = elim (cases_Bool (eqb c col)) [
   | inl same ↦ ap (λ c. Some c) (eqb-true c col same)
@@ -55,7 +56,8 @@ column_of (Some c) col word is = elim (cases_Bool (eqb c col)) [
 ]
 
 -- each entry of a row of a map is one of it
-row_are : (cols : ℕ) (c : Content) (i : ℕ) → All (λ s. (s.col < cols) × (c i s.col ≡ Some s.word)) (row_entries cols c i)
+row_are : (cols : ℕ) (c : Content) (i : ℕ) → All (λ s. (s.col < cols) × (c i s.col ≡ Some s.word))
+    (row_entries cols c i)
 row_are cols c i = λ k d within.
     let s = get_or (row_entries cols c i) k d in
     let at = row_entries-inside cols c i k d within in
@@ -70,7 +72,9 @@ empty [] P none all = refl
 empty (x ∷ xs) P none all = absurd (none x (All-head P x xs all))
 
 -- a column that isn't listed has no place
-pub no_places : (cols : List ℕ) (n : ℕ) (places : Content) (col : ℕ) → ((i j : ℕ) → places i j ≡ index_content cols i j) → ((k : ℕ) → k < length cols → get_or cols k 0 ≢ col) → row_entries n places col ≡ []
+pub no_places : (cols : List ℕ) (n : ℕ) (places : Content) (col : ℕ)
+    → ((i j : ℕ) → places i j ≡ index_content cols i j) → ((k : ℕ) → k < length cols → get_or cols k 0 ≢ col)
+    → row_entries n places col ≡ []
 no_places cols n places col agree other =
     empty (row_entries n places col) (λ s. (s.col < n) × (places col s.col ≡ Some s.word))
     (λ s p.
@@ -85,7 +89,9 @@ abbrev pub at_columns : Content → ℕ → List ℕ → ℕ → Option ℕ
 at_columns source row cols j = option_and_then (source row) (slice_get cols j)
 
 -- each entry that is collected of a row is one of the map
-collected_are : (source made : Content) (row index n : ℕ) (places : Content) (cols : List ℕ) (es : List Entry) → HasPlaces cols n places → ((j : ℕ) → made index j ≡ at_columns source row cols j) → All (λ e. source row e.col ≡ Some e.word) es
+collected_are : (source made : Content) (row index n : ℕ) (places : Content) (cols : List ℕ) (es : List Entry)
+    → HasPlaces cols n places → ((j : ℕ) → made index j ≡ at_columns source row cols j)
+    → All (λ e. source row e.col ≡ Some e.word) es
     → AreOf made (collected index n places es)
 collected_are source made row index n places cols [] has is are = All-nil (λ e. made e.row e.col ≡ Some e.word)
 collected_are source made row index n places cols (e ∷ es) has is are =
@@ -97,7 +103,8 @@ collected_are source made row index n places cols (e ∷ es) has is are =
     (λ s p. is s.col ∙ ap (option_and_then (source row)) (column_of (slice_get cols s.col) e.col s.word (sym (has.agree e.col s.col) ∙ p.1)) ∙ here) (row_entries n places e.col) (row_are n places e.col)))
     (collected_are source made row index n places cols es has is (All-tail (λ e. source row e.col ≡ Some e.word) e es are))
 
-collected_inside : (first past index n : ℕ) (places : Content) (es : List Entry) → first ≤ index → index < past → AreIn first past n (collected index n places es)
+collected_inside : (first past index n : ℕ) (places : Content) (es : List Entry) → first ≤ index → index < past
+    → AreIn first past n (collected index n places es)
 collected_inside first past index n places [] low high = All-nil (λ (e : Entry). ((first ≤ e.row) × (e.row < past)) × (e.col < n))
 collected_inside first past index n places (e ∷ es) low high =
     let Q : Entry → Type 0 = λ e. ((first ≤ e.row) × (e.row < past)) × (e.col < n) in
@@ -106,7 +113,8 @@ collected_inside first past index n places (e ∷ es) low high =
     (All-weaker (λ (s : Entry). (s.row ≡ e.col) × (s.col < n)) (λ (s : Entry). ((first ≤ index) × (index < past)) × (s.col < n)) (λ s p. ((low, high), p.1)) (row_entries n places e.col) (row_entries-inside n places e.col)))
     (collected_inside first past index n places es low high)
 
-put_there : (index i j w : ℕ) (ss : List Entry) → word_at (map (λ (s : Entry). entry_at index s.col w) ss) index j ≡ None → word_at ss i j ≡ None
+put_there : (index i j w : ℕ) (ss : List Entry)
+    → word_at (map (λ (s : Entry). entry_at index s.col w) ss) index j ≡ None → word_at ss i j ≡ None
 unfolding word_at
 put_there index i j w [] none = refl
 put_there index i j w (s ∷ ss) none =
@@ -118,7 +126,8 @@ put_there index i j w (s ∷ ss) none =
     ]
 
 -- a column that is listed and not collected is not in the row
-not_collected : (index n j col : ℕ) (places : Content) (cols : List ℕ) (es : List Entry) → HasPlaces cols n places → slice_get cols j ≡ Some col → word_at (collected index n places es) index j ≡ None → word_at es 0 col ≡ None
+not_collected : (index n j col : ℕ) (places : Content) (cols : List ℕ) (es : List Entry) → HasPlaces cols n places
+    → slice_get cols j ≡ Some col → word_at (collected index n places es) index j ≡ None → word_at es 0 col ≡ None
 unfolding word_at
 not_collected index n j col places cols [] has at none = refl
 not_collected index n j col places cols (e ∷ es) has at none =
@@ -136,13 +145,15 @@ not_collected index n j col places cols (e ∷ es) has at none =
       | inr away ↦ rw away (not_collected index n j col places cols es has at (none_right index j row rest none))
     ]
 
-at_none : (source : Content) (row : ℕ) (o : Option ℕ) → ((col : ℕ) → o ≡ Some col → source row col ≡ None) → option_and_then (source row) o ≡ None
+at_none : (source : Content) (row : ℕ) (o : Option ℕ) → ((col : ℕ) → o ≡ Some col → source row col ≡ None)
+    → option_and_then (source row) o ≡ None
 at_none source row None h = refl
 at_none source row (Some col) h = h col refl
 
 -- ---- row by row
 
-pub collected_none : (made : Content) (first past n : ℕ) (es : List Entry) → es ≡ [] → IsCollected made first first past n es
+pub collected_none : (made : Content) (first past n : ℕ) (es : List Entry) → es ≡ []
+    → IsCollected made first first past n es
 collected_none made first past n es none = rw none (record {
   low = omega arith;
   are = All-nil (λ (e : Entry). made e.row e.col ≡ Some e.word);
@@ -150,7 +161,9 @@ collected_none made first past n es none = rw none (record {
   whole = λ i j low high. absurd (omega arith);
 })
 
-pub collected_skip : (made : Content) (first next row past n : ℕ) (es : List Entry) → IsCollected made first next past n es → next ≤ row → ((i j : ℕ) → next ≤ i → i < row → made i j ≡ None) → IsCollected made first row past n es
+pub collected_skip : (made : Content) (first next row past n : ℕ) (es : List Entry)
+    → IsCollected made first next past n es → next ≤ row → ((i j : ℕ) → next ≤ i → i < row → made i j ≡ None)
+    → IsCollected made first row past n es
 collected_skip made first next row past n es here up empty =
     let start = here.low in
     record {
@@ -163,8 +176,11 @@ collected_skip made first next row past n es here up empty =
       ];
     }
 
-pub collected_more : (source made : Content) (first index past row size n : ℕ) (places : Content) (cols cs ws : List ℕ) (es : List Entry) → HasPlaces cols n places → index < past → IsRowOf source row size cs ws → ((j : ℕ) → made index j ≡ at_columns source row cols j)
-    → IsCollected made first index past n es → IsCollected made first (index + 1) past n (es ++ collected index n places (entries_along 0 cs ws))
+pub collected_more : (source made : Content) (first index past row size n : ℕ) (places : Content) (cols cs ws : List ℕ)
+    (es : List Entry) → HasPlaces cols n places → index < past → IsRowOf source row size cs ws
+    → ((j : ℕ) → made index j ≡ at_columns source row cols j)
+    → IsCollected made first index past n es
+    → IsCollected made first (index + 1) past n (es ++ collected index n places (entries_along 0 cs ws))
 collected_more source made first index past row size n places cols cs ws es has high here is done =
     let start = done.low in
     let fs = entries_along 0 cs ws in
@@ -193,7 +209,8 @@ pub record IsCollecting (source made : Content) (first past size n : ℕ) (rest 
   pub done : IsCollected made first next past n es
   pub walk : IsWalk source next past size rest
 
-pub collecting_from : (source made : Content) (first past size n : ℕ) (rest es : List Entry) → first ≤ past → IsWalk source first past size rest → es ≡ [] → IsCollecting source made first past size n rest es
+pub collecting_from : (source made : Content) (first past size n : ℕ) (rest es : List Entry) → first ≤ past
+    → IsWalk source first past size rest → es ≡ [] → IsCollecting source made first past size n rest es
 collecting_from source made first past size n rest es up walk none = record {
   next = first;
   high = up;
@@ -201,8 +218,11 @@ collecting_from source made first past size n rest es up walk none = record {
   walk = walk;
 }
 
-pub collecting_more : (source made : Content) (first past size n index : ℕ) (places : Content) (cols cs ws : List ℕ) (rest others es : List Entry) → StaysEmpty source made → HasPlaces cols n places → IsFirstRow index cs ws rest others → ((j : ℕ) → index < past → made index j ≡ at_columns source index cols j)
-    → IsCollecting source made first past size n rest es → IsCollecting source made first past size n others (es ++ collected index n places (entries_along 0 cs ws))
+pub collecting_more : (source made : Content) (first past size n index : ℕ) (places : Content) (cols cs ws : List ℕ)
+    (rest others es : List Entry) → StaysEmpty source made → HasPlaces cols n places
+    → IsFirstRow index cs ws rest others → ((j : ℕ) → index < past → made index j ≡ at_columns source index cols j)
+    → IsCollecting source made first past size n rest es
+    → IsCollecting source made first past size n others (es ++ collected index n places (entries_along 0 cs ws))
 collecting_more source made first past size n index places cols cs ws rest others es empty has starts is here =
     let step = walk_step source here.next past size index cs ws rest others here.walk starts in
     let high = step.high in
@@ -214,7 +234,8 @@ collecting_more source made first past size n index places cols cs ws rest other
       walk = step.left;
     }
 
-pub collecting_end : (source made : Content) (first past size n : ℕ) (rest es : List Entry) → StaysEmpty source made → IsCollecting source made first past size n rest es → rest ≡ [] → IsCollected made first past past n es
+pub collecting_end : (source made : Content) (first past size n : ℕ) (rest es : List Entry) → StaysEmpty source made
+    → IsCollecting source made first past size n rest es → rest ≡ [] → IsCollected made first past past n es
 collecting_end source made first past size n rest es empty here none =
     let nothing = walk_end source here.next past size rest here.walk none in
     collected_skip made first here.next past past n es here.done here.high (λ i j low below. empty i (λ j. nothing i j low below) j)
@@ -234,7 +255,8 @@ places_none size cols es none = rw none (record {
   whole = λ m less. absurd (omega arith);
 })
 
-pub places_more : (size : ℕ) (cols : List ℕ) (k : ℕ) (es : List Entry) → k < length cols → get_or cols k 0 < size → ArePlaced size cols k es → ArePlaced size cols (k + 1) (es ++ entry_at (get_or cols k 0) k 0 ∷ [])
+pub places_more : (size : ℕ) (cols : List ℕ) (k : ℕ) (es : List Entry) → k < length cols → get_or cols k 0 < size
+    → ArePlaced size cols k es → ArePlaced size cols (k + 1) (es ++ entry_at (get_or cols k 0) k 0 ∷ [])
 places_more size cols k es within less here =
     let col = get_or cols k 0 in
     let put = entry_at col k 0 in
@@ -257,7 +279,8 @@ none_of i None other = refl
 none_of i (Some col) other = rw (ne_eqb col i (other col refl)) refl
 
 -- where all are put, no place is missing
-pub places_whole : (size : ℕ) (cols : List ℕ) (k i j : ℕ) (es : List Entry) → length cols ≤ k → ArePlaced size cols k es → word_at es i j ≡ None → index_content cols i j ≡ None
+pub places_whole : (size : ℕ) (cols : List ℕ) (k i j : ℕ) (es : List Entry) → length cols ≤ k
+    → ArePlaced size cols k es → word_at es i j ≡ None → index_content cols i j ≡ None
 places_whole size cols k i j es all here none =
     none_of i (slice_get cols j) (λ col at same.
     let within = slice_get_within cols j col at in
@@ -267,14 +290,17 @@ places_whole size cols k i j es all here none =
 -- ---- what the code appends
 
 -- the columns of a row's entries, as entries of another row
-pub cols_along : (row : ℕ) (cs ws : List ℕ) → length ws ≡ length cs → map (λ (s : Entry). s.col) (entries_along row cs ws) ≡ cs
+pub cols_along : (row : ℕ) (cs ws : List ℕ) → length ws ≡ length cs
+    → map (λ (s : Entry). s.col) (entries_along row cs ws) ≡ cs
 cols_along row [] [] same = refl
 cols_along row [] (v ∷ ws) same = absurd (omega arith)
 cols_along row (c ∷ cs) [] same = absurd (omega arith)
 cols_along row (c ∷ cs) (v ∷ ws) same = ap (λ cs. c ∷ cs) (cols_along row cs ws (omega arith))
 
 -- one entry more
-pub collected_step : (index n k : ℕ) (places : Content) (es old now found : List Entry) (d : Entry) → k < length es → now ≡ old ++ collected index n places (take k es) → found ≡ map (λ (s : Entry). entry_at index s.col (get_or es k d).word) (row_entries n places (get_or es k d).col)
+pub collected_step : (index n k : ℕ) (places : Content) (es old now found : List Entry) (d : Entry) → k < length es
+    → now ≡ old ++ collected index n places (take k es)
+    → found ≡ map (λ (s : Entry). entry_at index s.col (get_or es k d).word) (row_entries n places (get_or es k d).col)
     → now ++ found ≡ old ++ collected index n places (take (k + 1) es)
 collected_step index n k places es old now found d within is is_found =
     let f = λ (e : Entry). map (λ (s : Entry). entry_at index s.col e.word) (row_entries n places e.col) in

@@ -10,11 +10,13 @@ use Rattle.model.specs.Regions.{extracted, found_at}
 use Rattle.shapes.proofs.Going.{StaysEmpty}
 
 -- a row of all rows
-pub row_of_all : (m n : ℕ) (cols : Indices) (c : Content) (i j : ℕ) → i < m → extracted m n All cols c i j ≡ option_and_then (c i) (index_at n cols j)
+pub row_of_all : (m n : ℕ) (cols : Indices) (c : Content) (i j : ℕ) → i < m
+    → extracted m n All cols c i j ≡ option_and_then (c i) (index_at n cols j)
 row_of_all m n cols c i j inside = let is : ltb i m ≡ true = grind (arith, nat_tests) in rw is refl
 
 -- a row of those that are listed
-pub row_of_these : (m n : ℕ) (rows : List ℕ) (cols : Indices) (c : Content) (i j : ℕ) → i < length rows → extracted m n (These rows) cols c i j ≡ option_and_then (c (get_or rows i 0)) (index_at n cols j)
+pub row_of_these : (m n : ℕ) (rows : List ℕ) (cols : Indices) (c : Content) (i j : ℕ) → i < length rows
+    → extracted m n (These rows) cols c i j ≡ option_and_then (c (get_or rows i 0)) (index_at n cols j)
 row_of_these m n rows cols c i j inside = ap (λ o. found_at c o (index_at n cols j)) (slice_get-get_or rows i 0 inside)
 
 nothing_of : (c : Content) (i : ℕ) (o : Option ℕ) → ((j : ℕ) → c i j ≡ None) → option_and_then (c i) o ≡ None
@@ -29,7 +31,8 @@ all_empty m n cols c i none j = elim (cases_Bool (ltb i m)) [
 ]
 
 -- all columns of all rows are the map
-pub all_of_all : (m n : ℕ) (c : Content) (i j : ℕ) → i < m → (ltb j n ≡ false → c i j ≡ None) → extracted m n All All c i j ≡ c i j
+pub all_of_all : (m n : ℕ) (c : Content) (i j : ℕ) → i < m → (ltb j n ≡ false → c i j ≡ None)
+    → extracted m n All All c i j ≡ c i j
 all_of_all m n c i j inside out =
     row_of_all m n All c i j inside ∙ elim (cases_Bool (ltb j n)) [
       | inl here ↦ rw here refl

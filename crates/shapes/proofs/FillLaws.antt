@@ -29,7 +29,8 @@ and_true true = refl
 and_true false = refl
 
 -- a row of one word
-row_of_word : (i j word : ℕ) (cols : List ℕ) → word_at (entries_along i cols (replicate (length cols) word)) i j ≡ cond (has_index cols j) (Some word) None
+row_of_word : (i j word : ℕ) (cols : List ℕ)
+    → word_at (entries_along i cols (replicate (length cols) word)) i j ≡ cond (has_index cols j) (Some word) None
 row_of_word i j word [] = no_word i j []
 row_of_word i j word (c ∷ cs) = row_word i j c word cs (replicate (length cs) word) ∙ elim (cases_eq j c) [
   | inl same ↦ rw (eq-eqb j c same, eq-eqb c j (sym same)) refl
@@ -37,7 +38,8 @@ row_of_word i j word (c ∷ cs) = row_word i j c word cs (replicate (length cs) 
 ]
 
 -- the row of a listed row
-listed_row : (rows cols : List ℕ) (word index size : ℕ) → AllPairs (λ a b. a < b) cols → All (λ x. x < size) cols → has_index rows index ≡ true → IsRowOf (spread rows cols word) index size cols (replicate (length cols) word)
+listed_row : (rows cols : List ℕ) (word index size : ℕ) → AllPairs (λ a b. a < b) cols → All (λ x. x < size) cols
+    → has_index rows index ≡ true → IsRowOf (spread rows cols word) index size cols (replicate (length cols) word)
 listed_row rows cols word index size rising inside is = record {
   lengths = length-replicate (length cols) word;
   rising = rising;
@@ -53,7 +55,9 @@ pub record IsFilling (rows cols : List ℕ) (word k first past size : ℕ) (list
   pub rest : (m : ℕ) → k ≤ m → m < length rows → next ≤ get_or rows m 0
   pub gap : (i : ℕ) → next ≤ i → ((m : ℕ) → k ≤ m → m < length rows → get_or rows m 0 ≢ i) → has_index rows i ≡ false
 
-pub filling_none : (rows cols : List ℕ) (word first past size : ℕ) (lists : FiberLists) → first ≤ past → All (λ x. (first ≤ x) × (x < past)) rows → lists.ends.items ≡ [] → lists.inner.items ≡ [] → lists.words.items ≡ [] → IsFilling rows cols word 0 first past size lists
+pub filling_none : (rows cols : List ℕ) (word first past size : ℕ) (lists : FiberLists) → first ≤ past
+    → All (λ x. (first ≤ x) × (x < past)) rows → lists.ends.items ≡ [] → lists.inner.items ≡ []
+    → lists.words.items ≡ [] → IsFilling rows cols word 0 first past size lists
 filling_none rows cols word first past size lists up inside ends inner words = record {
   next = first;
   high = up;
@@ -66,8 +70,12 @@ filling_none rows cols word first past size lists up inside ends inner words = r
 gap_empty : (rows cols : List ℕ) (word i j : ℕ) → has_index rows i ≡ false → spread rows cols word i j ≡ None
 gap_empty rows cols word i j none = rw none refl
 
-pub filling_more : (rows cols : List ℕ) (word k first past size : ℕ) (old new : FiberLists) → AllPairs (λ a b. a < b) rows → AllPairs (λ a b. a < b) cols → All (λ x. (first ≤ x) × (x < past)) rows → All (λ x. x < size) cols → k < length rows
-    → IsFilling rows cols word k first past size old → HasRow (get_or rows k 0) cols (replicate (length cols) word) old new → IsFilling rows cols word (k + 1) first past size new
+pub filling_more : (rows cols : List ℕ) (word k first past size : ℕ) (old new : FiberLists)
+    → AllPairs (λ a b. a < b) rows → AllPairs (λ a b. a < b) cols → All (λ x. (first ≤ x) × (x < past)) rows
+    → All (λ x. x < size) cols → k < length rows
+    → IsFilling rows cols word k first past size old
+    → HasRow (get_or rows k 0) cols (replicate (length cols) word) old new
+    → IsFilling rows cols word (k + 1) first past size new
 filling_more rows cols word k first past size old new rising cols_rising inside cols_inside within here put =
     let row = get_or rows k 0 in
     let low = here.rest k (omega arith) within in
@@ -89,18 +97,22 @@ filling_more rows cols word k first past size old new rising cols_rising inside 
       ]);
     }
 
-pub filling_end : (rows cols : List ℕ) (word k first past size : ℕ) (lists : FiberLists) → length rows ≤ k → IsFilling rows cols word k first past size lists → IsMade (spread rows cols word) first past size lists
+pub filling_end : (rows cols : List ℕ) (word k first past size : ℕ) (lists : FiberLists) → length rows ≤ k
+    → IsFilling rows cols word k first past size lists → IsMade (spread rows cols word) first past size lists
 filling_end rows cols word k first past size lists all here =
     made_skip (spread rows cols word) first here.next past size lists here.made here.high
     (λ i j from below. gap_empty rows cols word i j (here.gap i from (λ m low in_it same. absurd (omega arith))))
 
 -- ---- what lists name
 
-both_same : (a b c d : Bool) (word : ℕ) → a ≡ c → b ≡ d → cond (a && b) (Some word) None ≡ cond (c && d) (Some word) None
+both_same : (a b c d : Bool) (word : ℕ) → a ≡ c → b ≡ d
+    → cond (a && b) (Some word) None ≡ cond (c && d) (Some word) None
 both_same a b c d word e f = rw (e, f) refl
 
 -- what is spread over parts of the lists is what is filled
-pub spread_is : (m n first past word : ℕ) (rows cols : Indices) (row_list col_list : List ℕ) → past ≤ m → are_below n cols ≡ true → AreOnce first past (λ i. is_some (place_in m rows i)) row_list → AreOnce 0 n (λ j. is_some (place_in n cols j)) col_list
+pub spread_is : (m n first past word : ℕ) (rows cols : Indices) (row_list col_list : List ℕ) → past ≤ m
+    → are_below n cols ≡ true → AreOnce first past (λ i. is_some (place_in m rows i)) row_list
+    → AreOnce 0 n (λ j. is_some (place_in n cols j)) col_list
     → (i j : ℕ) → first ≤ i → i < past → spread row_list col_list word i j ≡ filled m n rows cols word i j
 spread_is m n first past word rows cols row_list col_list end below row_once col_once i j low high =
     let row = row_once.part.members i low high in
@@ -120,10 +132,12 @@ no_cols true b word e = rw e refl
 no_cols false b word e = refl
 
 -- nothing is filled where a list is empty
-pub no_row_filled : (m n word : ℕ) (rows cols : Indices) (i j : ℕ) → count_of m rows ≡ 0 → filled m n rows cols word i j ≡ None
+pub no_row_filled : (m n word : ℕ) (rows cols : Indices) (i j : ℕ) → count_of m rows ≡ 0
+    → filled m n rows cols word i j ≡ None
 no_row_filled m n word rows cols i j none = no_rows (is_some (place_in m rows i)) (is_some (place_in n cols j)) word (none_has m i rows none)
 
-pub no_col_filled : (m n word : ℕ) (rows cols : Indices) (i j : ℕ) → count_of n cols ≡ 0 → filled m n rows cols word i j ≡ None
+pub no_col_filled : (m n word : ℕ) (rows cols : Indices) (i j : ℕ) → count_of n cols ≡ 0
+    → filled m n rows cols word i j ≡ None
 no_col_filled m n word rows cols i j none = no_cols (is_some (place_in m rows i)) (is_some (place_in n cols j)) word (none_has n j cols none)
 
 -- no entries have no words
@@ -134,7 +148,9 @@ nothing es i j none = ap (λ es. word_at es i j) none
 -- ---- one column
 
 -- one fiber in lists that were empty
-pub column_filled : (rows : List ℕ) (word : ℕ) (old new : FiberLists) → AllPairs (λ a b. a < b) rows → old.ends.items ≡ [] → old.inner.items ≡ [] → old.words.items ≡ [] → HasRow 0 rows (replicate (length rows) word) old new → IsFilledColumn rows word new
+pub column_filled : (rows : List ℕ) (word : ℕ) (old new : FiberLists) → AllPairs (λ a b. a < b) rows
+    → old.ends.items ≡ [] → old.inner.items ≡ [] → old.words.items ≡ []
+    → HasRow 0 rows (replicate (length rows) word) old new → IsFilledColumn rows word new
 column_filled rows word old new rises ends inner words put =
     let ws = replicate (length rows) word in
     let fiber = close_fiber [] [] [] 0 rows ws flat_none (All-nil (λ (r : FiberEnd). r.outer < 0)) (length-replicate (length rows) word) rises in
@@ -146,7 +162,8 @@ column_filled rows word old new rises ends inner words put =
       entries = rw (new_ends, new_inner, new_words) (fiber.entries ∙ ap (λ es. es ++ entries_along 0 rows ws) (no_entries 0 [] [] [] refl));
     }
 
-pub column_inside : (first past word : ℕ) (rows : List ℕ) → All (λ x. (first ≤ x) × (x < past)) rows → AreIn first past 1 (transposed (entries_along 0 rows (replicate (length rows) word)))
+pub column_inside : (first past word : ℕ) (rows : List ℕ) → All (λ x. (first ≤ x) × (x < past)) rows
+    → AreIn first past 1 (transposed (entries_along 0 rows (replicate (length rows) word)))
 column_inside first past word rows inside =
     All-map (λ (e : Entry). ((first ≤ e.row) × (e.row < past)) × (e.col < 1)) (λ (e : Entry). entry_at e.col e.row e.word) (entries_along 0 rows (replicate (length rows) word))
     (All-weaker (λ (e : Entry). (e.row ≡ 0) × ((first ≤ e.col) × (e.col < past))) (λ (e : Entry). ((first ≤ e.col) × (e.col < past)) × (e.row < 1)) (λ e p. let zero_is = p.0 in (p.1, omega arith)) (entries_along 0 rows (replicate (length rows) word))
@@ -155,7 +172,8 @@ column_inside first past word rows inside =
 one_column_has : (cols : List ℕ) → length cols ≡ 1 → All (λ x. x < 1) cols → has_index cols 0 ≡ true
 one_column_has cols one below = let zero_is : get_or cols 0 0 ≡ 0 = let less = below 0 0 (omega arith) in omega arith in rw zero_is at (has_at cols 0 (omega arith))
 
-pub column_words : (rows cols : List ℕ) (word i j : ℕ) → length cols ≡ 1 → All (λ x. x < 1) cols → word_at (transposed (entries_along 0 rows (replicate (length rows) word))) i j ≡ spread rows cols word i j
+pub column_words : (rows cols : List ℕ) (word i j : ℕ) → length cols ≡ 1 → All (λ x. x < 1) cols
+    → word_at (transposed (entries_along 0 rows (replicate (length rows) word))) i j ≡ spread rows cols word i j
 column_words rows cols word i j one below =
     let es = entries_along 0 rows (replicate (length rows) word) in
     word_at-transposed es i j ∙ elim (cases_eq j 0) [

@@ -40,14 +40,16 @@ none_listed i j (e ∷ es) none = elim (cases_Bool (eqb i e.row && eqb j e.col))
   | inr away ↦ rw away (none_listed i j es (rw away at none))
 ]
 
-joined_words : (c : Content) (i j : ℕ) (es : List Entry) (ws : List ℕ) → words_at es i j ≡ ws → AreOf c es → (word_at es i j ≡ None → c i j ≡ None) → joined_all None ws ≡ c i j
+joined_words : (c : Content) (i j : ℕ) (es : List Entry) (ws : List ℕ) → words_at es i j ≡ ws → AreOf c es
+    → (word_at es i j ≡ None → c i j ≡ None) → joined_all None ws ≡ c i j
 joined_words c i j es [] is are whole = sym (whole (none_listed i j es is))
 joined_words c i j es (w ∷ ws) is are whole =
     let each : All (λ w. c i j ≡ Some w) (w ∷ ws) = rw is at (words_of c i j es are) in
     last_word (c i j) w ws (All-head (λ w. c i j ≡ Some w) w ws each) (All-tail (λ w. c i j ≡ Some w) w ws each)
 
 -- What is gathered of such entries is the map.
-pub gathered_is : (c : Content) (i j : ℕ) (es : List Entry) → AreOf c es → (word_at es i j ≡ None → c i j ≡ None) → gathered None es i j ≡ c i j
+pub gathered_is : (c : Content) (i j : ℕ) (es : List Entry) → AreOf c es → (word_at es i j ≡ None → c i j ≡ None)
+    → gathered None es i j ≡ c i j
 gathered_is c i j es are whole = joined_words c i j es (words_at es i j) refl are whole
 
 -- entries in order are those of the map that they make
@@ -55,7 +57,8 @@ pub order_of : (es : List Entry) → InOrder es → AreOf (word_at es) es
 order_of es order = λ k d within. sym (word_at-found (get_or es k d).row (get_or es k d).col es k d order within (refl, refl))
 
 -- what is gathered of the transposed entries of a map
-pub gathered_transposed : (c : Content) (es : List Entry) → AreOf c es → ((i j : ℕ) → word_at es i j ≡ c i j) → (i j : ℕ) → gathered None (transposed es) i j ≡ transposed_content c i j
+pub gathered_transposed : (c : Content) (es : List Entry) → AreOf c es → ((i j : ℕ) → word_at es i j ≡ c i j)
+    → (i j : ℕ) → gathered None (transposed es) i j ≡ transposed_content c i j
 gathered_transposed c es are is i j =
     gathered_is (transposed_content c) i j (transposed es) (All-map (λ e. transposed_content c e.row e.col ≡ Some e.word) (λ e. entry_at e.col e.row e.word) es are)
     (λ none. sym (is j i) ∙ sym (word_at-transposed es i j) ∙ none)

@@ -26,8 +26,10 @@ pub record IsGoing (source made : Content) (first past source_cols cols : ℕ) (
   pub rows : IsMade made first next cols lists
   pub walk : IsWalk source next past source_cols rest
 
-pub going_from : (source made : Content) (first past source_cols cols : ℕ) (rest : List Entry) (lists : FiberLists) → first ≤ past → IsWalk source first past source_cols rest
-    → lists.ends.items ≡ [] → lists.inner.items ≡ [] → lists.words.items ≡ [] → IsGoing source made first past source_cols cols rest lists
+pub going_from : (source made : Content) (first past source_cols cols : ℕ) (rest : List Entry) (lists : FiberLists)
+    → first ≤ past → IsWalk source first past source_cols rest
+    → lists.ends.items ≡ [] → lists.inner.items ≡ [] → lists.words.items ≡ []
+    → IsGoing source made first past source_cols cols rest lists
 going_from source made first past source_cols cols rest lists up walk ends inner words = record {
   next = first;
   high = up;
@@ -36,8 +38,11 @@ going_from source made first past source_cols cols rest lists up walk ends inner
 }
 
 -- one row more
-pub going_more : (source made : Content) (first past source_cols cols index : ℕ) (cs ws : List ℕ) (rest others : List Entry) (old new : FiberLists) → StaysEmpty source made → IsGoing source made first past source_cols cols rest old
-    → IsFirstRow index cs ws rest others → HasRowOf made index cols old new → IsGoing source made first past source_cols cols others new
+pub going_more : (source made : Content) (first past source_cols cols index : ℕ) (cs ws : List ℕ)
+    (rest others : List Entry) (old new : FiberLists) → StaysEmpty source made
+    → IsGoing source made first past source_cols cols rest old
+    → IsFirstRow index cs ws rest others → HasRowOf made index cols old new
+    → IsGoing source made first past source_cols cols others new
 going_more source made first past source_cols cols index cs ws rest others old new empty here starts put =
     let step = walk_step source here.next past source_cols index cs ws rest others here.walk starts in
     let up = made_skip made first here.next index cols old here.rows step.low (λ i j low below. empty i (λ j. step.gap i j low below) j) in
@@ -50,7 +55,8 @@ going_more source made first past source_cols cols index cs ws rest others old n
     }
 
 -- where nothing is left, all rows are in the lists
-pub going_end : (source made : Content) (first past source_cols cols : ℕ) (rest : List Entry) (lists : FiberLists) → StaysEmpty source made → IsGoing source made first past source_cols cols rest lists → rest ≡ []
+pub going_end : (source made : Content) (first past source_cols cols : ℕ) (rest : List Entry) (lists : FiberLists)
+    → StaysEmpty source made → IsGoing source made first past source_cols cols rest lists → rest ≡ []
     → IsMade made first past cols lists
 going_end source made first past source_cols cols rest lists empty here none =
     let nothing = walk_end source here.next past source_cols rest here.walk none in
@@ -63,7 +69,8 @@ pub ok_then : {A E : Type 0} (X Y : Type 0) (r : Result A E) → (X → Y) → O
 ok_then X Y (Ok a) f h = f h
 ok_then X Y (Err e) f h = h
 
-pub ok_row : (c : Content) (index cols : ℕ) (cs ws : List ℕ) (old new : FiberLists) (r : Result (Unit {0}) NoMemory) → IsRowOf c index cols cs ws → OnOk r (HasRow index cs ws old new) → OnOk r (HasRowOf c index cols old new)
+pub ok_row : (c : Content) (index cols : ℕ) (cs ws : List ℕ) (old new : FiberLists) (r : Result (Unit {0}) NoMemory)
+    → IsRowOf c index cols cs ws → OnOk r (HasRow index cs ws old new) → OnOk r (HasRowOf c index cols old new)
 ok_row c index cols cs ws old new r row put = ok_then (HasRow index cs ws old new) (HasRowOf c index cols old new) r (λ put. record { cs = cs; ws = ws; row = row; put = put }) put
 
 pub if_ok : {A E : Type 0} (P Q : A → Type 0) (r : Result A E) → ((a : A) → P a → Q a) → IfOk r P → IfOk r Q
@@ -71,7 +78,9 @@ if_ok P Q (Ok a) f h = f a h
 if_ok P Q (Err e) f h = h
 
 -- a row that is cut
-pub cut_ok : (index cols n : ℕ) (cs ws : List ℕ) (old new : FiberLists) (r : Result (Unit {0}) NoMemory) → length ws ≡ length cs → AllPairs (λ a b. a < b) cs → IsPartitionPoint (λ c. ltb c cols ≡ true) (λ c. ltb c cols ≡ false) cs n
+pub cut_ok : (index cols n : ℕ) (cs ws : List ℕ) (old new : FiberLists) (r : Result (Unit {0}) NoMemory)
+    → length ws ≡ length cs → AllPairs (λ a b. a < b) cs
+    → IsPartitionPoint (λ c. ltb c cols ≡ true) (λ c. ltb c cols ≡ false) cs n
     → OnOk r (HasRow index (take n cs) (take n ws) old new)
     → OnOk r ((c : Content) (rows : ℕ) → index < rows → ((j : ℕ) → word_at (entries_along index cs ws) index j ≡ c index j) → HasRowOf (cut_to rows cols c) index cols old new)
 cut_ok index cols n cs ws old new r same rises point put =

@@ -61,7 +61,8 @@ some_position i xs = is_some_if (ltb (position_or_len (λ x. eqb x i) xs) (lengt
 -- ---- lists of indices
 
 -- indices in rising order have those that are listed
-pub sorted_has : (size i : ℕ) (indices : Indices) (sorted : List ℕ) → HasSorted indices sorted → has_index sorted i ≡ is_some (place_in size indices i)
+pub sorted_has : (size i : ℕ) (indices : Indices) (sorted : List ℕ) → HasSorted indices sorted
+    → has_index sorted i ≡ is_some (place_in size indices i)
 sorted_has size i Every sorted h = absurd h
 sorted_has size i (These items) sorted h = sym (some_position i items ∙ list_any-IsPermutation (λ x. eqb x i) items sorted h.same)
 
@@ -79,7 +80,8 @@ none_has size i (These []) none = some_position i []
 none_has size i (These (x ∷ xs)) none = absurd (omega arith)
 
 -- nor one that is behind a dimension
-pub outside_has : (size i : ℕ) (indices : Indices) → are_below size indices ≡ true → size ≤ i → is_some (place_in size indices i) ≡ false
+pub outside_has : (size i : ℕ) (indices : Indices) → are_below size indices ≡ true → size ≤ i
+    → is_some (place_in size indices i) ≡ false
 outside_has size i Every below out = is_some_if (ltb i size) i ∙ grind (arith, nat_tests)
 outside_has size i (These items) below out =
     some_position i items ∙ has_none items i (All-weaker (λ x. ltb x size ≡ true) (λ x. x ≢ i) (λ x less same. absurd (grind (arith, nat_tests))) items (AllPass-from_list_all (λ x. ltb x size) items below))
@@ -87,7 +89,9 @@ outside_has size i (These items) below out =
 -- ---- parts
 
 -- the part of a list between two numbers
-pub part_has : (first past : ℕ) (xs : List ℕ) (n m : ℕ) → IsPartitionPoint (λ x. ltb x first ≡ true) (λ x. ltb x first ≡ false) xs n → IsPartitionPoint (λ x. ltb x past ≡ true) (λ x. ltb x past ≡ false) (drop n xs) m
+pub part_has : (first past : ℕ) (xs : List ℕ) (n m : ℕ)
+    → IsPartitionPoint (λ x. ltb x first ≡ true) (λ x. ltb x first ≡ false) xs n
+    → IsPartitionPoint (λ x. ltb x past ≡ true) (λ x. ltb x past ≡ false) (drop n xs) m
     → IsPartIn first past (has_index xs) (take m (drop n xs))
 part_has first past xs n m low high =
     let rest = drop n xs in
@@ -128,7 +132,8 @@ not_less a b low =
       | false ↦ refl
     ])
 
-pub once_from : (first past : ℕ) (has : ℕ → Bool) (xs : List ℕ) → IsNonDecreasing xs → IsPartIn first past has xs → AreOnce first past has (dedup eqb xs)
+pub once_from : (first past : ℕ) (has : ℕ → Bool) (xs : List ℕ) → IsNonDecreasing xs → IsPartIn first past has xs
+    → AreOnce first past has (dedup eqb xs)
 once_from first past has xs rises part =
     let sorted : IsSorted nat_cmp xs = λ k d low high. not_less (get_or xs (k + 1) d) (get_or xs k d) (rises k (k + 1) d (omega arith) high) in
     record {
@@ -156,7 +161,8 @@ all_from_none first = record {
   members = λ i low high. absurd (omega arith);
 }
 
-pub all_from_more : (first next : ℕ) (xs : List ℕ) → AreAllFrom first next xs → AreAllFrom first (next + 1) (xs ++ next ∷ [])
+pub all_from_more : (first next : ℕ) (xs : List ℕ) → AreAllFrom first next xs
+    → AreAllFrom first (next + 1) (xs ++ next ∷ [])
 all_from_more first next xs here =
     let start = here.low in
     let P : ℕ → Type 0 = λ x. (first ≤ x) × (x < next + 1) in
@@ -171,7 +177,8 @@ all_from_more first next xs here =
       ];
     }
 
-pub all_from_once : (first past : ℕ) (has : ℕ → Bool) (xs : List ℕ) → AreAllFrom first past xs → ((i : ℕ) → i < past → has i ≡ true) → AreOnce first past has xs
+pub all_from_once : (first past : ℕ) (has : ℕ → Bool) (xs : List ℕ) → AreAllFrom first past xs
+    → ((i : ℕ) → i < past → has i ≡ true) → AreOnce first past has xs
 all_from_once first past has xs here each = record {
   rising = here.rising;
   part = record {
@@ -183,7 +190,8 @@ all_from_once first past has xs here each = record {
 -- ---- lists that grow by another's elements
 
 -- one element more behind the first k of a list
-pub push_more : {X : Type 0} (old now xs : List X) (k : ℕ) (x d : X) → now ≡ old ++ take k xs → k < length xs → get_or xs k d ≡ x → now ++ x ∷ [] ≡ old ++ take (k + 1) xs
+pub push_more : {X : Type 0} (old now xs : List X) (k : ℕ) (x d : X) → now ≡ old ++ take k xs → k < length xs
+    → get_or xs k d ≡ x → now ++ x ∷ [] ≡ old ++ take (k + 1) xs
 push_more old now xs k x d is within at = rw (take_more xs k d within, at, is) (append_assoc old (take k xs) (x ∷ []))
 
 pub push_all : {X : Type 0} (old now xs : List X) (k : ℕ) → now ≡ old ++ take k xs → length xs ≤ k → now ≡ old ++ xs

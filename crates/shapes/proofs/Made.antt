@@ -15,7 +15,8 @@ use Rattle.store.proofs.FlatLaws.{all_cols, all_rows, flat_none}
 use Rattle.store.proofs.PartLaws.{none_there, word_before, word_behind}
 use Rattle.shapes.specs.Rows.{HasRowOf, IsMade}
 
-pub made_none : (c : Content) (first cols : ℕ) (lists : FiberLists) → lists.ends.items ≡ [] → lists.inner.items ≡ [] → lists.words.items ≡ [] → IsMade c first first cols lists
+pub made_none : (c : Content) (first cols : ℕ) (lists : FiberLists) → lists.ends.items ≡ [] → lists.inner.items ≡ []
+    → lists.words.items ≡ [] → IsMade c first first cols lists
 made_none c first cols lists ends inner words =
     let none = no_entries 0 lists.ends.items lists.inner.items lists.words.items ends in
     record {
@@ -27,7 +28,8 @@ made_none c first cols lists ends inner words =
     }
 
 -- rows without a word in between change nothing
-pub made_skip : (c : Content) (first next row cols : ℕ) (lists : FiberLists) → IsMade c first next cols lists → next ≤ row → ((i j : ℕ) → next ≤ i → i < row → c i j ≡ None) → IsMade c first row cols lists
+pub made_skip : (c : Content) (first next row cols : ℕ) (lists : FiberLists) → IsMade c first next cols lists
+    → next ≤ row → ((i j : ℕ) → next ≤ i → i < row → c i j ≡ None) → IsMade c first row cols lists
 made_skip c first next row cols lists here up none =
     let start = here.low in
     record {
@@ -44,7 +46,8 @@ made_skip c first next row cols lists here up none =
     }
 
 -- one row more
-pub made_more : (c : Content) (first index cols : ℕ) (old new : FiberLists) → IsMade c first index cols old → HasRowOf c index cols old new → IsMade c first (index + 1) cols new
+pub made_more : (c : Content) (first index cols : ℕ) (old new : FiberLists) → IsMade c first index cols old
+    → HasRowOf c index cols old new → IsMade c first (index + 1) cols new
 made_more c first index cols old new here made =
     let start = here.low in
     let row = entries_along index made.cs made.ws in

@@ -30,7 +30,9 @@ picks_none cs ws listed = record {
 }
 
 -- a column that the row lacks
-picks_skip : (cs ws listed : List ℕ) (k : ℕ) (places words : List ℕ) → k < length listed → ((i : ℕ) → word_at (entries_along i cs ws) i (get_or listed k 0) ≡ None) → ArePicks cs ws listed k places words → ArePicks cs ws listed (k + 1) places words
+picks_skip : (cs ws listed : List ℕ) (k : ℕ) (places words : List ℕ) → k < length listed
+    → ((i : ℕ) → word_at (entries_along i cs ws) i (get_or listed k 0) ≡ None) → ArePicks cs ws listed k places words
+    → ArePicks cs ws listed (k + 1) places words
 picks_skip cs ws listed k places words within none here = record {
   lengths = here.lengths;
   rising = here.rising;
@@ -46,7 +48,9 @@ picks_skip cs ws listed k places words within none here = record {
 }
 
 -- a column that the row has
-picks_more : (cs ws listed : List ℕ) (k word : ℕ) (places words : List ℕ) → k < length listed → ((i : ℕ) → word_at (entries_along i cs ws) i (get_or listed k 0) ≡ Some word) → ArePicks cs ws listed k places words
+picks_more : (cs ws listed : List ℕ) (k word : ℕ) (places words : List ℕ) → k < length listed
+    → ((i : ℕ) → word_at (entries_along i cs ws) i (get_or listed k 0) ≡ Some word)
+    → ArePicks cs ws listed k places words
     → ArePicks cs ws listed (k + 1) (places ++ k ∷ []) (words ++ word ∷ [])
 picks_more cs ws listed k word places words within some here =
     let P : ℕ → Type 0 = λ place. place < k + 1 in
@@ -80,7 +84,9 @@ put_none cs ws listed lists = record {
   added = sym (append-nil {A = ℕ} lists.words.items);
 }
 
-pub put_skip : (cs ws listed : List ℕ) (k : ℕ) (old new : FiberLists) → k < length listed → ((i : ℕ) → word_at (entries_along i cs ws) i (get_or listed k 0) ≡ None) → HasPicks cs ws listed k old new → HasPicks cs ws listed (k + 1) old new
+pub put_skip : (cs ws listed : List ℕ) (k : ℕ) (old new : FiberLists) → k < length listed
+    → ((i : ℕ) → word_at (entries_along i cs ws) i (get_or listed k 0) ≡ None) → HasPicks cs ws listed k old new
+    → HasPicks cs ws listed (k + 1) old new
 put_skip cs ws listed k old new within none here = record {
   places = here.places;
   words = here.words;
@@ -90,8 +96,10 @@ put_skip cs ws listed k old new within none here = record {
   added = here.added;
 }
 
-pub put_more : (cs ws listed : List ℕ) (k word : ℕ) (old now new : FiberLists) → k < length listed → ((i : ℕ) → word_at (entries_along i cs ws) i (get_or listed k 0) ≡ Some word) → HasPicks cs ws listed k old now
-    → new.ends.items ≡ now.ends.items → new.inner.items ≡ now.inner.items ++ k ∷ [] → new.words.items ≡ now.words.items ++ word ∷ [] → HasPicks cs ws listed (k + 1) old new
+pub put_more : (cs ws listed : List ℕ) (k word : ℕ) (old now new : FiberLists) → k < length listed
+    → ((i : ℕ) → word_at (entries_along i cs ws) i (get_or listed k 0) ≡ Some word) → HasPicks cs ws listed k old now
+    → new.ends.items ≡ now.ends.items → new.inner.items ≡ now.inner.items ++ k ∷ []
+    → new.words.items ≡ now.words.items ++ word ∷ [] → HasPicks cs ws listed (k + 1) old new
 put_more cs ws listed k word old now new within some here ends inner added = record {
   places = here.places ++ k ∷ [];
   words = here.words ++ word ∷ [];
@@ -104,7 +112,8 @@ put_more cs ws listed k word old now new within some here ends inner added = rec
 -- ---- rows of what is extracted
 
 -- where the row of a store is taken as it is
-pub row_taken : (source made : Content) (row index size : ℕ) (cs ws : List ℕ) → IsRowOf source row size cs ws → ((j : ℕ) → made index j ≡ option_and_then (source row) (index_at size Every j)) → IsRowOf made index size cs ws
+pub row_taken : (source made : Content) (row index size : ℕ) (cs ws : List ℕ) → IsRowOf source row size cs ws
+    → ((j : ℕ) → made index j ≡ option_and_then (source row) (index_at size Every j)) → IsRowOf made index size cs ws
 row_taken source made row index size cs ws here is = record {
   lengths = here.lengths;
   rising = here.rising;
@@ -118,8 +127,10 @@ row_taken source made row index size cs ws here is = record {
 }
 
 -- where listed columns of it are taken
-pub row_picked : (source made : Content) (row index size : ℕ) (cs ws listed places words : List ℕ) → IsRowOf source row size cs ws → ArePicks cs ws listed (length listed) places words
-    → ((j : ℕ) → made index j ≡ option_and_then (source row) (index_at size (These listed) j)) → IsRowOf made index (length listed) places words
+pub row_picked : (source made : Content) (row index size : ℕ) (cs ws listed places words : List ℕ)
+    → IsRowOf source row size cs ws → ArePicks cs ws listed (length listed) places words
+    → ((j : ℕ) → made index j ≡ option_and_then (source row) (index_at size (These listed) j))
+    → IsRowOf made index (length listed) places words
 row_picked source made row index size cs ws listed places words here picks is = record {
   lengths = picks.lengths;
   rising = picks.rising;
@@ -136,16 +147,21 @@ row_picked source made row index size cs ws listed places words here picks is = 
       ];
 }
 
-pub ok_taken : (index : ℕ) (cs ws : List ℕ) (old new : FiberLists) (r : Result (Unit {0}) NoMemory) → OnOk r (HasRow index cs ws old new)
+pub ok_taken : (index : ℕ) (cs ws : List ℕ) (old new : FiberLists) (r : Result (Unit {0}) NoMemory)
+    → OnOk r (HasRow index cs ws old new)
     → OnOk r ((source made : Content) (row size : ℕ) → IsRowOf source row size cs ws → ((j : ℕ) → made index j ≡ option_and_then (source row) (index_at size Every j)) → HasRowOf made index size old new)
 ok_taken index cs ws old new r put =
     ok_then (HasRow index cs ws old new) ((source made : Content) (row size : ℕ) → IsRowOf source row size cs ws → ((j : ℕ) → made index j ≡ option_and_then (source row) (index_at size Every j)) → HasRowOf made index size old new) r
     (λ put source made row size here is. record { cs = cs; ws = ws; row = row_taken source made row index size cs ws here is; put = put }) put
 
 -- after the close of a row that was picked
-pub row_closed : (index : ℕ) (cs ws listed : List ℕ) (old now new : FiberLists) → HasPicks cs ws listed (length listed) old now → new.inner.items ≡ now.inner.items → new.words.items ≡ now.words.items
+pub row_closed : (index : ℕ) (cs ws listed : List ℕ) (old now new : FiberLists)
+    → HasPicks cs ws listed (length listed) old now → new.inner.items ≡ now.inner.items
+    → new.words.items ≡ now.words.items
     → new.ends.items ≡ closed now.ends.items index (length now.inner.items)
-    → (source made : Content) (row size : ℕ) → IsRowOf source row size cs ws → ((j : ℕ) → made index j ≡ option_and_then (source row) (index_at size (These listed) j)) → HasRowOf made index (length listed) old new
+    → (source made : Content) (row size : ℕ) → IsRowOf source row size cs ws
+    → ((j : ℕ) → made index j ≡ option_and_then (source row) (index_at size (These listed) j))
+    → HasRowOf made index (length listed) old new
 row_closed index cs ws listed old now new picked inner words ends source made row size here is = record {
   cs = picked.places;
   ws = picked.words;
@@ -157,7 +173,9 @@ row_closed index cs ws listed old now new picked inner words ends source made ro
   };
 }
 
-pub ok_closed : (index : ℕ) (cs ws listed : List ℕ) (old now new : FiberLists) (r : Result (Unit {0}) NoMemory) → HasPicks cs ws listed (length listed) old now → new.inner.items ≡ now.inner.items → new.words.items ≡ now.words.items
+pub ok_closed : (index : ℕ) (cs ws listed : List ℕ) (old now new : FiberLists) (r : Result (Unit {0}) NoMemory)
+    → HasPicks cs ws listed (length listed) old now → new.inner.items ≡ now.inner.items
+    → new.words.items ≡ now.words.items
     → OnOk r (new.ends.items ≡ closed now.ends.items index (length now.inner.items))
     → OnOk r ((source made : Content) (row size : ℕ) → IsRowOf source row size cs ws → ((j : ℕ) → made index j ≡ option_and_then (source row) (index_at size (These listed) j)) → HasRowOf made index (length listed) old new)
 ok_closed index cs ws listed old now new r picked inner words ends =

@@ -23,13 +23,17 @@ use Rattle.shapes.proofs.Gathering.{AreOf, and_both}
 abbrev pub is_in : ℕ → ℕ → ℕ → Bool
 is_in first past i = leb first i && ltb i past
 
-pub row_placed : (rows cols : Indices) (first past index : ℕ) (cs ws : List ℕ) → is_in first past (nth_index rows index) ≡ true
-    → filter_map (placed_entry rows cols first past) (entries_along index cs ws) ≡ entries_along (nth_index rows index) (map (nth_index cols) cs) ws
+pub row_placed : (rows cols : Indices) (first past index : ℕ) (cs ws : List ℕ)
+    → is_in first past (nth_index rows index) ≡ true
+    → filter_map (placed_entry rows cols first past) (entries_along index cs ws) ≡ entries_along (nth_index rows index)
+    (map (nth_index cols) cs) ws
 row_placed rows cols first past index [] ws inside = refl
 row_placed rows cols first past index (c ∷ cs) [] inside = refl
 row_placed rows cols first past index (c ∷ cs) (w ∷ ws) inside = rw inside (ap (λ es. entry_at (nth_index rows index) (nth_index cols c) w ∷ es) (row_placed rows cols first past index cs ws inside))
 
-pub row_passed : (rows cols : Indices) (first past index : ℕ) (cs ws : List ℕ) → is_in first past (nth_index rows index) ≡ false → filter_map (placed_entry rows cols first past) (entries_along index cs ws) ≡ []
+pub row_passed : (rows cols : Indices) (first past index : ℕ) (cs ws : List ℕ)
+    → is_in first past (nth_index rows index) ≡ false → filter_map (placed_entry rows cols first past)
+    (entries_along index cs ws) ≡ []
 row_passed rows cols first past index [] ws outside = refl
 row_passed rows cols first past index (c ∷ cs) [] outside = refl
 row_passed rows cols first past index (c ∷ cs) (w ∷ ws) outside = rw outside (row_passed rows cols first past index cs ws outside)
@@ -42,7 +46,8 @@ reaches size k Every less = tt
 reaches size k (These items) less = less
 
 -- a number that stands first is found at once, and one behind it one place further
-position_first : (i : ℕ) (xs : List ℕ) (k : ℕ) → is_distinct xs ≡ true → k < length xs → get_or xs k 0 ≡ i → position_or_len (λ x. eqb x i) xs ≡ k
+position_first : (i : ℕ) (xs : List ℕ) (k : ℕ) → is_distinct xs ≡ true → k < length xs → get_or xs k 0 ≡ i
+    → position_or_len (λ x. eqb x i) xs ≡ k
 position_first i [] k apart within at = absurd (omega arith)
 position_first i (x ∷ xs) zero apart within at = rw (eq-eqb x i at) refl
 position_first i (x ∷ xs) (suc k) apart within at =
@@ -52,12 +57,14 @@ position_first i (x ∷ xs) (suc k) apart within at =
     rw other (omega (arith, position_first i xs k parts.1 (omega arith) at))
 
 -- an index of a list is below the dimension
-pub nth_below : (size k : ℕ) (indices : Indices) → are_below size indices ≡ true → k < count_of size indices → nth_index indices k < size
+pub nth_below : (size k : ℕ) (indices : Indices) → are_below size indices ≡ true → k < count_of size indices
+    → nth_index indices k < size
 nth_below size k Every below less = less
 nth_below size k (These items) below less = let each = AllPass-from_list_all (λ x. ltb x size) items below k 0 less in grind (arith, nat_tests)
 
 -- in a list without repeats the index at a place is found there
-pub place_of_nth : (size k : ℕ) (indices : Indices) → are_distinct indices ≡ true → k < count_of size indices → place_in size indices (nth_index indices k) ≡ Some k
+pub place_of_nth : (size k : ℕ) (indices : Indices) → are_distinct indices ≡ true → k < count_of size indices
+    → place_in size indices (nth_index indices k) ≡ Some k
 place_of_nth size k Every apart less = let is : ltb k size ≡ true = grind (arith, nat_tests) in rw is refl
 place_of_nth size k (These items) apart less =
     let at = position_first (get_or items k 0) items k apart less refl in
@@ -65,7 +72,8 @@ place_of_nth size k (These items) apart less =
     rw (at, is) refl
 
 -- an index that is found stands at that place
-position_at : (i : ℕ) (xs : List ℕ) → position_or_len (λ x. eqb x i) xs < length xs → get_or xs (position_or_len (λ x. eqb x i) xs) 0 ≡ i
+position_at : (i : ℕ) (xs : List ℕ) → position_or_len (λ x. eqb x i) xs < length xs
+    → get_or xs (position_or_len (λ x. eqb x i) xs) 0 ≡ i
 position_at i [] within = absurd (omega arith)
 position_at i (x ∷ xs) within = elim (cases_Bool (eqb x i)) [
   | inl same ↦ rw same (eqb-true x i same)
@@ -90,7 +98,9 @@ nth_of_place size i k (These items) is =
 -- ---- all entries
 
 -- each entry that is put is one of the map of those that are put
-pub placed_are : (m n first past : ℕ) (rows cols : Indices) (a_rows a_cols : ℕ) (c : Content) (es : List Entry) → are_distinct rows ≡ true → are_distinct cols ≡ true → a_rows ≡ count_of m rows → a_cols ≡ count_of n cols → AreIn 0 a_rows a_cols es → AreOf c es
+pub placed_are : (m n first past : ℕ) (rows cols : Indices) (a_rows a_cols : ℕ) (c : Content) (es : List Entry)
+    → are_distinct rows ≡ true → are_distinct cols ≡ true → a_rows ≡ count_of m rows → a_cols ≡ count_of n cols
+    → AreIn 0 a_rows a_cols es → AreOf c es
     → AreOf (placed m n rows cols c) (filter_map (placed_entry rows cols first past) es)
 placed_are m n first past rows cols a_rows a_cols c [] apart_rows apart_cols counts_rows counts_cols inside are = All-nil (λ e. placed m n rows cols c e.row e.col ≡ Some e.word)
 placed_are m n first past rows cols a_rows a_cols c (e ∷ es) apart_rows apart_cols counts_rows counts_cols inside are =
@@ -112,14 +122,18 @@ behind_none i j e es none = elim (cases_Bool (eqb i e.row && eqb j e.col)) [
   | inr away ↦ sym (word_at-skip i j e es away) ∙ none
 ]
 
-rest_none : (rows cols : Indices) (first past i j : ℕ) (e : Entry) (es : List Entry) → word_at (filter_map (placed_entry rows cols first past) (e ∷ es)) i j ≡ None → word_at (filter_map (placed_entry rows cols first past) es) i j ≡ None
+rest_none : (rows cols : Indices) (first past i j : ℕ) (e : Entry) (es : List Entry)
+    → word_at (filter_map (placed_entry rows cols first past) (e ∷ es)) i j ≡ None
+    → word_at (filter_map (placed_entry rows cols first past) es) i j ≡ None
 rest_none rows cols first past i j e es none = elim (cases_Bool (is_in first past (nth_index rows e.row))) [
   | inl inside ↦ behind_none i j (entry_at (nth_index rows e.row) (nth_index cols e.col) e.word) (filter_map (placed_entry rows cols first past) es) (rw inside at none)
   | inr outside ↦ rw outside at none
 ]
 
 -- an entry that is put where a list names its row is there
-placed_there : (rows cols : Indices) (first past p q i j : ℕ) (es : List Entry) → nth_index rows p ≡ i → nth_index cols q ≡ j → is_in first past i ≡ true → word_at (filter_map (placed_entry rows cols first past) es) i j ≡ None → word_at es p q ≡ None
+placed_there : (rows cols : Indices) (first past p q i j : ℕ) (es : List Entry) → nth_index rows p ≡ i
+    → nth_index cols q ≡ j → is_in first past i ≡ true
+    → word_at (filter_map (placed_entry rows cols first past) es) i j ≡ None → word_at es p q ≡ None
 unfolding word_at
 placed_there rows cols first past p q i j [] row col inside none = refl
 placed_there rows cols first past p q i j (e ∷ es) row col inside none =
@@ -136,7 +150,9 @@ placed_there rows cols first past p q i j (e ∷ es) row col inside none =
       | inr away ↦ rw away (placed_there rows cols first past p q i j es row col inside (rest_none rows cols first past i j e es none))
     ]
 
-nothing_found : (m n first past : ℕ) (rows cols : Indices) (c : Content) (es : List Entry) (i j : ℕ) (row col : Option ℕ) → place_in m rows i ≡ row → place_in n cols j ≡ col → ((p q : ℕ) → word_at es p q ≡ c p q) → is_in first past i ≡ true
+nothing_found : (m n first past : ℕ) (rows cols : Indices) (c : Content) (es : List Entry) (i j : ℕ)
+    (row col : Option ℕ) → place_in m rows i ≡ row → place_in n cols j ≡ col → ((p q : ℕ) → word_at es p q ≡ c p q)
+    → is_in first past i ≡ true
     → word_at (filter_map (placed_entry rows cols first past) es) i j ≡ None → found_at c row col ≡ None
 nothing_found m n first past rows cols c es i j None col at_row at_col words inside none = refl
 nothing_found m n first past rows cols c es i j (Some p) None at_row at_col words inside none = refl
@@ -144,13 +160,17 @@ nothing_found m n first past rows cols c es i j (Some p) (Some q) at_row at_col 
     sym (words p q) ∙ placed_there rows cols first past p q i j es (nth_of_place m i p rows at_row) (nth_of_place n j q cols at_col) inside none
 
 -- where nothing is put, the map of those that are put has nothing
-pub placed_whole : (m n first past : ℕ) (rows cols : Indices) (c : Content) (es : List Entry) (i j : ℕ) → ((p q : ℕ) → word_at es p q ≡ c p q) → is_in first past i ≡ true → word_at (filter_map (placed_entry rows cols first past) es) i j ≡ None → placed m n rows cols c i j ≡ None
+pub placed_whole : (m n first past : ℕ) (rows cols : Indices) (c : Content) (es : List Entry) (i j : ℕ)
+    → ((p q : ℕ) → word_at es p q ≡ c p q) → is_in first past i ≡ true
+    → word_at (filter_map (placed_entry rows cols first past) es) i j ≡ None → placed m n rows cols c i j ≡ None
 placed_whole m n first past rows cols c es i j words inside none = nothing_found m n first past rows cols c es i j (place_in m rows i) (place_in n cols j) refl refl words inside none
 
 -- ---- inside a shape
 
 -- the entries that are put lie in the range and inside the columns
-pub placed_inside : (n first past : ℕ) (rows cols : Indices) (a_rows a_cols : ℕ) (es : List Entry) → are_below n cols ≡ true → a_cols ≡ count_of n cols → AreIn 0 a_rows a_cols es → AreIn first past n (filter_map (placed_entry rows cols first past) es)
+pub placed_inside : (n first past : ℕ) (rows cols : Indices) (a_rows a_cols : ℕ) (es : List Entry)
+    → are_below n cols ≡ true → a_cols ≡ count_of n cols → AreIn 0 a_rows a_cols es
+    → AreIn first past n (filter_map (placed_entry rows cols first past) es)
 placed_inside n first past rows cols a_rows a_cols [] below counts inside = All-nil (λ (e : Entry). ((first ≤ e.row) × (e.row < past)) × (e.col < n))
 placed_inside n first past rows cols a_rows a_cols (e ∷ es) below counts inside =
     let P : Entry → Type 0 = λ e. ((0 ≤ e.row) × (e.row < a_rows)) × (e.col < a_cols) in
@@ -170,7 +190,8 @@ placed_inside n first past rows cols a_rows a_cols (e ∷ es) below counts insid
 
 -- ---- row by row
 
-pub placed_more : (rows cols : Indices) (first past index : ℕ) (cs ws : List ℕ) (old rest others all : List Entry) → is_in first past (nth_index rows index) ≡ true → rest ≡ entries_along index cs ws ++ others
+pub placed_more : (rows cols : Indices) (first past index : ℕ) (cs ws : List ℕ) (old rest others all : List Entry)
+    → is_in first past (nth_index rows index) ≡ true → rest ≡ entries_along index cs ws ++ others
     → old ++ filter_map (placed_entry rows cols first past) rest ≡ filter_map (placed_entry rows cols first past) all
     → (old ++ entries_along (nth_index rows index) (map (nth_index cols) cs) ws) ++ filter_map (placed_entry rows cols first past) others ≡ filter_map (placed_entry rows cols first past) all
 placed_more rows cols first past index cs ws old rest others all inside whole is =
@@ -181,8 +202,10 @@ placed_more rows cols first past index cs ws old rest others all inside whole is
     ∙ ap (λ es. old ++ es) (sym (filter_map-append f row others))
     ∙ ap (λ es. old ++ filter_map f es) (sym whole) ∙ is
 
-pub passed_more : (rows cols : Indices) (first past index : ℕ) (cs ws : List ℕ) (old rest others all : List Entry) → is_in first past (nth_index rows index) ≡ false → rest ≡ entries_along index cs ws ++ others
-    → old ++ filter_map (placed_entry rows cols first past) rest ≡ filter_map (placed_entry rows cols first past) all → old ++ filter_map (placed_entry rows cols first past) others ≡ filter_map (placed_entry rows cols first past) all
+pub passed_more : (rows cols : Indices) (first past index : ℕ) (cs ws : List ℕ) (old rest others all : List Entry)
+    → is_in first past (nth_index rows index) ≡ false → rest ≡ entries_along index cs ws ++ others
+    → old ++ filter_map (placed_entry rows cols first past) rest ≡ filter_map (placed_entry rows cols first past) all
+    → old ++ filter_map (placed_entry rows cols first past) others ≡ filter_map (placed_entry rows cols first past) all
 passed_more rows cols first past index cs ws old rest others all outside whole is =
     let f = placed_entry rows cols first past in
     let row = entries_along index cs ws in

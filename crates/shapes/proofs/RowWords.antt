@@ -19,7 +19,8 @@ use Rattle.store.proofs.Order.{all_drop, all_pairs_left, all_take}
 use Rattle.shapes.specs.Rows.{IsRowOf}
 
 -- the words of a row whose first column stands apart
-pub row_word : (i j c w : ℕ) (cs ws : List ℕ) → word_at (entries_along i (c ∷ cs) (w ∷ ws)) i j ≡ cond (eqb j c) (Some w) (word_at (entries_along i cs ws) i j)
+pub row_word : (i j c w : ℕ) (cs ws : List ℕ) → word_at (entries_along i (c ∷ cs) (w ∷ ws)) i j ≡ cond (eqb j c)
+    (Some w) (word_at (entries_along i cs ws) i j)
 unfolding word_at
 row_word i j c w cs ws = rw (eq-eqb i i refl) refl
 
@@ -34,14 +35,16 @@ absent i j [] ws other = refl
 absent i j (c ∷ cs) [] other = refl
 absent i j (c ∷ cs) (w ∷ ws) other = row_word i j c w cs ws ∙ rw (ne_eqb j c (All-head (λ col. j ≢ col) c cs other)) (absent i j cs ws (All-tail (λ col. j ≢ col) c cs other))
 
-pub along_both : (i : ℕ) (cs ws cs' ws' : List ℕ) → length ws ≡ length cs → entries_along i (cs ++ cs') (ws ++ ws') ≡ entries_along i cs ws ++ entries_along i cs' ws'
+pub along_both : (i : ℕ) (cs ws cs' ws' : List ℕ) → length ws ≡ length cs
+    → entries_along i (cs ++ cs') (ws ++ ws') ≡ entries_along i cs ws ++ entries_along i cs' ws'
 along_both i [] [] cs' ws' same = refl
 along_both i [] (w ∷ ws) cs' ws' same = absurd (omega arith)
 along_both i (c ∷ cs) [] cs' ws' same = absurd (omega arith)
 along_both i (c ∷ cs) (w ∷ ws) cs' ws' same = ap (λ (es : List Entry). record { row = i; col = c; word = w } ∷ es) (along_both i cs ws cs' ws' (omega arith))
 
 -- the words of two parts, of which the second lacks a column
-pub word_left : (i j : ℕ) (cs ws cs' ws' : List ℕ) → length ws ≡ length cs → All (λ col. j ≢ col) cs' → word_at (entries_along i (cs ++ cs') (ws ++ ws')) i j ≡ word_at (entries_along i cs ws) i j
+pub word_left : (i j : ℕ) (cs ws cs' ws' : List ℕ) → length ws ≡ length cs → All (λ col. j ≢ col) cs'
+    → word_at (entries_along i (cs ++ cs') (ws ++ ws')) i j ≡ word_at (entries_along i cs ws) i j
 word_left i j [] [] cs' ws' same other = absent i j cs' ws' other ∙ sym (no_word i j [])
 word_left i j [] (w ∷ ws) cs' ws' same other = absurd (omega arith)
 word_left i j (c ∷ cs) [] cs' ws' same other = absurd (omega arith)
@@ -50,8 +53,10 @@ word_left i j (c ∷ cs) (w ∷ ws) cs' ws' same other =
 
 -- ---- a row that is cut
 
-cut_word : (i j cols n : ℕ) (cs ws : List ℕ) → length ws ≡ length cs → IsPartitionPoint (λ c. ltb c cols ≡ true) (λ c. ltb c cols ≡ false) cs n
-    → word_at (entries_along i (take n cs) (take n ws)) i j ≡ cond (ltb j cols) (word_at (entries_along i cs ws) i j) None
+cut_word : (i j cols n : ℕ) (cs ws : List ℕ) → length ws ≡ length cs
+    → IsPartitionPoint (λ c. ltb c cols ≡ true) (λ c. ltb c cols ≡ false) cs n
+    → word_at (entries_along i (take n cs) (take n ws)) i j ≡ cond (ltb j cols)
+    (word_at (entries_along i cs ws) i j) None
 cut_word i j cols n cs ws same point =
     let before = all_take (λ c. ltb c cols ≡ true) n cs point.0 in
     let behind = all_drop (λ c. ltb c cols ≡ false) n cs point.1 in
@@ -65,8 +70,10 @@ cut_word i j cols n cs ws same point =
     ]
 
 -- a row of a map that is cut to so many columns
-pub cut_row : (c : Content) (index rows cols n : ℕ) (cs ws : List ℕ) → index < rows → length ws ≡ length cs → AllPairs (λ a b. a < b) cs → IsPartitionPoint (λ c. ltb c cols ≡ true) (λ c. ltb c cols ≡ false) cs n
-    → ((j : ℕ) → word_at (entries_along index cs ws) index j ≡ c index j) → IsRowOf (cut_to rows cols c) index cols (take n cs) (take n ws)
+pub cut_row : (c : Content) (index rows cols n : ℕ) (cs ws : List ℕ) → index < rows → length ws ≡ length cs
+    → AllPairs (λ a b. a < b) cs → IsPartitionPoint (λ c. ltb c cols ≡ true) (λ c. ltb c cols ≡ false) cs n
+    → ((j : ℕ) → word_at (entries_along index cs ws) index j ≡ c index j)
+    → IsRowOf (cut_to rows cols c) index cols (take n cs) (take n ws)
 cut_row c index rows cols n cs ws in_rows same rises point words = record {
   lengths = omega (arith, length-take n ws, length-take n cs);
   rising = all_pairs_left (λ a b. a < b) (take n cs) (drop n cs) (rw (take-append-drop n cs) rises);
@@ -76,7 +83,8 @@ cut_row c index rows cols n cs ws in_rows same rises point words = record {
       cut_word index j cols n cs ws same point ∙ rw (words j, in_it) refl;
 }
 
-pub cut_empty : (rows cols : ℕ) (c : Content) (i : ℕ) → ((j : ℕ) → c i j ≡ None) → (j : ℕ) → cut_to rows cols c i j ≡ None
+pub cut_empty : (rows cols : ℕ) (c : Content) (i : ℕ) → ((j : ℕ) → c i j ≡ None) → (j : ℕ)
+    → cut_to rows cols c i j ≡ None
 cut_empty rows cols c i none j = elim (cases_Bool (ltb i rows && ltb j cols)) [
   | inl inside ↦ rw inside (none j)
   | inr outside ↦ rw outside refl
@@ -85,7 +93,8 @@ cut_empty rows cols c i none j = elim (cases_Bool (ltb i rows && ltb j cols)) [
 -- ---- words at places
 
 -- the words of two parts, of which the first lacks a column
-pub word_right : (i j : ℕ) (cs ws cs' ws' : List ℕ) → length ws ≡ length cs → All (λ col. j ≢ col) cs → word_at (entries_along i (cs ++ cs') (ws ++ ws')) i j ≡ word_at (entries_along i cs' ws') i j
+pub word_right : (i j : ℕ) (cs ws cs' ws' : List ℕ) → length ws ≡ length cs → All (λ col. j ≢ col) cs
+    → word_at (entries_along i (cs ++ cs') (ws ++ ws')) i j ≡ word_at (entries_along i cs' ws') i j
 word_right i j [] [] cs' ws' same other = refl
 word_right i j [] (w ∷ ws) cs' ws' same other = absurd (omega arith)
 word_right i j (c ∷ cs) [] cs' ws' same other = absurd (omega arith)
@@ -93,14 +102,16 @@ word_right i j (c ∷ cs) (w ∷ ws) cs' ws' same other =
     row_word i j c w (cs ++ cs') (ws ++ ws') ∙ rw (ne_eqb j c (All-head (λ col. j ≢ col) c cs other)) (word_right i j cs ws cs' ws' (omega arith) (All-tail (λ col. j ≢ col) c cs other))
 
 -- the same columns and words in another row
-pub same_words : (i k j : ℕ) (cs ws : List ℕ) → word_at (entries_along i cs ws) i j ≡ word_at (entries_along k cs ws) k j
+pub same_words : (i k j : ℕ) (cs ws : List ℕ)
+    → word_at (entries_along i cs ws) i j ≡ word_at (entries_along k cs ws) k j
 unfolding word_at
 same_words i k j [] ws = no_word i j ws ∙ sym (no_word k j ws)
 same_words i k j (c ∷ cs) [] = refl
 same_words i k j (c ∷ cs) (w ∷ ws) = row_word i j c w cs ws ∙ ap (λ o. cond (eqb j c) (Some w) o) (same_words i k j cs ws) ∙ sym (row_word k j c w cs ws)
 
 -- the word at a place
-pub found_word : (i at : ℕ) (cs ws : List ℕ) → length ws ≡ length cs → AllPairs (λ a b. a < b) cs → at < length cs → word_at (entries_along i cs ws) i (get_or cs at 0) ≡ Some (get_or ws at 0)
+pub found_word : (i at : ℕ) (cs ws : List ℕ) → length ws ≡ length cs → AllPairs (λ a b. a < b) cs → at < length cs
+    → word_at (entries_along i cs ws) i (get_or cs at 0) ≡ Some (get_or ws at 0)
 found_word i at cs ws same rises within =
     let es = entries_along i cs ws in
     let d = entry_at 0 0 0 in
@@ -108,5 +119,6 @@ found_word i at cs ws same rises within =
     let is : IsAt i (get_or cs at 0) (get_or es at d) = rw here (refl, refl) in
     sym (word_at-found i (get_or cs at 0) es at d (row_in_order i cs ws rises) (omega (arith, length_row i cs ws same)) is) ∙ ap (λ (e : Entry). Some e.word) here
 
-pub missing_word : (i j : ℕ) (cs ws : List ℕ) → ((k : ℕ) → k < length cs → get_or cs k 0 ≢ j) → word_at (entries_along i cs ws) i j ≡ None
+pub missing_word : (i j : ℕ) (cs ws : List ℕ) → ((k : ℕ) → k < length cs → get_or cs k 0 ≢ j)
+    → word_at (entries_along i cs ws) i j ≡ None
 missing_word i j cs ws other = absent i j cs ws (λ k d within same. other k within (sym (get_or_default cs k d 0 within) ∙ sym same))

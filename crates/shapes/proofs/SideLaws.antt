@@ -36,7 +36,8 @@ use Rattle.shapes.proofs.RowWords.{absent, no_word, same_words}
 -- ---- kept entries of a row
 
 -- entries of one row are its columns and words
-row_of_entries : (i : ℕ) (es : List Entry) → All (λ e. e.row ≡ i) es → entries_along i (map (λ e. e.col) es) (map (λ e. e.word) es) ≡ es
+row_of_entries : (i : ℕ) (es : List Entry) → All (λ e. e.row ≡ i) es
+    → entries_along i (map (λ e. e.col) es) (map (λ e. e.word) es) ≡ es
 row_of_entries i [] are = refl
 row_of_entries i (e ∷ es) are =
     let head : entry_at i e.col e.word ≡ e = ap (λ r. entry_at r e.col e.word) (sym (All-head (λ e. e.row ≡ i) e es are)) in
@@ -47,7 +48,8 @@ or_nothing true o none = refl
 or_nothing false o none = none
 
 -- the words of entries whose columns pass a test
-kept_word : (keep : ℕ → Bool) (es : List Entry) (i j : ℕ) → word_at (filter (λ e. keep e.col) es) i j ≡ cond (keep j) (word_at es i j) None
+kept_word : (keep : ℕ → Bool) (es : List Entry) (i j : ℕ)
+    → word_at (filter (λ e. keep e.col) es) i j ≡ cond (keep j) (word_at es i j) None
 kept_word keep [] i j = or_nothing (keep j) (word_at [] i j) (nothing [] i j refl)
 kept_word keep (e ∷ es) i j = elim (cases_Bool (keep e.col)) [
   | inl stays ↦ elim (cases_Bool (eqb i e.row && eqb j e.col)) [
@@ -66,25 +68,31 @@ kept_word keep (e ∷ es) i j = elim (cases_Bool (keep e.col)) [
 
 -- ---- entry by entry
 
-kept_step : (inside : Bool) (sorted : List ℕ) (k : ℕ) (es : List Entry) (d : Entry) (b : Bool) → k < length es → on_side inside (has_index sorted (get_or es k d).col) ≡ b
+kept_step : (inside : Bool) (sorted : List ℕ) (k : ℕ) (es : List Entry) (d : Entry) (b : Bool) → k < length es
+    → on_side inside (has_index sorted (get_or es k d).col) ≡ b
     → kept_first inside sorted (k + 1) es ≡ kept_first inside sorted k es ++ cond b (get_or es k d ∷ []) []
 kept_step inside sorted k es d b within is =
     let keep = λ (e : Entry). on_side inside (has_index sorted e.col) in
     ap (filter keep) (take_more es k d within) ∙ filter-append keep (take k es) (get_or es k d ∷ []) ∙ rw is refl
 
-kept_more : (inside : Bool) (sorted cs ws : List ℕ) (k : ℕ) (b : Bool) → length ws ≡ length cs → k < length cs → on_side inside (has_index sorted (get_or cs k 0)) ≡ b
-    → kept_first inside sorted (k + 1) (entries_along 0 cs ws) ≡ kept_first inside sorted k (entries_along 0 cs ws) ++ cond b (entry_at 0 (get_or cs k 0) (get_or ws k 0) ∷ []) []
+kept_more : (inside : Bool) (sorted cs ws : List ℕ) (k : ℕ) (b : Bool) → length ws ≡ length cs → k < length cs
+    → on_side inside (has_index sorted (get_or cs k 0)) ≡ b
+    → kept_first inside sorted (k + 1)
+    (entries_along 0 cs ws) ≡ kept_first inside sorted k (entries_along 0 cs ws) ++ cond b (entry_at 0 (get_or cs k 0) (get_or ws k 0) ∷ []) []
 kept_more inside sorted cs ws k b same within is =
     let es = entries_along 0 cs ws in
     let d = entry_at 0 0 0 in
     let at = row_at 0 cs ws k d same within in
     rw at at (kept_step inside sorted k es d b (omega (arith, length_row 0 cs ws same)) (rw at is))
 
-grown : (old now added more all : List ℕ) (x : ℕ) → now ≡ old ++ added → all ≡ now ++ x ∷ [] → more ≡ added ++ x ∷ [] → all ≡ old ++ more
+grown : (old now added more all : List ℕ) (x : ℕ) → now ≡ old ++ added → all ≡ now ++ x ∷ [] → more ≡ added ++ x ∷ []
+    → all ≡ old ++ more
 grown old now added more all x is all_is more_is = all_is ∙ rw (is, more_is) (append_assoc old added (x ∷ []))
 
-pub put_kept : (inside : Bool) (sorted cs ws : List ℕ) (k : ℕ) (old now new : FiberLists) → length ws ≡ length cs → k < length cs → on_side inside (has_index sorted (get_or cs k 0)) ≡ true → HasKept inside sorted cs ws k old now
-    → new.ends.items ≡ now.ends.items → new.inner.items ≡ now.inner.items ++ get_or cs k 0 ∷ [] → new.words.items ≡ now.words.items ++ get_or ws k 0 ∷ [] → HasKept inside sorted cs ws (k + 1) old new
+pub put_kept : (inside : Bool) (sorted cs ws : List ℕ) (k : ℕ) (old now new : FiberLists) → length ws ≡ length cs
+    → k < length cs → on_side inside (has_index sorted (get_or cs k 0)) ≡ true → HasKept inside sorted cs ws k old now
+    → new.ends.items ≡ now.ends.items → new.inner.items ≡ now.inner.items ++ get_or cs k 0 ∷ []
+    → new.words.items ≡ now.words.items ++ get_or ws k 0 ∷ [] → HasKept inside sorted cs ws (k + 1) old new
 put_kept inside sorted cs ws k old now new same within is here ends inner words =
     let kept = kept_first inside sorted k (entries_along 0 cs ws) in
     let one = entry_at 0 (get_or cs k 0) (get_or ws k 0) in
@@ -95,7 +103,9 @@ put_kept inside sorted cs ws k old now new same within is here ends inner words 
       words = grown old.words.items now.words.items (map (λ (e : Entry). e.word) kept) (map (λ (e : Entry). e.word) (kept_first inside sorted (k + 1) (entries_along 0 cs ws))) new.words.items (get_or ws k 0) here.words words (ap (map (λ (e : Entry). e.word)) more ∙ map-append (λ (e : Entry). e.word) kept (one ∷ []));
     }
 
-pub pass_kept : (inside : Bool) (sorted cs ws : List ℕ) (k : ℕ) (old now : FiberLists) → length ws ≡ length cs → k < length cs → on_side inside (has_index sorted (get_or cs k 0)) ≡ false → HasKept inside sorted cs ws k old now → HasKept inside sorted cs ws (k + 1) old now
+pub pass_kept : (inside : Bool) (sorted cs ws : List ℕ) (k : ℕ) (old now : FiberLists) → length ws ≡ length cs
+    → k < length cs → on_side inside (has_index sorted (get_or cs k 0)) ≡ false → HasKept inside sorted cs ws k old now
+    → HasKept inside sorted cs ws (k + 1) old now
 pass_kept inside sorted cs ws k old now same within is here =
     let more = kept_more inside sorted cs ws k false same within is ∙ append-nil (kept_first inside sorted k (entries_along 0 cs ws)) in
     record {
@@ -107,7 +117,8 @@ pass_kept inside sorted cs ws k old now same within is here =
 -- ---- rows
 
 -- a row of which listed columns are kept, or those that are not listed
-row_kept : (c : Content) (m n index : ℕ) (rows cols : Indices) (inside : Bool) (sorted cs ws : List ℕ) → IsRowOf c index n cs ws → is_some (place_in m rows index) ≡ true → HasSorted cols sorted
+row_kept : (c : Content) (m n index : ℕ) (rows cols : Indices) (inside : Bool) (sorted cs ws : List ℕ)
+    → IsRowOf c index n cs ws → is_some (place_in m rows index) ≡ true → HasSorted cols sorted
     → IsRowOf (one_side inside m n rows cols c) index n (map (λ e. e.col) (kept_first inside sorted (length cs) (entries_along 0 cs ws))) (map (λ e. e.word) (kept_first inside sorted (length cs) (entries_along 0 cs ws)))
 row_kept c m n index rows cols inside sorted cs ws here named has =
     let keep = λ (j : ℕ). on_side inside (has_index sorted j) in
@@ -127,12 +138,15 @@ row_kept c m n index rows cols inside sorted cs ws here named has =
           ∙ ap (λ o. cond (keep j) o None) (same_words 0 index j cs ws ∙ here.words j) ∙ ap (λ b. cond (on_side inside b) (c index j) None) (sym listed);
     }
 
-none_past : (c : Content) (index n j : ℕ) (cs ws : List ℕ) → IsRowOf c index n cs ws → ltb j n ≡ false → c index j ≡ None
+none_past : (c : Content) (index n j : ℕ) (cs ws : List ℕ) → IsRowOf c index n cs ws → ltb j n ≡ false
+    → c index j ≡ None
 none_past c index n j cs ws here past = sym (here.words j) ∙ absent index j cs ws (All-weaker (λ col. col < n) (λ col. j ≢ col) (λ col less same. absurd (grind (arith, nat_tests))) cs here.inside)
 
 -- a row that is kept as a whole, or not at all
-row_whole : (c : Content) (m n index : ℕ) (rows cols : Indices) (inside named : Bool) (cs ws : List ℕ) → IsRowOf c index n cs ws → ((j : ℕ) → j < n → is_listed m n rows cols index j ≡ named)
-    → IsRowOf (one_side inside m n rows cols c) index n (cond (on_side inside named) cs []) (cond (on_side inside named) ws [])
+row_whole : (c : Content) (m n index : ℕ) (rows cols : Indices) (inside named : Bool) (cs ws : List ℕ)
+    → IsRowOf c index n cs ws → ((j : ℕ) → j < n → is_listed m n rows cols index j ≡ named)
+    → IsRowOf (one_side inside m n rows cols c) index n (cond (on_side inside named) cs [])
+    (cond (on_side inside named) ws [])
 row_whole c m n index rows cols inside named cs ws here listed = elim (cases_Bool (on_side inside named)) [
   | inl stays ↦ rw stays (record {
     lengths = here.lengths;
@@ -154,7 +168,8 @@ row_whole c m n index rows cols inside named cs ws here listed = elim (cases_Boo
   })
 ]
 
-pub side_empty : (inside : Bool) (m n : ℕ) (rows cols : Indices) (c : Content) → StaysEmpty c (one_side inside m n rows cols c)
+pub side_empty : (inside : Bool) (m n : ℕ) (rows cols : Indices) (c : Content)
+    → StaysEmpty c (one_side inside m n rows cols c)
 side_empty inside m n rows cols c i none j = elim (cases_Bool (on_side inside (is_listed m n rows cols i j))) [
   | inl stays ↦ rw stays (none j)
   | inr goes ↦ rw goes refl
@@ -163,7 +178,8 @@ side_empty inside m n rows cols c i none j = elim (cases_Bool (on_side inside (i
 -- ---- both sides
 
 -- the word of one side or of the other
-pub two_sides : (listed : Bool) (old new : Option ℕ) → of_either (λ w. w) (λ w. w) (λ x y. y) (cond (on_side false listed) old None) (cond (on_side true listed) new None) ≡ cond listed new old
+pub two_sides : (listed : Bool) (old new : Option ℕ) → of_either (λ w. w) (λ w. w) (λ x y. y)
+    (cond (on_side false listed) old None) (cond (on_side true listed) new None) ≡ cond listed new old
 two_sides true old None = refl
 two_sides true old (Some w) = refl
 two_sides false None new = refl
@@ -171,7 +187,8 @@ two_sides false (Some w) new = refl
 
 -- ---- answers that may be refused
 
-pub ok_whole : (index : ℕ) (named : Named) (inside is_named : Bool) (cs ws : List ℕ) (old new : FiberLists) (r : Result (Unit {0}) NoMemory)
+pub ok_whole : (index : ℕ) (named : Named) (inside is_named : Bool) (cs ws : List ℕ) (old new : FiberLists)
+    (r : Result (Unit {0}) NoMemory)
     → ((rows cols : Indices) → IsNamed rows cols named → (m n : ℕ) → index < m → (j : ℕ) → j < n → is_listed m n rows cols index j ≡ is_named)
     → OnOk r (HasRow index (cond (on_side inside is_named) cs []) (cond (on_side inside is_named) ws []) old new)
     → OnOk r ((rows cols : Indices) (c : Content) (m n : ℕ) → IsNamed rows cols named → index < m → IsRowOf c index n cs ws → HasRowOf (one_side inside m n rows cols c) index n old new)
@@ -180,9 +197,13 @@ ok_whole index named inside is_named cs ws old new r listed put =
     ((rows cols : Indices) (c : Content) (m n : ℕ) → IsNamed rows cols named → index < m → IsRowOf c index n cs ws → HasRowOf (one_side inside m n rows cols c) index n old new) r
     (λ put rows cols c m n are less here. record { cs = cond (on_side inside is_named) cs []; ws = cond (on_side inside is_named) ws []; row = row_whole c m n index rows cols inside is_named cs ws here (listed rows cols are m n less); put = put }) put
 
-kept_closed : (index : ℕ) (rows cols : Indices) (inside : Bool) (sorted cs ws : List ℕ) (old now new : FiberLists) → ((m : ℕ) → index < m → is_some (place_in m rows index) ≡ true) → HasSorted cols sorted → HasKept inside sorted cs ws (length cs) old now
-    → new.inner.items ≡ now.inner.items → new.words.items ≡ now.words.items → new.ends.items ≡ closed now.ends.items index (length now.inner.items)
-    → (c : Content) (m n : ℕ) → index < m → IsRowOf c index n cs ws → HasRowOf (one_side inside m n rows cols c) index n old new
+kept_closed : (index : ℕ) (rows cols : Indices) (inside : Bool) (sorted cs ws : List ℕ) (old now new : FiberLists)
+    → ((m : ℕ) → index < m → is_some (place_in m rows index) ≡ true) → HasSorted cols sorted
+    → HasKept inside sorted cs ws (length cs) old now
+    → new.inner.items ≡ now.inner.items → new.words.items ≡ now.words.items
+    → new.ends.items ≡ closed now.ends.items index (length now.inner.items)
+    → (c : Content) (m n : ℕ) → index < m → IsRowOf c index n cs ws
+    → HasRowOf (one_side inside m n rows cols c) index n old new
 kept_closed index rows cols inside sorted cs ws old now new named has kept inner words ends c m n less here = record {
   cs = map (λ (e : Entry). e.col) (kept_first inside sorted (length cs) (entries_along 0 cs ws));
   ws = map (λ (e : Entry). e.word) (kept_first inside sorted (length cs) (entries_along 0 cs ws));
@@ -194,10 +215,13 @@ kept_closed index rows cols inside sorted cs ws old now new named has kept inner
   };
 }
 
-pub ok_kept : (index : ℕ) (named : Named) (inside : Bool) (sorted cs ws : List ℕ) (old now new : FiberLists) (r : Result (Unit {0}) NoMemory)
+pub ok_kept : (index : ℕ) (named : Named) (inside : Bool) (sorted cs ws : List ℕ) (old now new : FiberLists)
+    (r : Result (Unit {0}) NoMemory)
     → ((rows cols : Indices) → IsNamed rows cols named → (m : ℕ) → index < m → is_some (place_in m rows index) ≡ true)
-    → ((rows cols : Indices) → IsNamed rows cols named → HasSorted cols sorted) → HasKept inside sorted cs ws (length cs) old now
-    → new.inner.items ≡ now.inner.items → new.words.items ≡ now.words.items → OnOk r (new.ends.items ≡ closed now.ends.items index (length now.inner.items))
+    → ((rows cols : Indices) → IsNamed rows cols named → HasSorted cols sorted)
+    → HasKept inside sorted cs ws (length cs) old now
+    → new.inner.items ≡ now.inner.items → new.words.items ≡ now.words.items
+    → OnOk r (new.ends.items ≡ closed now.ends.items index (length now.inner.items))
     → OnOk r ((rows cols : Indices) (c : Content) (m n : ℕ) → IsNamed rows cols named → index < m → IsRowOf c index n cs ws → HasRowOf (one_side inside m n rows cols c) index n old new)
 ok_kept index named inside sorted cs ws old now new r is_named has kept inner words ends =
     ok_then (new.ends.items ≡ closed now.ends.items index (length now.inner.items))
@@ -205,15 +229,19 @@ ok_kept index named inside sorted cs ws old now new r is_named has kept inner wo
     (λ ends rows cols c m n are. kept_closed index rows cols inside sorted cs ws old now new (is_named rows cols are) (has rows cols are) kept inner words ends c m n) ends
 
 -- whether a position is listed, where all columns are, or where its row is not
-pub listed_all : (m n index j : ℕ) (rows cols : Indices) (named : Bool) → cols ≡ Every → named ≡ is_some (place_in m rows index) → j < n → is_listed m n rows cols index j ≡ named
+pub listed_all : (m n index j : ℕ) (rows cols : Indices) (named : Bool) → cols ≡ Every
+    → named ≡ is_some (place_in m rows index) → j < n → is_listed m n rows cols index j ≡ named
 listed_all m n index j rows cols named all is less = rw (every_has n j cols all less) (and_true (is_some (place_in m rows index)) ∙ sym is)
 
-pub listed_none : (m n index j : ℕ) (rows cols : Indices) → is_some (place_in m rows index) ≡ false → is_listed m n rows cols index j ≡ false
+pub listed_none : (m n index j : ℕ) (rows cols : Indices) → is_some (place_in m rows index) ≡ false
+    → is_listed m n rows cols index j ≡ false
 listed_none m n index j rows cols none = rw none refl
 
 -- ---- searches
 
-pub found_index : (xs : List ℕ) (x : ℕ) (r : Result ℕ ℕ) → MatchResult r (λ i. (i < length xs) × (get_or xs i 0 ≡ x)) (λ i. (i ≤ length xs) × ((k : ℕ) → k < i → get_or xs k 0 < x) × ((k : ℕ) → i ≤ k → k < length xs → x < get_or xs k 0)) → is_ok r ≡ has_index xs x
+pub found_index : (xs : List ℕ) (x : ℕ) (r : Result ℕ ℕ)
+    → MatchResult r (λ i. (i < length xs) × (get_or xs i 0 ≡ x))
+    (λ i. (i ≤ length xs) × ((k : ℕ) → k < i → get_or xs k 0 < x) × ((k : ℕ) → i ≤ k → k < length xs → x < get_or xs k 0)) → is_ok r ≡ has_index xs x
 found_index xs x (Ok i) h = sym (ap (has_index xs) (sym h.1) ∙ has_at xs i h.0)
 found_index xs x (Err i) h = sym (has_none xs x (λ k d within same. elim (cases_lt k i) [
   | inl before ↦ absurd (let less = h.1 k before in let at = sym (get_or_default xs k d 0 within) ∙ same in omega arith)
@@ -227,7 +255,8 @@ same_if true x y is = refl
 same_if false x y is = is
 
 -- where all positions are listed, what is put is there
-pub all_put : (first past m n i j : ℕ) (es : List Entry) (c : Content) → past ≤ m → AreIn first past n es → IsWithin m n c → i < past → word_at es i j ≡ cond (is_listed m n Every Every i j) (word_at es i j) (c i j)
+pub all_put : (first past m n i j : ℕ) (es : List Entry) (c : Content) → past ≤ m → AreIn first past n es
+    → IsWithin m n c → i < past → word_at es i j ≡ cond (is_listed m n Every Every i j) (word_at es i j) (c i j)
 all_put first past m n i j es c fits inside within less = elim (cases_Bool (ltb j n)) [
   | inl in_it ↦ rw (every_has m i Every refl (omega arith), every_has n j Every refl (grind (arith, nat_tests))) refl
   | inr past_it ↦

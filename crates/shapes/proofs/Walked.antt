@@ -24,7 +24,8 @@ use Rattle.store.proofs.RowWords.{columns_rise, no_column, word_at-row_entries}
 -- ---- words of rows
 
 -- a map has nothing in columns behind its shape
-pub only_inside : (rows cols : ℕ) (c : Content) (i j : ℕ) → IsWithin rows cols c → cond (ltb j cols) (c i j) None ≡ c i j
+pub only_inside : (rows cols : ℕ) (c : Content) (i j : ℕ) → IsWithin rows cols c
+    → cond (ltb j cols) (c i j) None ≡ c i j
 only_inside rows cols c i j within = elim (cases_Bool (ltb j cols)) [
   | inl inside ↦ rw inside refl
   | inr outside ↦ rw outside (sym (within i j (no_column (ltb i rows) (ltb j cols) outside)))
@@ -32,7 +33,8 @@ only_inside rows cols c i j within = elim (cases_Bool (ltb j cols)) [
 
 -- ---- a walk
 
-pub walk_from : (c : Content) (rows cols first past : ℕ) (rest : List Entry) → IsWithin rows cols c → rest ≡ entries_between first past cols c → IsWalk c first past cols rest
+pub walk_from : (c : Content) (rows cols first past : ℕ) (rest : List Entry) → IsWithin rows cols c
+    → rest ≡ entries_between first past cols c → IsWalk c first past cols rest
 walk_from c rows cols first past rest within is = record {
   inside = subst (AreIn first past cols) (sym is) (entries_between-inside first past cols c);
   words = λ i j low high.
@@ -52,13 +54,15 @@ pub record IsStep (c : Content) (next past cols index : ℕ) (cs ws : List ℕ) 
   pub left : IsWalk c (index + 1) past cols others
 
 -- what holds of the columns of a row's entries
-cols_have : (P : ℕ → Type 0) (index : ℕ) (cs ws : List ℕ) → length ws ≡ length cs → All (λ e. P e.col) (entries_along index cs ws) → All P cs
+cols_have : (P : ℕ → Type 0) (index : ℕ) (cs ws : List ℕ) → length ws ≡ length cs
+    → All (λ e. P e.col) (entries_along index cs ws) → All P cs
 cols_have P index cs ws lengths h k d within =
     let at = row_at index cs ws k (entry_at 0 0 0) lengths within in
     let here : P (get_or (entries_along index cs ws) k (entry_at 0 0 0)).col = h k (entry_at 0 0 0) (omega (arith, length_row index cs ws lengths)) in
     rw (get_or_default cs k d 0 within) (subst (λ (e : Entry). P e.col) at here)
 
-pub walk_step : (c : Content) (next past cols index : ℕ) (cs ws : List ℕ) (rest others : List Entry) → IsWalk c next past cols rest → IsFirstRow index cs ws rest others → IsStep c next past cols index cs ws others
+pub walk_step : (c : Content) (next past cols index : ℕ) (cs ws : List ℕ) (rest others : List Entry)
+    → IsWalk c next past cols rest → IsFirstRow index cs ws rest others → IsStep c next past cols index cs ws others
 walk_step c next past cols index cs ws rest others here starts =
     let row = entries_along index cs ws in
     let all : AreIn next past cols (row ++ others) = subst (AreIn next past cols) starts.whole here.inside in
@@ -93,14 +97,16 @@ walk_step c next past cols index cs ws rest others here starts =
     }
 
 -- where nothing is left of a walk, the map has nothing in the rows behind it
-pub walk_end : (c : Content) (next past cols : ℕ) (rest : List Entry) → IsWalk c next past cols rest → rest ≡ [] → (i j : ℕ) → next ≤ i → i < past → c i j ≡ None
+pub walk_end : (c : Content) (next past cols : ℕ) (rest : List Entry) → IsWalk c next past cols rest → rest ≡ []
+    → (i j : ℕ) → next ≤ i → i < past → c i j ≡ None
 unfolding word_at
 walk_end c next past cols rest here none i j low high = sym (here.words i j low high) ∙ ap (λ es. word_at es i j) none
 
 -- ---- one row
 
 -- the columns and words of a map's row
-pub row_is : (rows cols : ℕ) (c : Content) (i : ℕ) (cs ws : List ℕ) → IsWithin rows cols c → length ws ≡ length cs → entries_along i cs ws ≡ row_entries cols c i → IsRowOf c i cols cs ws
+pub row_is : (rows cols : ℕ) (c : Content) (i : ℕ) (cs ws : List ℕ) → IsWithin rows cols c → length ws ≡ length cs
+    → entries_along i cs ws ≡ row_entries cols c i → IsRowOf c i cols cs ws
 row_is rows cols c i cs ws within lengths is = record {
   lengths = lengths;
   rising = cols_rise i cs ws lengths (subst InOrder (sym is) (columns_rise c i cols 0));
@@ -111,7 +117,8 @@ row_is rows cols c i cs ws within lengths is = record {
 -- ---- all rows
 
 -- the words of all entries of a map
-pub all_words : (rows cols : ℕ) (c : Content) (i j : ℕ) → IsWithin rows cols c → word_at (entries_between 0 rows cols c) i j ≡ c i j
+pub all_words : (rows cols : ℕ) (c : Content) (i j : ℕ) → IsWithin rows cols c
+    → word_at (entries_between 0 rows cols c) i j ≡ c i j
 all_words rows cols c i j within = elim (cases_lt i rows) [
   | inl inside ↦ (walk_from c rows cols 0 rows (entries_between 0 rows cols c) within refl).words i j (omega arith) inside
   | inr outside ↦
@@ -126,7 +133,8 @@ pub record IsInsideRow (rows cols index : ℕ) (cs : List ℕ) (others : List En
   pub inside : All (λ col. col < cols) cs
   pub left : IsInside rows cols others
 
-pub first_inside : (rows cols index : ℕ) (cs ws : List ℕ) (rest others : List Entry) → IsInside rows cols rest → IsFirstRow index cs ws rest others → IsInsideRow rows cols index cs others
+pub first_inside : (rows cols index : ℕ) (cs ws : List ℕ) (rest others : List Entry) → IsInside rows cols rest
+    → IsFirstRow index cs ws rest others → IsInsideRow rows cols index cs others
 first_inside rows cols index cs ws rest others inside starts =
     let row = entries_along index cs ws in
     let P : Entry → Type 0 = λ e. (e.row < rows) × (e.col < cols) in

@@ -13,12 +13,16 @@ use Rattle.spgemm.specs.declared.term.Term.{Term}
 use Rattle.spgemm.specs.Terms.{AreFirstTerms, terms_of_row}
 
 -- an operator computes by its kind and its domain alone
-pub same_terms : (r : Result ℕ NoMemory) (own semiring : Semiring) (row : List Entry) (b : Stored) (terms : List Term) → IfOk r (AreFirstTerms own.multiply row b terms) → own.multiply.kind ≡ semiring.multiply.kind → own.multiply.domain ≡ semiring.multiply.domain
+pub same_terms : (r : Result ℕ NoMemory) (own semiring : Semiring) (row : List Entry) (b : Stored) (terms : List Term)
+    → IfOk r (AreFirstTerms own.multiply row b terms) → own.multiply.kind ≡ semiring.multiply.kind
+    → own.multiply.domain ≡ semiring.multiply.domain
     → IfOk r (AreFirstTerms semiring.multiply row b terms)
 same_terms (Err e) own semiring row b terms here kind domain = tt
 same_terms (Ok done) own semiring row b terms here kind domain = record { are_those = here.are_those ∙ rw (kind, domain) refl }
 
-pub same_runs : (r : Result (Unit {0}) NoMemory) (own semiring : Semiring) (terms : List Term) (old new : FiberLists) → OnOk r (HasSums own.add.op terms old new) → own.add.op.kind ≡ semiring.add.op.kind → own.add.op.domain ≡ semiring.add.op.domain
+pub same_runs : (r : Result (Unit {0}) NoMemory) (own semiring : Semiring) (terms : List Term) (old new : FiberLists)
+    → OnOk r (HasSums own.add.op terms old new) → own.add.op.kind ≡ semiring.add.op.kind
+    → own.add.op.domain ≡ semiring.add.op.domain
     → OnOk r (HasSums semiring.add.op terms old new)
 same_runs (Err e) own semiring terms old new here kind domain = tt
 same_runs (Ok u) own semiring terms old new here kind domain = record {
@@ -33,26 +37,35 @@ same_runs (Ok u) own semiring terms old new here kind domain = record {
   words = here.words;
 }
 
-pub same_term_sums : (own semiring : Semiring) (terms : List Term) (bits words : List ℕ) → AreColumnSums own.add.op terms bits words → own.add.op.kind ≡ semiring.add.op.kind → own.add.op.domain ≡ semiring.add.op.domain
+pub same_term_sums : (own semiring : Semiring) (terms : List Term) (bits words : List ℕ)
+    → AreColumnSums own.add.op terms bits words → own.add.op.kind ≡ semiring.add.op.kind
+    → own.add.op.domain ≡ semiring.add.op.domain
     → AreColumnSums semiring.add.op terms bits words
 same_term_sums own semiring terms bits words here kind domain = record { sums_are = λ col within. here.sums_are col within ∙ rw (kind, domain) refl }
 
-pub same_sums : (own semiring : Semiring) (row : List Entry) (b : Stored) (bits words : List ℕ) → AreColumnSums own.add.op (terms_of_row own.multiply row b) bits words
-    → own.add.op.kind ≡ semiring.add.op.kind → own.add.op.domain ≡ semiring.add.op.domain → own.multiply.kind ≡ semiring.multiply.kind → own.multiply.domain ≡ semiring.multiply.domain
+pub same_sums : (own semiring : Semiring) (row : List Entry) (b : Stored) (bits words : List ℕ)
+    → AreColumnSums own.add.op (terms_of_row own.multiply row b) bits words
+    → own.add.op.kind ≡ semiring.add.op.kind → own.add.op.domain ≡ semiring.add.op.domain
+    → own.multiply.kind ≡ semiring.multiply.kind → own.multiply.domain ≡ semiring.multiply.domain
     → AreColumnSums semiring.add.op (terms_of_row semiring.multiply row b) bits words
 same_sums own semiring row b bits words here kind domain multiply_kind multiply_domain =
     let terms : terms_of_row own.multiply row b ≡ terms_of_row semiring.multiply row b = rw (multiply_kind, multiply_domain) refl in
     record { sums_are = λ col within. here.sums_are col within ∙ rw (kind, domain, terms) refl }
 
-pub same_slot_sums : (own semiring : Semiring) (slots : List ℕ) (row : List Entry) (b : Stored) (sums : List (Option ℕ)) → AreSlotSums own.add.op slots (terms_of_row own.multiply row b) sums
-    → own.add.op.kind ≡ semiring.add.op.kind → own.add.op.domain ≡ semiring.add.op.domain → own.multiply.kind ≡ semiring.multiply.kind → own.multiply.domain ≡ semiring.multiply.domain
+pub same_slot_sums : (own semiring : Semiring) (slots : List ℕ) (row : List Entry) (b : Stored)
+    (sums : List (Option ℕ)) → AreSlotSums own.add.op slots (terms_of_row own.multiply row b) sums
+    → own.add.op.kind ≡ semiring.add.op.kind → own.add.op.domain ≡ semiring.add.op.domain
+    → own.multiply.kind ≡ semiring.multiply.kind → own.multiply.domain ≡ semiring.multiply.domain
     → AreSlotSums semiring.add.op slots (terms_of_row semiring.multiply row b) sums
 same_slot_sums own semiring slots row b sums here kind domain multiply_kind multiply_domain =
     let terms : terms_of_row own.multiply row b ≡ terms_of_row semiring.multiply row b = rw (multiply_kind, multiply_domain) refl in
     record { lengths = here.lengths; sums_are = λ at within. here.sums_are at within ∙ rw (kind, domain, terms) refl }
 
-pub same_marked_sums : (own semiring : Semiring) (row : List Entry) (b : Stored) (marks : List Bool) (words : List ℕ) → AreMarkedSums own.add (terms_of_row own.multiply row b) marks words
-    → own.add.kind ≡ semiring.add.kind → own.add.op.kind ≡ semiring.add.op.kind → own.add.op.domain ≡ semiring.add.op.domain → own.multiply.kind ≡ semiring.multiply.kind → own.multiply.domain ≡ semiring.multiply.domain
+pub same_marked_sums : (own semiring : Semiring) (row : List Entry) (b : Stored) (marks : List Bool) (words : List ℕ)
+    → AreMarkedSums own.add (terms_of_row own.multiply row b) marks words
+    → own.add.kind ≡ semiring.add.kind → own.add.op.kind ≡ semiring.add.op.kind
+    → own.add.op.domain ≡ semiring.add.op.domain → own.multiply.kind ≡ semiring.multiply.kind
+    → own.multiply.domain ≡ semiring.multiply.domain
     → AreMarkedSums semiring.add (terms_of_row semiring.multiply row b) marks words
 same_marked_sums own semiring row b marks words here name kind domain multiply_kind multiply_domain =
     let terms : terms_of_row own.multiply row b ≡ terms_of_row semiring.multiply row b = rw (multiply_kind, multiply_domain) refl in
@@ -61,8 +74,10 @@ same_marked_sums own semiring row b marks words here name kind domain multiply_k
       others_are = λ col within none. here.others_are col within none ∙ rw (name, domain) refl;
     }
 
-pub same_column : (r : Result Block NoMemory) (own semiring : Semiring) (keeps : ℕ → Bool) (first past : ℕ) (a u : Stored) → IfOk r (IsColumnBlock own keeps first past a u)
-    → own.add.kind ≡ semiring.add.kind → own.multiply.kind ≡ semiring.multiply.kind → own.multiply.domain ≡ semiring.multiply.domain → IfOk r (IsColumnBlock semiring keeps first past a u)
+pub same_column : (r : Result Block NoMemory) (own semiring : Semiring) (keeps : ℕ → Bool) (first past : ℕ)
+    (a u : Stored) → IfOk r (IsColumnBlock own keeps first past a u)
+    → own.add.kind ≡ semiring.add.kind → own.multiply.kind ≡ semiring.multiply.kind
+    → own.multiply.domain ≡ semiring.multiply.domain → IfOk r (IsColumnBlock semiring keeps first past a u)
 same_column (Err e) own semiring keeps first past a u here name kind domain = tt
 same_column (Ok block) own semiring keeps first past a u here name kind domain = record {
   first_is = here.first_is;

@@ -12,7 +12,8 @@ use Rattle.spgemm.specs.Dense.{has_bit}
 abbrev with_bit : ℕ → ℕ → ℕ
 with_bit n i = bit_or n (1 * 2 ^ i % 18446744073709551616)
 
-pub bit_set : (xs : List ℕ) (at k : ℕ) → at < 64 * length xs → has_bit (set xs (at / 64) (with_bit (get_or xs (at / 64) 0) (at % 64))) k ≡ (eqb k at || has_bit xs k)
+pub bit_set : (xs : List ℕ) (at k : ℕ) → at < 64 * length xs
+    → has_bit (set xs (at / 64) (with_bit (get_or xs (at / 64) 0) (at % 64))) k ≡ (eqb k at || has_bit xs k)
 bit_set xs at k within =
     let old = get_or xs (at / 64) 0 in
     let new = with_bit old (at % 64) in
@@ -39,11 +40,13 @@ bit_set xs at k within =
 
 -- ---- a bit that is a mark
 
-pub mark_here : (word k : ℕ) (mark : Bool) → k < 64 → bit_at word k ≡ 0 → eqb (bit_at (bit_or word (bool_byte mark * 2 ^ k % 18446744073709551616)) k) 1 ≡ mark
+pub mark_here : (word k : ℕ) (mark : Bool) → k < 64 → bit_at word k ≡ 0
+    → eqb (bit_at (bit_or word (bool_byte mark * 2 ^ k % 18446744073709551616)) k) 1 ≡ mark
 mark_here word k true small none = rw (bit_at_set_same w64 word k small) refl
 mark_here word k false small none = let nothing : 0 * 2 ^ k % 18446744073709551616 ≡ 0 = omega arith in rw (nothing, or_zero_r word, none) refl
 
-pub mark_away : (word k at : ℕ) (mark : Bool) → k < 64 → at ≢ k → bit_at (bit_or word (bool_byte mark * 2 ^ k % 18446744073709551616)) at ≡ bit_at word at
+pub mark_away : (word k at : ℕ) (mark : Bool) → k < 64 → at ≢ k
+    → bit_at (bit_or word (bool_byte mark * 2 ^ k % 18446744073709551616)) at ≡ bit_at word at
 mark_away word k at true small other = bit_at_set_other w64 word k small at other
 mark_away word k at false small other = let nothing : 0 * 2 ^ k % 18446744073709551616 ≡ 0 = omega arith in rw (nothing, or_zero_r word) refl
 

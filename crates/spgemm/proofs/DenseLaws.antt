@@ -28,7 +28,8 @@ use Rattle.spgemm.proofs.SlotSums.{more_terms}
 
 -- ---- a product more
 
-pub product_more : (op mul : BinaryOp) (terms : List Term) (word : ℕ) (row : List Entry) (k : ℕ) (e : Entry) (bits words : List ℕ) → get_or row k e ≡ e → k < length row
+pub product_more : (op mul : BinaryOp) (terms : List Term) (word : ℕ) (row : List Entry) (k : ℕ) (e : Entry)
+    (bits words : List ℕ) → get_or row k e ≡ e → k < length row
     → AreColumnSums op ((terms ++ times_row mul word (take k row)) ++ term_at e.col (apply mul word e.word) ∷ []) bits words → AreColumnSums op (terms ++ times_row mul word (take (k + 1) row)) bits words
 product_more op mul terms word row k e bits words this within here =
     let more : (terms ++ times_row mul word (take k row)) ++ term_at e.col (apply mul word e.word) ∷ [] ≡ terms ++ times_row mul word (take (k + 1) row) = rw this at (more_terms mul terms word row k e within) in
@@ -41,7 +42,8 @@ clear_sums op bits words clear = record {
 }
 
 -- what the entries of a row say of their columns
-pub along_cols : (P : ℕ → Type 0) (index : ℕ) (cols words : List ℕ) → length words ≡ length cols → All (λ e. P e.col) (entries_along index cols words) → All P cols
+pub along_cols : (P : ℕ → Type 0) (index : ℕ) (cols words : List ℕ) → length words ≡ length cols
+    → All (λ e. P e.col) (entries_along index cols words) → All P cols
 along_cols P index [] words same h = All-nil P
 along_cols P index (c ∷ cols) [] same h = absurd (omega arith)
 along_cols P index (c ∷ cols) (w ∷ words) same h =
@@ -49,14 +51,17 @@ along_cols P index (c ∷ cols) (w ∷ words) same h =
     (along_cols P index cols words (omega arith) (All-tail (λ e. P e.col) (entry_at index c w) (entries_along index cols words) h))
 
 -- the columns of a row of B are below its width
-pub cols_below : (b : Stored) (i : ℕ) (cols words : List ℕ) (width : ℕ) → length words ≡ length cols → entries_along i cols words ≡ row_entries b.cols (content_of b) i → b.cols ≤ width → All (λ col. col < width) cols
+pub cols_below : (b : Stored) (i : ℕ) (cols words : List ℕ) (width : ℕ) → length words ≡ length cols
+    → entries_along i cols words ≡ row_entries b.cols (content_of b) i → b.cols ≤ width → All (λ col. col < width) cols
 cols_below b i cols words width same is fits =
     along_cols (λ col. col < width) i cols words same (subst (All (λ e. e.col < width)) (sym is)
     (All-weaker (λ e. (e.row ≡ i) × (e.col < b.cols)) (λ e. e.col < width) (λ e p. let low = p.1 in omega arith) (row_entries b.cols (content_of b) i) (row_entries-inside b.cols (content_of b) i)))
 
 -- ---- what is found place by place
 
-found_more : (f : ℕ → Option ℕ) (first : ℕ) (rest others : List Term) → cons_option (option_map (term_at first) (f first)) (rest ++ others) ≡ cons_option (option_map (term_at first) (f first)) rest ++ others
+found_more : (f : ℕ → Option ℕ) (first : ℕ) (rest others : List Term)
+    → cons_option (option_map (term_at first) (f first))
+    (rest ++ others) ≡ cons_option (option_map (term_at first) (f first)) rest ++ others
 found_more f first rest others = elim (f first) as (λ o. cons_option (option_map (term_at first) o) (rest ++ others) ≡ cons_option (option_map (term_at first) o) rest ++ others) [
   | None ↦ refl
   | Some w ↦ refl
@@ -74,12 +79,14 @@ pub found_zero : (f : ℕ → Option ℕ) (first : ℕ) → found f first 0 ≡ 
 unfolding count_from
 found_zero f first = refl
 
-pub found_none : (f : ℕ → Option ℕ) (first n : ℕ) → ((at : ℕ) → first ≤ at → at < first + n → f at ≡ None) → found f first n ≡ []
+pub found_none : (f : ℕ → Option ℕ) (first n : ℕ) → ((at : ℕ) → first ≤ at → at < first + n → f at ≡ None)
+    → found f first n ≡ []
 unfolding count_from
 found_none f first zero none = refl
 found_none f first (suc n) none = rw (none first (omega arith) (omega arith)) (found_none f (first + 1) n (λ at low high. none at (omega arith) (omega arith)))
 
-pub found_agree : (f g : ℕ → Option ℕ) (first n : ℕ) → ((at : ℕ) → first ≤ at → at < first + n → f at ≡ g at) → found f first n ≡ found g first n
+pub found_agree : (f g : ℕ → Option ℕ) (first n : ℕ) → ((at : ℕ) → first ≤ at → at < first + n → f at ≡ g at)
+    → found f first n ≡ found g first n
 unfolding count_from
 found_agree f g first zero same = refl
 found_agree f g first (suc n) same =
@@ -89,7 +96,8 @@ found_one : (f : ℕ → Option ℕ) (at word : ℕ) → f at ≡ Some word → 
 unfolding count_from
 found_one f at word is = rw is refl
 
-found_up_to : (f : ℕ → Option ℕ) (base p q word : ℕ) → p ≤ q → ((at : ℕ) → base + p ≤ at → at < base + q → f at ≡ None) → f (base + q) ≡ Some word → found f base (q + 1) ≡ found f base p ++ term_at (base + q) word ∷ []
+found_up_to : (f : ℕ → Option ℕ) (base p q word : ℕ) → p ≤ q → ((at : ℕ) → base + p ≤ at → at < base + q → f at ≡ None)
+    → f (base + q) ≡ Some word → found f base (q + 1) ≡ found f base p ++ term_at (base + q) word ∷ []
 found_up_to f base p q word le none is =
     let d = q - p in
     let whole : q + 1 ≡ p + (d + 1) = omega arith in
@@ -112,7 +120,8 @@ all_left bits = record { p_le = omega arith; low = λ i less. absurd (omega arit
 no_word : (bits base : ℕ) (words : List ℕ) (at : ℕ) → bit_at bits (at - base) ≡ 0 → word_by bits base words at ≡ None
 no_word bits base words at none = rw none refl
 
-a_word : (bits base : ℕ) (words : List ℕ) (at : ℕ) → bit_at bits (at - base) ≡ 1 → word_by bits base words at ≡ Some (get_or words at 0)
+a_word : (bits base : ℕ) (words : List ℕ) (at : ℕ) → bit_at bits (at - base) ≡ 1
+    → word_by bits base words at ≡ Some (get_or words at 0)
 a_word bits base words at there = rw there refl
 
 -- the lowest bit that is left is that of the next word
@@ -145,7 +154,8 @@ next_word bits left p base words here some fits =
     )
 
 -- where no bit is left, all words were found
-pub all_found : (bits p base : ℕ) (words : List ℕ) → AreLeft bits 0 p → found (word_by bits base words) base 64 ≡ found (word_by bits base words) base p
+pub all_found : (bits p base : ℕ) (words : List ℕ) → AreLeft bits 0 p
+    → found (word_by bits base words) base 64 ≡ found (word_by bits base words) base p
 all_found bits p base words here =
     let f = word_by bits base words in
     let le = here.p_le in
@@ -162,11 +172,14 @@ zero_word : (bits words : List ℕ) (col : ℕ) → get_or bits (col / 64) 0 ≡
 zero_word bits words col zero_is = let none : has_bit bits col ≡ false = rw (zero_is, bit_at-zero (col % 64)) refl in rw none refl
 
 -- nothing is found before the first word that has a bit
-pub none_before : (bits words : List ℕ) (start : ℕ) → ((at : ℕ) → at < start → get_or bits at 0 ≡ 0) → found (word_in bits words) 0 (64 * start) ≡ []
+pub none_before : (bits words : List ℕ) (start : ℕ) → ((at : ℕ) → at < start → get_or bits at 0 ≡ 0)
+    → found (word_in bits words) 0 (64 * start) ≡ []
 none_before bits words start clear = found_none (word_in bits words) 0 (64 * start) (λ col low high. zero_word bits words col (clear (col / 64) (omega arith)))
 
 -- and nothing behind the last one
-pub all_before : (bits words : List ℕ) (end : ℕ) → HaveRoom bits words → end ≤ length bits → ((at : ℕ) → end ≤ at → get_or bits at 0 ≡ 0) → found (word_in bits words) 0 (length words) ≡ found (word_in bits words) 0 (64 * end)
+pub all_before : (bits words : List ℕ) (end : ℕ) → HaveRoom bits words → end ≤ length bits
+    → ((at : ℕ) → end ≤ at → get_or bits at 0 ≡ 0)
+    → found (word_in bits words) 0 (length words) ≡ found (word_in bits words) 0 (64 * end)
 all_before bits words end room le clear =
     let f = word_in bits words in
     let rest = length words - 64 * end in
@@ -177,7 +190,8 @@ all_before bits words end room le clear =
 -- ---- all places
 
 -- the words of 64 places are those there
-pub found_here : (bits words : List ℕ) (at : ℕ) → found (word_by (get_or bits at 0) (64 * at) words) (64 * at) 64 ≡ found (word_in bits words) (64 * at) 64
+pub found_here : (bits words : List ℕ) (at : ℕ) → found (word_by (get_or bits at 0) (64 * at) words)
+    (64 * at) 64 ≡ found (word_in bits words) (64 * at) 64
 found_here bits words at =
     found_agree (word_by (get_or bits at 0) (64 * at) words) (word_in bits words) (64 * at) 64
     (λ k low high.
@@ -185,7 +199,8 @@ found_here bits words at =
     let place : k % 64 ≡ k - 64 * at = omega arith in
     rw (word, place) refl)
 
-pub found_next : (bits words : List ℕ) (at : ℕ) → found (word_in bits words) 0 (64 * (at + 1)) ≡ found (word_in bits words) 0 (64 * at) ++ found (word_by (get_or bits at 0) (64 * at) words) (64 * at) 64
+pub found_next : (bits words : List ℕ) (at : ℕ)
+    → found (word_in bits words) 0 (64 * (at + 1)) ≡ found (word_in bits words) 0 (64 * at) ++ found (word_by (get_or bits at 0) (64 * at) words) (64 * at) 64
 found_next bits words at =
     let whole : 64 * (at + 1) ≡ 64 * at + 64 = omega arith in
     let from : 0 + 64 * at ≡ 64 * at = omega arith in
@@ -195,8 +210,10 @@ found_next bits words at =
 -- ---- the row
 
 -- the sums at all columns are the row of the sums of the terms
-pub dense_row : (op : BinaryOp) (index : ℕ) (terms : List Term) (bits words : List ℕ) → All (λ t. t.col < length words) terms → AreColumnSums op terms bits words
-    → IsSumRow op index terms (map (λ s. s.col) (found (word_in bits words) 0 (length words))) (map (λ s. s.word) (found (word_in bits words) 0 (length words)))
+pub dense_row : (op : BinaryOp) (index : ℕ) (terms : List Term) (bits words : List ℕ)
+    → All (λ t. t.col < length words) terms → AreColumnSums op terms bits words
+    → IsSumRow op index terms (map (λ s. s.col) (found (word_in bits words) 0 (length words)))
+    (map (λ s. s.word) (found (word_in bits words) 0 (length words)))
 dense_row op index terms bits words inside here =
     let width = length words in
     let keeps : ℕ → Bool = λ col. ltb col width in
@@ -206,8 +223,11 @@ dense_row op index terms bits words inside here =
     rw same (subst (λ ts. IsSumRow op index ts (map (λ s. s.col) (found f 0 width)) (map (λ s. s.word) (found f 0 width))) kept (found_row op index keeps (below width) terms (all_slots width)))
 
 -- the sums that were found, behind the rows
-pub dense_open : (op : BinaryOp) (index : ℕ) (terms : List Term) (bits words : List ℕ) (old new : FiberLists) → All (λ t. t.col < length words) terms → AreColumnSums op terms bits words
-    → new.ends ≡ old.ends → new.inner.items ≡ old.inner.items ++ map (λ s. s.col) (found (word_in bits words) 0 (length words)) → new.words.items ≡ old.words.items ++ map (λ s. s.word) (found (word_in bits words) 0 (length words))
+pub dense_open : (op : BinaryOp) (index : ℕ) (terms : List Term) (bits words : List ℕ) (old new : FiberLists)
+    → All (λ t. t.col < length words) terms → AreColumnSums op terms bits words
+    → new.ends ≡ old.ends → new.inner.items ≡ old.inner.items ++ map (λ s. s.col)
+    (found (word_in bits words) 0 (length words)) → new.words.items ≡ old.words.items ++ map (λ s. s.word)
+    (found (word_in bits words) 0 (length words))
     → HasOpenRow op index terms old new
 dense_open op index terms bits words old new inside here same put_inner put_words = record {
   cols = map (λ s. s.col) (found (word_in bits words) 0 (length words));
@@ -218,20 +238,28 @@ dense_open op index terms bits words old new inside here same put_inner put_word
   ends = same;
 }
 
-pub dense_open_ok : (r : Result (Unit {0}) NoMemory) (op : BinaryOp) (index : ℕ) (terms : List Term) (bits words : List ℕ) (old new : FiberLists) → All (λ t. t.col < length words) terms → AreColumnSums op terms bits words
-    → OnOk r (new.ends ≡ old.ends) → OnOk r (new.inner.items ≡ old.inner.items ++ map (λ s. s.col) (found (word_in bits words) 0 (length words))) → OnOk r (new.words.items ≡ old.words.items ++ map (λ s. s.word) (found (word_in bits words) 0 (length words)))
+pub dense_open_ok : (r : Result (Unit {0}) NoMemory) (op : BinaryOp) (index : ℕ) (terms : List Term)
+    (bits words : List ℕ) (old new : FiberLists) → All (λ t. t.col < length words) terms
+    → AreColumnSums op terms bits words
+    → OnOk r (new.ends ≡ old.ends)
+    → OnOk r (new.inner.items ≡ old.inner.items ++ map (λ s. s.col) (found (word_in bits words) 0 (length words)))
+    → OnOk r (new.words.items ≡ old.words.items ++ map (λ s. s.word) (found (word_in bits words) 0 (length words)))
     → OnOk r (HasOpenRow op index terms old new)
 dense_open_ok (Err e) op index terms bits words old new inside here same put_inner put_words = tt
 dense_open_ok (Ok u) op index terms bits words old new inside here same put_inner put_words = dense_open op index terms bits words old new inside here same put_inner put_words
 
 -- the same, whatever the index
-pub dense_open_each : (r : Result (Unit {0}) NoMemory) (op : BinaryOp) (terms : List Term) (bits words : List ℕ) (old new : FiberLists) → All (λ t. t.col < length words) terms → AreColumnSums op terms bits words
-    → OnOk r (new.ends ≡ old.ends) → OnOk r (new.inner.items ≡ old.inner.items ++ map (λ s. s.col) (found (word_in bits words) 0 (length words))) → OnOk r (new.words.items ≡ old.words.items ++ map (λ s. s.word) (found (word_in bits words) 0 (length words)))
+pub dense_open_each : (r : Result (Unit {0}) NoMemory) (op : BinaryOp) (terms : List Term) (bits words : List ℕ)
+    (old new : FiberLists) → All (λ t. t.col < length words) terms → AreColumnSums op terms bits words
+    → OnOk r (new.ends ≡ old.ends)
+    → OnOk r (new.inner.items ≡ old.inner.items ++ map (λ s. s.col) (found (word_in bits words) 0 (length words)))
+    → OnOk r (new.words.items ≡ old.words.items ++ map (λ s. s.word) (found (word_in bits words) 0 (length words)))
     → OnOk r ((index : ℕ) → HasOpenRow op index terms old new)
 dense_open_each (Err e) op terms bits words old new inside here same put_inner put_words = tt
 dense_open_each (Ok u) op terms bits words old new inside here same put_inner put_words = λ index. dense_open op index terms bits words old new inside here same put_inner put_words
 
-pub below_width : (op : BinaryOp) (row : List Entry) (b : Stored) (width : ℕ) → b.cols ≤ width → All (λ t. t.col < width) (terms_of_row op row b)
+pub below_width : (op : BinaryOp) (row : List Entry) (b : Stored) (width : ℕ) → b.cols ≤ width
+    → All (λ t. t.col < width) (terms_of_row op row b)
 below_width op row b width fits = All-weaker (λ t. t.col < b.cols) (λ t. t.col < width) (λ t less. omega arith) (terms_of_row op row b) (terms_inside op row b)
 
 pub clear_room : (n : ℕ) → AreClear (replicate n 0)

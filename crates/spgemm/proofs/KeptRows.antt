@@ -35,7 +35,8 @@ use Rattle.spgemm.proofs.Kept.{sum_kept}
 -- ---- lists of which some elements are kept
 
 -- what all that is kept has, each that is kept has
-all_from_filter : {X : Type 0} (P : X → Type 0) (keeps : X → Bool) (xs : List X) → All P (filter keeps xs) → All (λ x. keeps x ≡ true → P x) xs
+all_from_filter : {X : Type 0} (P : X → Type 0) (keeps : X → Bool) (xs : List X) → All P (filter keeps xs)
+    → All (λ x. keeps x ≡ true → P x) xs
 all_from_filter P keeps [] h = All-nil (λ x. keeps x ≡ true → P x)
 all_from_filter P keeps (x ∷ xs) h =
     elim (cases_Bool (keeps x)) [
@@ -48,7 +49,8 @@ all_from_filter P keeps (x ∷ xs) h =
     ]
 
 -- what each that is kept has, all that is kept has
-all_in_filter : {X : Type 0} (P : X → Type 0) (keeps : X → Bool) (xs : List X) → All (λ x. keeps x ≡ true → P x) xs → All P (filter keeps xs)
+all_in_filter : {X : Type 0} (P : X → Type 0) (keeps : X → Bool) (xs : List X) → All (λ x. keeps x ≡ true → P x) xs
+    → All P (filter keeps xs)
 all_in_filter P keeps [] h = All-nil P
 all_in_filter P keeps (x ∷ xs) h =
     let rest = all_in_filter P keeps xs (All-tail (λ x. keeps x ≡ true → P x) x xs h) in
@@ -57,7 +59,8 @@ all_in_filter P keeps (x ∷ xs) h =
       | inr without ↦ rw without rest
     ]
 
-filter_twice : {X : Type 0} (p q r : X → Bool) (xs : List X) → All (λ x. (q x && p x) ≡ r x) xs → filter p (filter q xs) ≡ filter r xs
+filter_twice : {X : Type 0} (p q r : X → Bool) (xs : List X) → All (λ x. (q x && p x) ≡ r x) xs
+    → filter p (filter q xs) ≡ filter r xs
 filter_twice p q r [] h = refl
 filter_twice p q r (x ∷ xs) h =
     let rest = filter_twice p q r xs (All-tail (λ x. (q x && p x) ≡ r x) x xs h) in
@@ -74,7 +77,9 @@ filter_twice p q r (x ∷ xs) h =
 
 -- ---- a part of a row
 
-split_along : (row n : ℕ) (cols words : List ℕ) → length words ≡ length cols → entries_along row cols words ≡ entries_along row (take n cols) (take n words) ++ entries_along row (drop n cols) (drop n words)
+split_along : (row n : ℕ) (cols words : List ℕ) → length words ≡ length cols
+    → entries_along row cols words ≡ entries_along row (take n cols) (take n words) ++ entries_along row (drop n cols)
+    (drop n words)
 split_along row n cols words same =
     sym (ap (λ xs. entries_along row xs (take n words ++ drop n words)) (take-append-drop n cols) ∙ ap (entries_along row cols) (take-append-drop n words))
     ∙ along_append row (take n cols) (take n words) (drop n cols) (drop n words) (omega (arith, length-take n cols, length-take n words))
@@ -84,8 +89,10 @@ and_false true = refl
 and_false false = refl
 
 -- the entries of the part are those at columns in its range
-part_entries : (first past row : ℕ) (cols words : List ℕ) (low high : ℕ) → length words ≡ length cols → IsPart first past cols low high
-    → entries_along row (drop low (take high cols)) (drop low (take high words)) ≡ filter (λ e. in_range first past e.col) (entries_along row cols words)
+part_entries : (first past row : ℕ) (cols words : List ℕ) (low high : ℕ) → length words ≡ length cols
+    → IsPart first past cols low high
+    → entries_along row (drop low (take high cols))
+    (drop low (take high words)) ≡ filter (λ e. in_range first past e.col) (entries_along row cols words)
 part_entries first past row cols words low high same part =
     let p : Entry → Bool = λ e. in_range first past e.col in
     let front = take high cols in
@@ -107,8 +114,10 @@ part_entries first past row cols words low high same part =
     sym (ap (filter p) whole ∙ filter-append p (one ++ two) three ∙ rw (filter-append p one two, no_first, all_second, no_third) (append-nil two))
 
 -- two searches find the part
-pub part_found : (first past : ℕ) (cols : List ℕ) (low high : ℕ) → high ≤ length cols → low ≤ length (take high cols) → IsPartitionPoint (λ col. ltb col past ≡ true) (λ col. ltb col past ≡ false) cols high
-    → IsPartitionPoint (λ col. ltb col first ≡ true) (λ col. ltb col first ≡ false) (take high cols) low → IsPart first past cols low high
+pub part_found : (first past : ℕ) (cols : List ℕ) (low high : ℕ) → high ≤ length cols → low ≤ length (take high cols)
+    → IsPartitionPoint (λ col. ltb col past ≡ true) (λ col. ltb col past ≡ false) cols high
+    → IsPartitionPoint (λ col. ltb col first ≡ true) (λ col. ltb col first ≡ false) (take high cols) low
+    → IsPart first past cols low high
 part_found first past cols low high room few end start =
     let long = length-take high cols in
     record {
@@ -127,7 +136,8 @@ part_found first past cols low high room few end start =
     }
 
 -- all of a row is the part where the range has all columns
-pub part_whole : (first past width : ℕ) (cols : List ℕ) → first ≡ 0 → width ≤ past → All (λ col. col < width) cols → IsPart first past cols 0 (length cols)
+pub part_whole : (first past width : ℕ) (cols : List ℕ) → first ≡ 0 → width ≤ past → All (λ col. col < width) cols
+    → IsPart first past cols 0 (length cols)
 part_whole first past width cols begins ends below =
     let all : take (length cols) cols ≡ cols = take_all (length cols) cols (omega arith) in
     record {
@@ -141,7 +151,8 @@ part_whole first past width cols begins ends below =
 -- ---- the sums that are kept
 
 -- the columns of terms that are kept are among those of the kept terms
-columns_kept : (keeps : ℕ → Bool) (terms : List Term) (col : ℕ) → Contains (map (λ (t : Term). t.col) terms) col → keeps col ≡ true → Contains (map (λ (t : Term). t.col) (kept_terms keeps terms)) col
+columns_kept : (keeps : ℕ → Bool) (terms : List Term) (col : ℕ) → Contains (map (λ (t : Term). t.col) terms) col
+    → keeps col ≡ true → Contains (map (λ (t : Term). t.col) (kept_terms keeps terms)) col
 columns_kept keeps terms col among =
     let at : Term → ℕ = λ t. t.col in
     let L = map at (kept_terms keeps terms) in
@@ -150,8 +161,10 @@ columns_kept keeps terms col among =
     (All-map P at terms (all_from_filter (λ (t : Term). Contains L t.col) (λ (t : Term). keeps t.col) terms (all_from_map (Contains L) at (kept_terms keeps terms) (All-contains_itself L)))) among
 
 -- of a row of the sums of terms, what is at columns that are kept is the row of the sums of the kept terms
-pub sums_filtered : (op : BinaryOp) (index : ℕ) (keeps : ℕ → Bool) (terms : List Term) (cols words kept kept_words : List ℕ) → length kept_words ≡ length kept
-    → entries_along index kept kept_words ≡ filter (λ e. keeps e.col) (entries_along index cols words) → IsSumRow op index terms cols words → IsSumRow op index (kept_terms keeps terms) kept kept_words
+pub sums_filtered : (op : BinaryOp) (index : ℕ) (keeps : ℕ → Bool) (terms : List Term)
+    (cols words kept kept_words : List ℕ) → length kept_words ≡ length kept
+    → entries_along index kept kept_words ≡ filter (λ e. keeps e.col) (entries_along index cols words)
+    → IsSumRow op index terms cols words → IsSumRow op index (kept_terms keeps terms) kept kept_words
 sums_filtered op index keeps terms cols words kept kept_words same is sums =
     let test : Entry → Bool = λ e. keeps e.col in
     let es = entries_along index cols words in
@@ -169,13 +182,17 @@ sums_filtered op index keeps terms cols words kept kept_words same is sums =
     }
 
 -- what stands behind the place where a row of sums was begun
-tail_is : (op : BinaryOp) (index : ℕ) (terms : List Term) (old new : FiberLists) (here : HasOpenRow op index terms old new) → drop (length old.inner.items) new.inner.items ≡ here.cols
+tail_is : (op : BinaryOp) (index : ℕ) (terms : List Term) (old new : FiberLists)
+    (here : HasOpenRow op index terms old new) → drop (length old.inner.items) new.inner.items ≡ here.cols
 tail_is op index terms old new here = ap (drop (length old.inner.items)) here.inner ∙ drop-append_seam old.inner.items here.cols
 
-pub open_rises : (op : BinaryOp) (index : ℕ) (terms : List Term) (old new : FiberLists) → HasOpenRow op index terms old new → AllPairs (λ p q. p < q) (drop (length old.inner.items) new.inner.items)
+pub open_rises : (op : BinaryOp) (index : ℕ) (terms : List Term) (old new : FiberLists)
+    → HasOpenRow op index terms old new → AllPairs (λ p q. p < q) (drop (length old.inner.items) new.inner.items)
 open_rises op index terms old new here = subst (AllPairs (λ p q. p < q)) (sym (tail_is op index terms old new here)) here.sums.rising
 
-pub open_inside : (op : BinaryOp) (index width : ℕ) (terms : List Term) (old new : FiberLists) → All (λ t. t.col < width) terms → HasOpenRow op index terms old new → All (λ col. col < width) (drop (length old.inner.items) new.inner.items)
+pub open_inside : (op : BinaryOp) (index width : ℕ) (terms : List Term) (old new : FiberLists)
+    → All (λ t. t.col < width) terms → HasOpenRow op index terms old new
+    → All (λ col. col < width) (drop (length old.inner.items) new.inner.items)
 open_inside op index width terms old new below here =
     let at : Term → ℕ = λ t. t.col in
     let P : ℕ → Type 0 = λ col. col < width in
@@ -183,8 +200,10 @@ open_inside op index width terms old new below here =
     (All-weaker (λ col. Contains (map at terms) col) P (λ col p. All-contains P (map at terms) col (All-map P at terms below) p) here.cols here.sums.columns)
 
 -- what a mask keeps of a part of a row of sums
-pub kept_open : (op : BinaryOp) (index : ℕ) (test : MaskTest) (first past : ℕ) (cols words : List ℕ) (low high : ℕ) (terms : List Term) (old mid new : FiberLists) → length old.words.items ≡ length old.inner.items
-    → HasOpenRow op index terms old mid → IsPart first past (drop (length old.inner.items) mid.inner.items) low high → HasKept test cols words (length old.inner.items) low high mid new
+pub kept_open : (op : BinaryOp) (index : ℕ) (test : MaskTest) (first past : ℕ) (cols words : List ℕ) (low high : ℕ)
+    (terms : List Term) (old mid new : FiberLists) → length old.words.items ≡ length old.inner.items
+    → HasOpenRow op index terms old mid → IsPart first past (drop (length old.inner.items) mid.inner.items) low high
+    → HasKept test cols words (length old.inner.items) low high mid new
     → HasOpenRow op index (kept_terms (keeps_among test first past (entries_along index cols words) index) terms) old new
 kept_open op index test first past cols words low high terms old mid new same here part kept =
     let start = length old.inner.items in
@@ -210,8 +229,10 @@ kept_open op index test first past cols words low high terms old mid new same he
     }
 
 -- a row that was closed
-pub row_closed : (r : Result (Unit {0}) NoMemory) (op : BinaryOp) (index : ℕ) (terms : List Term) (old mid new : FiberLists) → HasOpenRow op index terms old mid
-    → OnOk r (new.ends.items ≡ closed mid.ends.items index (length mid.inner.items)) → new.inner.items ≡ mid.inner.items → new.words.items ≡ mid.words.items → OnOk r (HasRow op index terms old new)
+pub row_closed : (r : Result (Unit {0}) NoMemory) (op : BinaryOp) (index : ℕ) (terms : List Term)
+    (old mid new : FiberLists) → HasOpenRow op index terms old mid
+    → OnOk r (new.ends.items ≡ closed mid.ends.items index (length mid.inner.items))
+    → new.inner.items ≡ mid.inner.items → new.words.items ≡ mid.words.items → OnOk r (HasRow op index terms old new)
 row_closed (Err e) op index terms old mid new here ends inner words = tt
 row_closed (Ok u) op index terms old mid new here ends inner words = record {
   cols = here.cols;

@@ -16,7 +16,9 @@ use Rattle.spgemm.specs.declared.term.Term.{Term}
 use Rattle.spgemm.proofs.SlotSums.{more_terms, sum_away, sum_here}
 
 -- the identity of a semiring's monoid changes no product
-pub product_first : (semiring : Semiring) (a b : ℕ) → apply semiring.add.op (identity_of semiring.add.kind semiring.add.op.domain) (apply semiring.multiply a b) ≡ apply semiring.multiply a b
+pub product_first : (semiring : Semiring) (a b : ℕ)
+    → apply semiring.add.op (identity_of semiring.add.kind semiring.add.op.domain)
+    (apply semiring.multiply a b) ≡ apply semiring.multiply a b
 product_first semiring a b =
     let add = semiring.add in
     let mul = semiring.multiply in
@@ -26,8 +28,10 @@ product_first semiring a b =
     rw kind (monoid-identity add.kind add.op.domain (apply mul a b) offered word)
 
 -- one term more
-pub marked_more : (add : Monoid) (terms : List Term) (col word : ℕ) (marks : List Bool) (words : List ℕ) → col < length words → length marks ≡ length words → apply add.op (identity_of add.kind add.op.domain) word ≡ word
-    → AreMarkedSums add terms marks words → AreMarkedSums add (terms ++ term_at col word ∷ []) (set marks col true) (set words col (apply add.op (get_or words col 0) word))
+pub marked_more : (add : Monoid) (terms : List Term) (col word : ℕ) (marks : List Bool) (words : List ℕ)
+    → col < length words → length marks ≡ length words → apply add.op (identity_of add.kind add.op.domain) word ≡ word
+    → AreMarkedSums add terms marks words → AreMarkedSums add (terms ++ term_at col word ∷ []) (set marks col true)
+    (set words col (apply add.op (get_or words col 0) word))
 marked_more add terms col word marks words within long first here =
     let t = term_at col word in
     let old = get_or words col 0 in
@@ -60,13 +64,18 @@ marked_more add terms col word marks words within long first here =
     }
 
 -- where bits are set just where there are marks, the sums are those of the columns
-pub marked_sums : (add : Monoid) (terms : List Term) (marks : List Bool) (bits words : List ℕ) → ((at : ℕ) → at < length words → has_bit bits at ≡ get_or marks at false) → AreMarkedSums add terms marks words → AreColumnSums add.op terms bits words
+pub marked_sums : (add : Monoid) (terms : List Term) (marks : List Bool) (bits words : List ℕ)
+    → ((at : ℕ) → at < length words → has_bit bits at ≡ get_or marks at false) → AreMarkedSums add terms marks words
+    → AreColumnSums add.op terms bits words
 marked_sums add terms marks bits words same here = record { sums_are = λ col within. rw (same col within) (here.sums_are col within) }
 
 -- a product more
-pub marked_product : (semiring : Semiring) (terms : List Term) (word : ℕ) (row : List Entry) (k : ℕ) (e : Entry) (marks : List Bool) (words : List ℕ) → get_or row k e ≡ e → k < length row → e.col < length words → length marks ≡ length words
+pub marked_product : (semiring : Semiring) (terms : List Term) (word : ℕ) (row : List Entry) (k : ℕ) (e : Entry)
+    (marks : List Bool) (words : List ℕ) → get_or row k e ≡ e → k < length row → e.col < length words
+    → length marks ≡ length words
     → AreMarkedSums semiring.add (terms ++ times_row semiring.multiply word (take k row)) marks words
-    → AreMarkedSums semiring.add (terms ++ times_row semiring.multiply word (take (k + 1) row)) (set marks e.col true) (set words e.col (apply semiring.add.op (get_or words e.col 0) (apply semiring.multiply word e.word)))
+    → AreMarkedSums semiring.add (terms ++ times_row semiring.multiply word (take (k + 1) row)) (set marks e.col true)
+    (set words e.col (apply semiring.add.op (get_or words e.col 0) (apply semiring.multiply word e.word)))
 marked_product semiring terms word row k e marks words this within inside long here =
     let mul = semiring.multiply in
     let sofar = terms ++ times_row mul word (take k row) in

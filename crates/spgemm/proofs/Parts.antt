@@ -23,7 +23,8 @@ use Rattle.spgemm.specs.Vectors.{entries_of_column, in_range, keeps_down}
 use Rattle.spgemm.proofs.Kept.{all_kept, terms_inside}
 use Rattle.spgemm.proofs.Vectors.{range_of}
 
-pub whole_range : (first past cols : ℕ) (terms : List Term) → first ≡ 0 → cols ≤ past → All (λ t. t.col < cols) terms → terms ≡ kept_terms (in_range first past) terms
+pub whole_range : (first past cols : ℕ) (terms : List Term) → first ≡ 0 → cols ≤ past → All (λ t. t.col < cols) terms
+    → terms ≡ kept_terms (in_range first past) terms
 whole_range first past cols terms start end below =
     sym (filter_whole (λ t. in_range first past t.col) terms (All-weaker (λ t. t.col < cols) (λ t. in_range first past t.col ≡ true)
     (λ t less. let low : leb first t.col ≡ true = grind (arith, nat_tests) in let high : ltb t.col past ≡ true = grind (arith, nat_tests) in rw (low, high) refl) terms below))
@@ -33,7 +34,9 @@ and_true true = refl
 and_true false = refl
 
 -- where the range has all columns, that is the whole row
-pub whole_part : (r : Result (Unit {0}) NoMemory) (op mul : BinaryOp) (index first past : ℕ) (row : List Entry) (a : Stored) (old new : FiberLists) → first ≡ 0 → a.cols ≤ past → OnOk r (HasRow op index (terms_of_row mul row a) old new)
+pub whole_part : (r : Result (Unit {0}) NoMemory) (op mul : BinaryOp) (index first past : ℕ) (row : List Entry)
+    (a : Stored) (old new : FiberLists) → first ≡ 0 → a.cols ≤ past
+    → OnOk r (HasRow op index (terms_of_row mul row a) old new)
     → OnOk r (HasRow op index (kept_terms (keeps_down (lets_by None) first past) (terms_of_row mul row a)) old new)
 whole_part (Err e) op mul index first past row a old new start end here = tt
 whole_part (Ok u) op mul index first past row a old new start end here =
@@ -42,14 +45,17 @@ whole_part (Ok u) op mul index first past row a old new start end here =
     (whole_range first past a.cols terms start end (terms_inside mul row a) ∙ filter_agree (λ t. in_range first past t.col) (λ t. keeps_down (lets_by None) first past t.col) (λ t. and_true (in_range first past t.col)) terms) here
 
 -- what is kept of terms of a row are terms at columns of A
-pub kept_inside : (keeps : ℕ → Bool) (op : BinaryOp) (row : List Entry) (a : Stored) (left : List Term) → left ≡ kept_terms keeps (terms_of_row op row a) → All (λ t. t.col < a.cols) left
+pub kept_inside : (keeps : ℕ → Bool) (op : BinaryOp) (row : List Entry) (a : Stored) (left : List Term)
+    → left ≡ kept_terms keeps (terms_of_row op row a) → All (λ t. t.col < a.cols) left
 kept_inside keeps op row a left is =
     subst (All (λ t. t.col < a.cols)) (sym is)
     (All-weaker (λ t. (t.col < a.cols) × (keeps t.col ≡ true)) (λ t. t.col < a.cols) (λ t p. p.0) (kept_terms keeps (terms_of_row op row a)) (all_kept (λ t. t.col < a.cols) keeps (terms_of_row op row a) (terms_inside op row a)))
 
 -- the part of a row without a mask: nothing is in the complement of what is let through
-pub part_all : (r : Result (Unit {0}) NoMemory) (test : MaskTest) (op : BinaryOp) (index first past : ℕ) (terms : List Term) (old new : FiberLists) → test.complement ≡ true
-    → OnOk r (HasRow op index (kept_terms (keeps_among test first past [] index) terms) old new) → OnOk r (HasRow op index (kept_terms (keeps_down (lets_by None) first past) terms) old new)
+pub part_all : (r : Result (Unit {0}) NoMemory) (test : MaskTest) (op : BinaryOp) (index first past : ℕ)
+    (terms : List Term) (old new : FiberLists) → test.complement ≡ true
+    → OnOk r (HasRow op index (kept_terms (keeps_among test first past [] index) terms) old new)
+    → OnOk r (HasRow op index (kept_terms (keeps_down (lets_by None) first past) terms) old new)
 unfolding word_at
 part_all (Err e) test op index first past terms old new transposed here = tt
 part_all (Ok u) test op index first past terms old new transposed here =
@@ -60,7 +66,8 @@ in_part true test same h = h refl
 in_part false test same h = refl
 
 -- a column has the words of its map
-pub column_word : (c : Content) (first past index i : ℕ) (entries : List Entry) → index ≡ 0 → first ≤ i → i < past → entries ≡ entries_of_column c first past → word_at entries index i ≡ c i 0
+pub column_word : (c : Content) (first past index i : ℕ) (entries : List Entry) → index ≡ 0 → first ≤ i → i < past
+    → entries ≡ entries_of_column c first past → word_at entries index i ≡ c i 0
 column_word c first past index i entries zero_is low high is =
     let end : first + (past - first) ≡ past = omega arith in
     let from : leb first i ≡ true = grind (arith, nat_tests) in
@@ -69,8 +76,11 @@ column_word c first past index i entries zero_is low high is =
     ap (λ es. word_at es index i) is ∙ ap (λ index. word_at (entries_of_column c first past) index i) zero_is ∙ found ∙ rw (from, to) refl
 
 -- the part of a row that a mask keeps, by the entries of its column, is the one that the mask lets through
-pub part_kept : (r : Result (Unit {0}) NoMemory) (mask : StoredMask) (op : BinaryOp) (index first past : ℕ) (entries : List Entry) (terms : List Term) (old new : FiberLists) → index ≡ 0 → entries ≡ entries_of_column (content_of mask.store.now) first past
-    → OnOk r (HasRow op index (kept_terms (keeps_among mask.test first past entries index) terms) old new) → OnOk r (HasRow op index (kept_terms (keeps_down (lets_by (Some mask)) first past) terms) old new)
+pub part_kept : (r : Result (Unit {0}) NoMemory) (mask : StoredMask) (op : BinaryOp) (index first past : ℕ)
+    (entries : List Entry) (terms : List Term) (old new : FiberLists) → index ≡ 0
+    → entries ≡ entries_of_column (content_of mask.store.now) first past
+    → OnOk r (HasRow op index (kept_terms (keeps_among mask.test first past entries index) terms) old new)
+    → OnOk r (HasRow op index (kept_terms (keeps_down (lets_by (Some mask)) first past) terms) old new)
 part_kept (Err e) mask op index first past entries terms old new zero_is is here = tt
 part_kept (Ok u) mask op index first past entries terms old new zero_is is here =
     let c = content_of mask.store.now in

@@ -49,7 +49,8 @@ numbers_rise first (suc n) =
     (All-weaker (λ k. (first + 1 ≤ k) × (k < first + 1 + n)) (λ k. first < k) (λ k p. omega (arith, p.0)) (count_from (first + 1) n) (all_numbers (first + 1) n))
     (numbers_rise (first + 1) n)
 
-one_number : (col first n : ℕ) → filter (λ k. eqb k col) (count_from first n) ≡ cond (leb first col && ltb col (first + n)) (col ∷ []) []
+one_number : (col first n : ℕ) → filter (λ k. eqb k col)
+    (count_from first n) ≡ cond (leb first col && ltb col (first + n)) (col ∷ []) []
 unfolding count_from
 one_number col first zero = let out : (leb first col && ltb col (first + 0)) ≡ false = grind (arith, nat_tests) in rw out refl
 one_number col first (suc n) =
@@ -89,7 +90,8 @@ any_at col (s ∷ slots) (suc at) within is = elim (eqb s col) as (λ b. (b || i
   | false ↦ any_at col slots at (omega arith) is
 ]
 
-pub slot_found : (slots : List ℕ) (col : ℕ) (found : Option ℕ) → IsSlotOf slots col found → is_some found ≡ is_slot slots col
+pub slot_found : (slots : List ℕ) (col : ℕ) (found : Option ℕ) → IsSlotOf slots col found
+    → is_some found ≡ is_slot slots col
 slot_found slots col None h = sym (any_none col slots h)
 slot_found slots col (Some at) h = sym (any_at col slots at h.0 h.1)
 
@@ -129,7 +131,8 @@ slot_kept keeps slots col are =
 -- ---- the columns of a mask's row
 
 -- a row has no word at a column before its own
-none_before : (row col : ℕ) (cols words : List ℕ) → All (λ c. col < c) cols → word_at (entries_along row cols words) row col ≡ None
+none_before : (row col : ℕ) (cols words : List ℕ) → All (λ c. col < c) cols
+    → word_at (entries_along row cols words) row col ≡ None
 unfolding word_at
 none_before row col [] words h = refl
 none_before row col (c ∷ cols) [] h = refl
@@ -138,7 +141,8 @@ none_before row col (c ∷ cols) (w ∷ words) h =
     rw (eq-eqb row row refl, ne_eqb col c (λ same. absurd (omega (arith, before, same)))) (none_before row col cols words (All-tail (λ c. col < c) c cols h))
 
 counted_once : (valued : Bool) (row col : ℕ) (cols words : List ℕ) → AllPairs (λ p q. p < q) cols
-    → filter (λ slot. eqb slot col) (counted valued (entries_along 0 cols words)) ≡ cond (has_word valued (word_at (entries_along row cols words) row col)) (col ∷ []) []
+    → filter (λ slot. eqb slot col)
+    (counted valued (entries_along 0 cols words)) ≡ cond (has_word valued (word_at (entries_along row cols words) row col)) (col ∷ []) []
 unfolding word_at
 counted_once valued row col [] words rising = refl
 counted_once valued row col (c ∷ cols) [] rising = refl
@@ -160,7 +164,8 @@ counted_once valued row col (c ∷ cols) (w ∷ words) rising =
           ]
     ]
 
-along_rise : (row : ℕ) (cols words : List ℕ) → AllPairs (λ p q. p < q) cols → AllPairs (λ (e f : Entry). e.col < f.col) (entries_along row cols words)
+along_rise : (row : ℕ) (cols words : List ℕ) → AllPairs (λ p q. p < q) cols
+    → AllPairs (λ (e f : Entry). e.col < f.col) (entries_along row cols words)
 along_rise row [] words rising = all_pairs_nil (λ (e f : Entry). e.col < f.col)
 along_rise row (c ∷ cols) [] rising = all_pairs_nil (λ (e f : Entry). e.col < f.col)
 along_rise row (c ∷ cols) (w ∷ words) rising =
@@ -169,7 +174,9 @@ along_rise row (c ∷ cols) (w ∷ words) rising =
     (along_rise row cols words (all_pairs_tail (λ p q. p < q) c cols rising))
 
 -- the columns of a mask's row that count are slots
-pub counted_slots : (valued : Bool) (row : ℕ) (cols words slots : List ℕ) → AllPairs (λ p q. p < q) cols → slots ≡ counted valued (entries_along 0 cols words) → AreSlots (λ col. has_word valued (word_at (entries_along row cols words) row col)) slots
+pub counted_slots : (valued : Bool) (row : ℕ) (cols words slots : List ℕ) → AllPairs (λ p q. p < q) cols
+    → slots ≡ counted valued (entries_along 0 cols words)
+    → AreSlots (λ col. has_word valued (word_at (entries_along row cols words) row col)) slots
 counted_slots valued row cols words slots rising held =
     let has : ℕ → Bool = λ col. has_word valued (word_at (entries_along row cols words) row col) in
     let test : Entry → Bool = λ e. counts valued e.word in
@@ -189,7 +196,9 @@ counted_slots valued row cols words slots rising held =
     }
 
 -- and they lie where the row lies
-word_within : (first past row col : ℕ) (valued : Bool) (cols words : List ℕ) → All (λ col. (first ≤ col) × (col < past)) cols → has_word valued (word_at (entries_along row cols words) row col) ≡ true → in_range first past col ≡ true
+word_within : (first past row col : ℕ) (valued : Bool) (cols words : List ℕ)
+    → All (λ col. (first ≤ col) × (col < past)) cols
+    → has_word valued (word_at (entries_along row cols words) row col) ≡ true → in_range first past col ≡ true
 unfolding word_at
 word_within first past row col valued [] words inside has = absurd cc
 word_within first past row col valued (c ∷ cols) [] inside has = absurd cc
@@ -211,7 +220,8 @@ both_or_none false true h = sym (h refl)
 both_or_none false false h = refl
 
 -- the terms at the slots are those that a mask keeps which isn't complemented
-held_terms : (test : MaskTest) (first past row : ℕ) (cols words : List ℕ) (terms : List Term) → test.complement ≡ false → All (λ col. (first ≤ col) × (col < past)) cols
+held_terms : (test : MaskTest) (first past row : ℕ) (cols words : List ℕ) (terms : List Term) → test.complement ≡ false
+    → All (λ col. (first ≤ col) × (col < past)) cols
     → kept_terms (λ col. has_word test.valued (word_at (entries_along row cols words) row col)) terms ≡ kept_terms (keeps_among test first past (entries_along row cols words) row) terms
 held_terms test first past row cols words terms plain inside =
     let es = entries_along row cols words in
@@ -223,7 +233,9 @@ held_terms test first past row cols words terms plain inside =
 abbrev found_sums : (ℕ → Option ℕ) → List ℕ → List Term
 found_sums f slots = filter_map (λ col. option_map (term_at col) (f col)) slots
 
-present_is : (f : ℕ → Option ℕ) (slots : List ℕ) (sums : List (Option ℕ)) → length sums ≡ length slots → ((at : ℕ) → at < length slots → get_or sums at None ≡ f (get_or slots at 0)) → present slots sums ≡ found_sums f slots
+present_is : (f : ℕ → Option ℕ) (slots : List ℕ) (sums : List (Option ℕ)) → length sums ≡ length slots
+    → ((at : ℕ) → at < length slots → get_or sums at None ≡ f (get_or slots at 0))
+    → present slots sums ≡ found_sums f slots
 present_is f [] sums same are = refl
 present_is f (s ∷ slots) [] same are = absurd (omega arith)
 present_is f (s ∷ slots) (o ∷ sums) same are =
@@ -231,7 +243,8 @@ present_is f (s ∷ slots) (o ∷ sums) same are =
     let rest = present_is f slots sums (omega arith) (λ at within. let next = are (at + 1) (omega arith) in rw add-one at next) in
     rw first (ap (cons_option (option_map (term_at s) (f s))) rest)
 
-words_found : (f : ℕ → Option ℕ) (col : ℕ) (slots : List ℕ) → words_at col (found_sums f slots) ≡ words_at col (found_sums f (filter (λ slot. eqb slot col) slots))
+words_found : (f : ℕ → Option ℕ) (col : ℕ) (slots : List ℕ)
+    → words_at col (found_sums f slots) ≡ words_at col (found_sums f (filter (λ slot. eqb slot col) slots))
 words_found f col [] = refl
 words_found f col (s ∷ slots) =
     let rest = words_found f col slots in
@@ -246,14 +259,16 @@ words_found f col (s ∷ slots) =
       ])
     ]
 
-words_one : (f : ℕ → Option ℕ) (col : ℕ) (b : Bool) → words_at col (found_sums f (cond b (col ∷ []) [])) ≡ option_to_list (cond b (f col) None)
+words_one : (f : ℕ → Option ℕ) (col : ℕ) (b : Bool)
+    → words_at col (found_sums f (cond b (col ∷ []) [])) ≡ option_to_list (cond b (f col) None)
 words_one f col true = elim (f col) as (λ o. words_at col (cons_option (option_map (term_at col) o) []) ≡ option_to_list o) [
   | None ↦ refl
   | Some w ↦ rw (eq-eqb col col refl) refl
 ]
 words_one f col false = refl
 
-found_above : (f : ℕ → Option ℕ) (low : ℕ) (slots : List ℕ) → All (λ slot. low < slot) slots → All (λ s. low < s.col) (found_sums f slots)
+found_above : (f : ℕ → Option ℕ) (low : ℕ) (slots : List ℕ) → All (λ slot. low < slot) slots
+    → All (λ s. low < s.col) (found_sums f slots)
 found_above f low [] h = All-nil (λ s. low < s.col)
 found_above f low (s ∷ slots) h =
     let rest = found_above f low slots (All-tail (λ slot. low < slot) s slots h) in
@@ -262,7 +277,8 @@ found_above f low (s ∷ slots) h =
       | Some w ↦ All-cons (λ s. low < s.col) (term_at s w) (found_sums f slots) (All-head (λ slot. low < slot) s slots h) rest
     ]
 
-found_rise : (f : ℕ → Option ℕ) (slots : List ℕ) → AllPairs (λ p q. p < q) slots → AllPairs (λ s t. s.col < t.col) (found_sums f slots)
+found_rise : (f : ℕ → Option ℕ) (slots : List ℕ) → AllPairs (λ p q. p < q) slots
+    → AllPairs (λ s t. s.col < t.col) (found_sums f slots)
 found_rise f [] h = all_pairs_nil (λ s t. s.col < t.col)
 found_rise f (s ∷ slots) h =
     let rest = found_rise f slots (all_pairs_tail (λ p q. p < q) s slots h) in
@@ -275,7 +291,8 @@ abbrev pub at_term : Term → ℕ
 at_term t = t.col
 
 -- a column that is kept, and has words, is one of the terms that are kept
-pub has_words : (keeps : ℕ → Bool) (col word : ℕ) (words : List ℕ) (terms : List Term) → keeps col ≡ true → words_at col terms ≡ word ∷ words → Contains (map at_term (kept_terms keeps terms)) col
+pub has_words : (keeps : ℕ → Bool) (col word : ℕ) (words : List ℕ) (terms : List Term) → keeps col ≡ true
+    → words_at col terms ≡ word ∷ words → Contains (map at_term (kept_terms keeps terms)) col
 has_words keeps col word words [] kept some = absurd cc
 has_words keeps col word words (t ∷ terms) kept some =
     elim (cases_eq t.col col) [
@@ -289,18 +306,22 @@ has_words keeps col word words (t ∷ terms) kept some =
           ]
     ]
 
-pub words_of_sum : (op : BinaryOp) (col word : ℕ) (terms : List Term) (words : List ℕ) → words ≡ words_at col terms → sum_at op col terms ≡ Some word → (rest : List ℕ) × (words_at col terms ≡ get_or words 0 0 ∷ rest)
+pub words_of_sum : (op : BinaryOp) (col word : ℕ) (terms : List Term) (words : List ℕ) → words ≡ words_at col terms
+    → sum_at op col terms ≡ Some word → (rest : List ℕ) × (words_at col terms ≡ get_or words 0 0 ∷ rest)
 words_of_sum op col word terms [] is some = let none : sum_at op col terms ≡ None = rw (← is) refl in absurd cc
 words_of_sum op col word terms (w ∷ ws) is some = (ws, sym is)
 
-found_more : (op : BinaryOp) (keeps : ℕ → Bool) (terms : List Term) (slot : ℕ) (rest : List Term) → keeps slot ≡ true → All (λ s. Contains (map at_term (kept_terms keeps terms)) s.col) rest → (o : Option ℕ) → sum_at op slot terms ≡ o
+found_more : (op : BinaryOp) (keeps : ℕ → Bool) (terms : List Term) (slot : ℕ) (rest : List Term) → keeps slot ≡ true
+    → All (λ s. Contains (map at_term (kept_terms keeps terms)) s.col) rest → (o : Option ℕ) → sum_at op slot terms ≡ o
     → All (λ s. Contains (map at_term (kept_terms keeps terms)) s.col) (cons_option (option_map (term_at slot) o) rest)
 found_more op keeps terms slot rest kept h None is = h
 found_more op keeps terms slot rest kept h (Some word) is =
     let words = words_of_sum op slot word terms (words_at slot terms) refl is in
     All-cons (λ s. Contains (map at_term (kept_terms keeps terms)) s.col) (term_at slot word) rest (has_words keeps slot (get_or (words_at slot terms) 0 0) words.0 terms kept words.1) h
 
-found_kept : (op : BinaryOp) (keeps : ℕ → Bool) (terms : List Term) (slots : List ℕ) → All (λ slot. keeps slot ≡ true) slots → All (λ s. Contains (map at_term (kept_terms keeps terms)) s.col) (found_sums (λ col. sum_at op col terms) slots)
+found_kept : (op : BinaryOp) (keeps : ℕ → Bool) (terms : List Term) (slots : List ℕ)
+    → All (λ slot. keeps slot ≡ true) slots → All (λ s. Contains (map at_term (kept_terms keeps terms)) s.col)
+    (found_sums (λ col. sum_at op col terms) slots)
 found_kept op keeps terms [] h = All-nil (λ s. Contains (map at_term (kept_terms keeps terms)) s.col)
 found_kept op keeps terms (slot ∷ slots) h =
     let P : Term → Type 0 = λ s. Contains (map at_term (kept_terms keeps terms)) s.col in
@@ -308,8 +329,10 @@ found_kept op keeps terms (slot ∷ slots) h =
     found_more op keeps terms slot (found_sums (λ col. sum_at op col terms) slots) (All-head (λ slot. keeps slot ≡ true) slot slots h) rest (sum_at op slot terms) refl
 
 -- the sums at the columns that are kept are the row of the sums of the terms that are kept
-pub found_row : (op : BinaryOp) (index : ℕ) (keeps : ℕ → Bool) (slots : List ℕ) (terms : List Term) → AreSlots keeps slots
-    → IsSumRow op index (kept_terms keeps terms) (map (λ s. s.col) (found_sums (λ col. sum_at op col terms) slots)) (map (λ s. s.word) (found_sums (λ col. sum_at op col terms) slots))
+pub found_row : (op : BinaryOp) (index : ℕ) (keeps : ℕ → Bool) (slots : List ℕ) (terms : List Term)
+    → AreSlots keeps slots
+    → IsSumRow op index (kept_terms keeps terms) (map (λ s. s.col) (found_sums (λ col. sum_at op col terms) slots))
+    (map (λ s. s.word) (found_sums (λ col. sum_at op col terms) slots))
 found_row op index keeps slots terms are =
     let f : ℕ → Option ℕ = λ col. sum_at op col terms in
     record {
@@ -322,14 +345,19 @@ found_row op index keeps slots terms are =
     }
 
 -- what stands beside the slots is the row of the sums of the terms that are kept
-slot_row : (op : BinaryOp) (index : ℕ) (keeps : ℕ → Bool) (slots : List ℕ) (terms : List Term) (sums : List (Option ℕ)) → AreSlots keeps slots → AreSlotSums op slots terms sums
-    → IsSumRow op index (kept_terms keeps terms) (map (λ s. s.col) (present slots sums)) (map (λ s. s.word) (present slots sums))
+slot_row : (op : BinaryOp) (index : ℕ) (keeps : ℕ → Bool) (slots : List ℕ) (terms : List Term) (sums : List (Option ℕ))
+    → AreSlots keeps slots → AreSlotSums op slots terms sums
+    → IsSumRow op index (kept_terms keeps terms) (map (λ s. s.col) (present slots sums))
+    (map (λ s. s.word) (present slots sums))
 slot_row op index keeps slots terms sums are here = rw (present_is (λ col. sum_at op col terms) slots sums here.lengths here.sums_are) (found_row op index keeps slots terms are)
 
 -- the sums behind the rows, where the row was closed
-pub slots_closed : (r : Result (Unit {0}) NoMemory) (op : BinaryOp) (index : ℕ) (slots : List ℕ) (terms : List Term) (sums : List (Option ℕ)) (old mid new : FiberLists) → AreSlotSums op slots terms sums
-    → mid.ends ≡ old.ends → mid.inner.items ≡ old.inner.items ++ map (λ s. s.col) (present slots sums) → mid.words.items ≡ old.words.items ++ map (λ s. s.word) (present slots sums)
-    → OnOk r (new.ends.items ≡ closed mid.ends.items index (length mid.inner.items)) → new.inner.items ≡ mid.inner.items → new.words.items ≡ mid.words.items
+pub slots_closed : (r : Result (Unit {0}) NoMemory) (op : BinaryOp) (index : ℕ) (slots : List ℕ) (terms : List Term)
+    (sums : List (Option ℕ)) (old mid new : FiberLists) → AreSlotSums op slots terms sums
+    → mid.ends ≡ old.ends → mid.inner.items ≡ old.inner.items ++ map (λ s. s.col) (present slots sums)
+    → mid.words.items ≡ old.words.items ++ map (λ s. s.word) (present slots sums)
+    → OnOk r (new.ends.items ≡ closed mid.ends.items index (length mid.inner.items))
+    → new.inner.items ≡ mid.inner.items → new.words.items ≡ mid.words.items
     → OnOk r ((keeps : ℕ → Bool) → AreSlots keeps slots → HasRow op index (kept_terms keeps terms) old new)
 slots_closed (Err e) op index slots terms sums old mid new here same put_inner put_words ends inner words = tt
 slots_closed (Ok u) op index slots terms sums old mid new here same put_inner put_words ends inner words = λ keeps are.
@@ -343,8 +371,10 @@ slots_closed (Ok u) op index slots terms sums old mid new here same put_inner pu
     }
 
 -- without slots the row has no sums
-pub no_slots_closed : (r : Result (Unit {0}) NoMemory) (op : BinaryOp) (index : ℕ) (slots : List ℕ) (terms : List Term) (old new : FiberLists) → length slots ≡ 0
-    → OnOk r (new.ends.items ≡ closed old.ends.items index (length old.inner.items)) → new.inner.items ≡ old.inner.items → new.words.items ≡ old.words.items
+pub no_slots_closed : (r : Result (Unit {0}) NoMemory) (op : BinaryOp) (index : ℕ) (slots : List ℕ) (terms : List Term)
+    (old new : FiberLists) → length slots ≡ 0
+    → OnOk r (new.ends.items ≡ closed old.ends.items index (length old.inner.items))
+    → new.inner.items ≡ old.inner.items → new.words.items ≡ old.words.items
     → OnOk r ((keeps : ℕ → Bool) → AreSlots keeps slots → HasRow op index (kept_terms keeps terms) old new)
 no_slots_closed r op index [] terms old new none ends inner words =
     slots_closed r op index [] terms [] old old new (record { lengths = refl; sums_are = λ at within. absurd (omega arith) }) refl (sym (append-nil old.inner.items)) (sym (append-nil old.words.items)) ends inner words
@@ -352,7 +382,8 @@ no_slots_closed r op index (s ∷ slots) terms old new none ends inner words = a
 
 -- ---- where terms are at columns below a width
 
-agree_below : (p q : ℕ → Bool) (width : ℕ) (terms : List Term) → All (λ t. t.col < width) terms → ((col : ℕ) → col < width → p col ≡ q col) → kept_terms p terms ≡ kept_terms q terms
+agree_below : (p q : ℕ → Bool) (width : ℕ) (terms : List Term) → All (λ t. t.col < width) terms
+    → ((col : ℕ) → col < width → p col ≡ q col) → kept_terms p terms ≡ kept_terms q terms
 agree_below p q width [] below same = refl
 agree_below p q width (t ∷ ts) below same =
     let rest = agree_below p q width ts (All-tail (λ t. t.col < width) t ts below) same in
@@ -362,22 +393,29 @@ agree_below p q width (t ∷ ts) below same =
     ])
 
 -- so the row at the slots is the one that the mask keeps
-pub held_row : (r : Result (Unit {0}) NoMemory) (test : MaskTest) (op : BinaryOp) (row first past : ℕ) (cols words slots : List ℕ) (terms : List Term) (old new : FiberLists) → test.complement ≡ false
-    → AllPairs (λ p q. p < q) cols → All (λ col. (first ≤ col) × (col < past)) cols → slots ≡ counted test.valued (entries_along 0 cols words)
-    → OnOk r ((keeps : ℕ → Bool) → AreSlots keeps slots → HasRow op row (kept_terms keeps terms) old new) → OnOk r (HasRow op row (kept_terms (keeps_among test first past (entries_along row cols words) row) terms) old new)
+pub held_row : (r : Result (Unit {0}) NoMemory) (test : MaskTest) (op : BinaryOp) (row first past : ℕ)
+    (cols words slots : List ℕ) (terms : List Term) (old new : FiberLists) → test.complement ≡ false
+    → AllPairs (λ p q. p < q) cols → All (λ col. (first ≤ col) × (col < past)) cols
+    → slots ≡ counted test.valued (entries_along 0 cols words)
+    → OnOk r ((keeps : ℕ → Bool) → AreSlots keeps slots → HasRow op row (kept_terms keeps terms) old new)
+    → OnOk r (HasRow op row (kept_terms (keeps_among test first past (entries_along row cols words) row) terms) old new)
 held_row (Err e) test op row first past cols words slots terms old new plain rising inside held here = tt
 held_row (Ok u) test op row first past cols words slots terms old new plain rising inside held here =
     subst (λ ts. HasRow op row ts old new) (held_terms test first past row cols words terms plain inside)
     (here (λ col. has_word test.valued (word_at (entries_along row cols words) row col)) (counted_slots test.valued row cols words slots rising held))
 
 -- where all is kept
-pub row_all : (r : Result (Unit {0}) NoMemory) (op : BinaryOp) (row : ℕ) (terms : List Term) (old new : FiberLists) → OnOk r (HasRow op row terms old new) → OnOk r (HasRow op row (kept_terms (λ col. true) terms) old new)
+pub row_all : (r : Result (Unit {0}) NoMemory) (op : BinaryOp) (row : ℕ) (terms : List Term) (old new : FiberLists)
+    → OnOk r (HasRow op row terms old new) → OnOk r (HasRow op row (kept_terms (λ col. true) terms) old new)
 row_all (Err e) op row terms old new here = tt
 row_all (Ok u) op row terms old new here = subst (λ ts. HasRow op row ts old new) (sym (kept_all terms)) here
 
 -- the row at the columns that a mask keeps, by the entries of its store's row, is the one that the mask lets through
-pub row_kept : (r : Result (Unit {0}) NoMemory) (mask : StoredMask) (i width : ℕ) (op : BinaryOp) (terms : List Term) (old new : FiberLists) (entries : List Entry) → mask.store.now.cols ≡ width → All (λ t. t.col < width) terms
-    → entries ≡ row_entries mask.store.now.cols (content_of mask.store.now) i → OnOk r (HasRow op i (kept_terms (keeps_among mask.test 0 width entries i) terms) old new) → OnOk r (HasRow op i (kept_terms (lets_by (Some mask) i) terms) old new)
+pub row_kept : (r : Result (Unit {0}) NoMemory) (mask : StoredMask) (i width : ℕ) (op : BinaryOp) (terms : List Term)
+    (old new : FiberLists) (entries : List Entry) → mask.store.now.cols ≡ width → All (λ t. t.col < width) terms
+    → entries ≡ row_entries mask.store.now.cols (content_of mask.store.now) i
+    → OnOk r (HasRow op i (kept_terms (keeps_among mask.test 0 width entries i) terms) old new)
+    → OnOk r (HasRow op i (kept_terms (lets_by (Some mask) i) terms) old new)
 row_kept (Err e) mask i width op terms old new entries same below is here = tt
 row_kept (Ok u) mask i width op terms old new entries same below is here =
     subst (λ ts. HasRow op i ts old new)
@@ -390,5 +428,6 @@ row_kept (Ok u) mask i width op terms old new entries same below is here =
     rw (low, high, word) refl)) here
 
 -- the columns of a row of a store rise
-pub row_rises : (store : Stored) (i : ℕ) (cols words : List ℕ) → length words ≡ length cols → entries_along i cols words ≡ row_entries store.cols (content_of store) i → AllPairs (λ p q. p < q) cols
+pub row_rises : (store : Stored) (i : ℕ) (cols words : List ℕ) → length words ≡ length cols
+    → entries_along i cols words ≡ row_entries store.cols (content_of store) i → AllPairs (λ p q. p < q) cols
 row_rises store i cols words same is = cols_rise i cols words same (subst InOrder (sym is) (columns_rise (content_of store) i store.cols 0))

@@ -28,14 +28,16 @@ pub record AreLeftFrom (b : Stored) (low past : ℕ) (rest : List Entry) : Type 
 abbrev pub AreEmpty : Stored → ℕ → ℕ → Type 0
 AreEmpty b low past = (i : ℕ) → low ≤ i → i < past → row_entries b.cols (content_of b) i ≡ []
 
-pub left_all : (b : Stored) (first past : ℕ) → AreLeftFrom b first past (entries_between first past b.cols (content_of b))
+pub left_all : (b : Stored) (first past : ℕ)
+    → AreLeftFrom b first past (entries_between first past b.cols (content_of b))
 left_all b first past = record {
   within = All-weaker (λ e. ((first ≤ e.row) × (e.row < past)) × (e.col < b.cols)) (λ e. (first ≤ e.row) × (e.row < past)) (λ e p. p.0) (entries_between first past b.cols (content_of b)) (entries_between-inside first past b.cols (content_of b));
   rows = λ i low high. entries_between-row first past b.cols (content_of b) i low high;
 }
 
 -- where nothing is left, the rows have no entries
-pub left_none : (b : Stored) (low past : ℕ) (rest : List Entry) → AreLeftFrom b low past rest → rest ≡ [] → AreEmpty b low past
+pub left_none : (b : Stored) (low past : ℕ) (rest : List Entry) → AreLeftFrom b low past rest → rest ≡ []
+    → AreEmpty b low past
 left_none b low past rest here none i above below = sym (here.rows i above below) ∙ rw none refl
 
 -- the first row that is left
@@ -46,7 +48,9 @@ pub record IsNextRow (b : Stored) (low past index : ℕ) (cols words : List ℕ)
   pub entries : entries_along index cols words ≡ row_entries b.cols (content_of b) index
   pub others_left : AreLeftFrom b (index + 1) past others
 
-pub next_row : (b : Stored) (low past index : ℕ) (cols words : List ℕ) (rest others : List Entry) → AreLeftFrom b low past rest → IsFirstRow index cols words rest others → IsNextRow b low past index cols words others
+pub next_row : (b : Stored) (low past index : ℕ) (cols words : List ℕ) (rest others : List Entry)
+    → AreLeftFrom b low past rest → IsFirstRow index cols words rest others
+    → IsNextRow b low past index cols words others
 next_row b low past index cols words rest others here starts =
     let row = entries_along index cols words in
     let range = first_row_has (λ i. (low ≤ i) × (i < past)) index cols words rest others starts here.within in
@@ -68,7 +72,8 @@ next_row b low past index cols words rest others here starts =
     }
 
 -- entries whose rows of B are empty give no terms
-pub terms_gap : (op : BinaryOp) (b : Stored) (index : ℕ) (cols words : List ℕ) (p n : ℕ) → length words ≡ length cols → AreConsecutive cols → p + n ≤ length cols → AreEmpty b (get_or cols 0 0 + p) (get_or cols 0 0 + (p + n))
+pub terms_gap : (op : BinaryOp) (b : Stored) (index : ℕ) (cols words : List ℕ) (p n : ℕ) → length words ≡ length cols
+    → AreConsecutive cols → p + n ≤ length cols → AreEmpty b (get_or cols 0 0 + p) (get_or cols 0 0 + (p + n))
     → terms_of_row op (take (p + n) (entries_along index cols words)) b ≡ terms_of_row op (take p (entries_along index cols words)) b
 terms_gap op b index cols words p zero same steps within empty = let none : p + 0 ≡ p = omega arith in rw none refl
 terms_gap op b index cols words p (suc n) same steps within empty =
@@ -80,7 +85,9 @@ terms_gap op b index cols words p (suc n) same steps within empty =
     rw next (more ∙ append-nil (terms_of_row op (take k (entries_along index cols words)) b) ∙ terms_gap op b index cols words p n same steps (omega arith) (λ i low high. empty i low (omega arith)))
 
 -- a row of B more
-pub walk_more : (op : BinaryOp) (b : Stored) (index : ℕ) (cols words : List ℕ) (p line : ℕ) (line_cols line_words : List ℕ) (others : List Entry) → length words ≡ length cols → AreConsecutive cols → p ≤ length cols
+pub walk_more : (op : BinaryOp) (b : Stored) (index : ℕ) (cols words : List ℕ) (p line : ℕ)
+    (line_cols line_words : List ℕ) (others : List Entry) → length words ≡ length cols → AreConsecutive cols
+    → p ≤ length cols
     → IsNextRow b (get_or cols 0 0 + p) (get_or cols 0 0 + length cols) line line_cols line_words others
     → terms_of_row op (take (line - get_or cols 0 0 + 1) (entries_along index cols words)) b
     ≡ terms_of_row op (take p (entries_along index cols words)) b ++ times_row op (get_or words (line - get_or cols 0 0) 0) (entries_along 0 line_cols line_words)
@@ -96,8 +103,10 @@ walk_more op b index cols words p line line_cols line_words others same steps le
     more ∙ ap (λ ts. ts ++ times_row op (get_or words k 0) (entries_along 0 line_cols line_words)) (ap (λ q. terms_of_row op (take q (entries_along index cols words)) b) (sym parts) ∙ gap)
 
 -- where no row of B is left, the terms are those of all entries
-pub walk_all : (op : BinaryOp) (b : Stored) (index : ℕ) (cols words : List ℕ) (p : ℕ) (rest : List Entry) → length words ≡ length cols → AreConsecutive cols → p ≤ length cols
-    → AreLeftFrom b (get_or cols 0 0 + p) (get_or cols 0 0 + length cols) rest → rest ≡ [] → terms_of_row op (take p (entries_along index cols words)) b ≡ terms_of_row op (entries_along index cols words) b
+pub walk_all : (op : BinaryOp) (b : Stored) (index : ℕ) (cols words : List ℕ) (p : ℕ) (rest : List Entry)
+    → length words ≡ length cols → AreConsecutive cols → p ≤ length cols
+    → AreLeftFrom b (get_or cols 0 0 + p) (get_or cols 0 0 + length cols) rest → rest ≡ []
+    → terms_of_row op (take p (entries_along index cols words)) b ≡ terms_of_row op (entries_along index cols words) b
 walk_all op b index cols words p rest same steps le here none =
     let n = length cols - p in
     let whole : p + n ≡ length cols = omega arith in
@@ -113,19 +122,25 @@ pub record AreWalked (semiring : Semiring) (b : Stored) (index : ℕ) (cols word
   pub left : AreLeftFrom b (get_or cols 0 0 + done) (get_or cols 0 0 + length cols) rest
   pub sums_are : AreMarkedSums semiring.add (terms_of_row semiring.multiply (take done (entries_along index cols words)) b) marks sums
 
-pub walked_none : (semiring : Semiring) (b : Stored) (index : ℕ) (cols words : List ℕ) (marks : List Bool) (sums : List ℕ) (rest : List Entry) → rest ≡ entries_between (get_or cols 0 0) (get_or cols 0 0 + length cols) b.cols (content_of b)
+pub walked_none : (semiring : Semiring) (b : Stored) (index : ℕ) (cols words : List ℕ) (marks : List Bool)
+    (sums : List ℕ) (rest : List Entry) → rest ≡ entries_between (get_or cols 0 0)
+    (get_or cols 0 0 + length cols) b.cols (content_of b)
     → AreMarkedSums semiring.add [] marks sums → AreWalked semiring b index cols words marks sums rest
 walked_none semiring b index cols words marks sums rest is here =
     let none : get_or cols 0 0 + 0 ≡ get_or cols 0 0 = omega arith in
     record { done = 0; le = omega arith; left = rw (none, is) (left_all b (get_or cols 0 0) (get_or cols 0 0 + length cols)); sums_are = here }
 
-pub walked_next : (semiring : Semiring) (b : Stored) (index : ℕ) (cols words : List ℕ) (marks : List Bool) (sums : List ℕ) (rest : List Entry) (line : ℕ) (line_cols line_words : List ℕ) (others : List Entry) → AreWalked semiring b index cols words marks sums rest → IsFirstRow line line_cols line_words rest others
+pub walked_next : (semiring : Semiring) (b : Stored) (index : ℕ) (cols words : List ℕ) (marks : List Bool)
+    (sums : List ℕ) (rest : List Entry) (line : ℕ) (line_cols line_words : List ℕ) (others : List Entry)
+    → AreWalked semiring b index cols words marks sums rest → IsFirstRow line line_cols line_words rest others
     → (get_or cols 0 0 ≤ line) × (line < get_or cols 0 0 + length cols) × (entries_along line line_cols line_words ≡ row_entries b.cols (content_of b) line)
 walked_next semiring b index cols words marks sums rest line line_cols line_words others here starts =
     let next = next_row b (get_or cols 0 0 + here.done) (get_or cols 0 0 + length cols) line line_cols line_words rest others here.left starts in
     (omega (arith, next.above), next.below, next.entries)
 
-pub walked_more : (semiring : Semiring) (b : Stored) (index : ℕ) (cols words : List ℕ) (marks : List Bool) (sums : List ℕ) (rest : List Entry) (line : ℕ) (line_cols line_words : List ℕ) (others : List Entry) (marks' : List Bool) (sums' : List ℕ) → length words ≡ length cols → AreConsecutive cols
+pub walked_more : (semiring : Semiring) (b : Stored) (index : ℕ) (cols words : List ℕ) (marks : List Bool)
+    (sums : List ℕ) (rest : List Entry) (line : ℕ) (line_cols line_words : List ℕ) (others : List Entry)
+    (marks' : List Bool) (sums' : List ℕ) → length words ≡ length cols → AreConsecutive cols
     → AreWalked semiring b index cols words marks sums rest → IsFirstRow line line_cols line_words rest others
     → ((terms : List Term) → AreMarkedSums semiring.add terms marks sums → AreMarkedSums semiring.add (terms ++ times_row semiring.multiply (get_or words (line - get_or cols 0 0) 0) (entries_along 0 line_cols line_words)) marks' sums')
     → AreWalked semiring b index cols words marks' sums' others
@@ -141,7 +156,9 @@ walked_more semiring b index cols words marks sums rest line line_cols line_word
       sums_are = subst (λ ts. AreMarkedSums semiring.add ts marks' sums') (sym more) (add (terms_of_row semiring.multiply (take here.done (entries_along index cols words)) b) here.sums_are);
     }
 
-pub walked_all : (semiring : Semiring) (b : Stored) (index : ℕ) (cols words : List ℕ) (marks : List Bool) (sums : List ℕ) (rest : List Entry) → length words ≡ length cols → AreConsecutive cols → AreWalked semiring b index cols words marks sums rest → rest ≡ []
+pub walked_all : (semiring : Semiring) (b : Stored) (index : ℕ) (cols words : List ℕ) (marks : List Bool)
+    (sums : List ℕ) (rest : List Entry) → length words ≡ length cols → AreConsecutive cols
+    → AreWalked semiring b index cols words marks sums rest → rest ≡ []
     → AreMarkedSums semiring.add (terms_of_row semiring.multiply (entries_along index cols words) b) marks sums
 walked_all semiring b index cols words marks sums rest same steps here none =
     subst (λ ts. AreMarkedSums semiring.add ts marks sums) (walk_all semiring.multiply b index cols words here.done rest same steps here.le here.left none) here.sums_are

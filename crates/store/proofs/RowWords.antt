@@ -19,12 +19,14 @@ no_column false b h = refl
 eqb_no : (a b : ℕ) → eqb a b ≡ false → a ≢ b
 eqb_no a b other same = absurd (false≢true (sym other ∙ eq-eqb a b same))
 
-one_there : (i j : ℕ) (e : Entry) (rest : List Entry) (o : Option ℕ) → e ∷ rest ≡ option_to_list (option_map (entry_at i j) o) → o ≡ Some e.word
+one_there : (i j : ℕ) (e : Entry) (rest : List Entry) (o : Option ℕ)
+    → e ∷ rest ≡ option_to_list (option_map (entry_at i j) o) → o ≡ Some e.word
 one_there i j e rest None is = absurd (let no = ap length is in omega (arith, no))
 one_there i j e rest (Some w) is = sym (ap (λ (es : List Entry). Some (get_or es 0 (entry_at 0 0 0)).word) is)
 
 -- of entries of one row, the word at a column is that of the entry there
-word_in_column : (i j : ℕ) (es : List Entry) (o : Option ℕ) → All (λ e. e.row ≡ i) es → filter (λ e. eqb e.col j) es ≡ option_to_list (option_map (entry_at i j) o) → word_at es i j ≡ o
+word_in_column : (i j : ℕ) (es : List Entry) (o : Option ℕ) → All (λ e. e.row ≡ i) es
+    → filter (λ e. eqb e.col j) es ≡ option_to_list (option_map (entry_at i j) o) → word_at es i j ≡ o
 unfolding word_at
 word_in_column i j [] None row is = refl
 word_in_column i j [] (Some w) row is = absurd (let no = ap length is in omega (arith, no))
@@ -38,7 +40,8 @@ word_in_column i j (e ∷ es) o row is = elim (cases_Bool (eqb e.col j)) [
 ]
 
 -- the words of some columns of a map's row are those of its entries there
-pub columns_words : (c : Content) (i j n first : ℕ) → word_at (filter_map (λ k. option_map (entry_at i k) (c i k)) (count_from first n)) i j ≡ cond (leb first j && ltb j (first + n)) (c i j) None
+pub columns_words : (c : Content) (i j n first : ℕ)
+    → word_at (filter_map (λ k. option_map (entry_at i k) (c i k)) (count_from first n)) i j ≡ cond (leb first j && ltb j (first + n)) (c i j) None
 columns_words c i j n first =
     let es = filter_map (λ k. option_map (entry_at i k) (c i k)) (count_from first n) in
     word_in_column i j es (cond (leb first j && ltb j (first + n)) (c i j) None)
@@ -46,11 +49,13 @@ columns_words c i j n first =
     (one_column c i j n first)
 
 -- the words of a map's row are those of its entries
-pub word_at-row_entries : (cols : ℕ) (c : Content) (i j : ℕ) → word_at (row_entries cols c i) i j ≡ cond (ltb j cols) (c i j) None
+pub word_at-row_entries : (cols : ℕ) (c : Content) (i j : ℕ)
+    → word_at (row_entries cols c i) i j ≡ cond (ltb j cols) (c i j) None
 word_at-row_entries cols c i j = let same : (leb 0 j && ltb j (0 + cols)) ≡ ltb j cols = grind (arith, nat_tests) in rw same at (columns_words c i j cols 0)
 
 -- the entries of a row in some columns are in order
-pub columns_rise : (c : Content) (i n first : ℕ) → InOrder (filter_map (λ k. option_map (entry_at i k) (c i k)) (count_from first n))
+pub columns_rise : (c : Content) (i n first : ℕ)
+    → InOrder (filter_map (λ k. option_map (entry_at i k) (c i k)) (count_from first n))
 unfolding count_from
 columns_rise c i zero first = all_pairs_nil Precedes
 columns_rise c i (suc n) first =

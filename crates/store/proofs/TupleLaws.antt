@@ -38,10 +38,13 @@ ends_with ends count row end = take count ends ++ end_at row end ∷ []
 
 pub record IsOneMore (all ends : List FiberEnd) (inner words : List ℕ) (e : Entry) : Type 0 where
   pub flat : AreFlat all (inner ++ e.col ∷ []) (words ++ e.word ∷ [])
-  pub entries : entries_from 0 all (inner ++ e.col ∷ []) (words ++ e.word ∷ []) ≡ entries_from 0 ends inner words ++ e ∷ []
+  pub entries : entries_from 0 all (inner ++ e.col ∷ [])
+      (words ++ e.word ∷ []) ≡ entries_from 0 ends inner words ++ e ∷ []
 
-attached : (ends : List FiberEnd) (inner words : List ℕ) (e : Entry) (count : ℕ) → AreFlat ends inner words → All (λ f. Precedes f e) (entries_from 0 ends inner words) → AreOthers ends (end_at e.row 1 ∷ []) count
-    → IsAttached (ends_with ends count e.row (1 + length inner)) ends (end_at e.row 1 ∷ []) inner words (e.col ∷ []) (e.word ∷ [])
+attached : (ends : List FiberEnd) (inner words : List ℕ) (e : Entry) (count : ℕ) → AreFlat ends inner words
+    → All (λ f. Precedes f e) (entries_from 0 ends inner words) → AreOthers ends (end_at e.row 1 ∷ []) count
+    → IsAttached (ends_with ends count e.row (1 + length inner)) ends (end_at e.row 1 ∷ []) inner words (e.col ∷ [])
+    (e.word ∷ [])
 attached ends inner words e count flat before others =
     let part = end_at e.row 1 ∷ [] in
     let from = length inner in
@@ -53,7 +56,8 @@ attached ends inner words e count flat before others =
     let made = attach_part ends part count from (inner ++ e.col ∷ []) (words ++ e.word ∷ []) (rw (cut, cut') flat) (rw (left, left') (one_entry e)) (rw (cut, cut', left, left', its_entries e) (before_one e (entries_from 0 ends inner words) before)) others in
     rw (cut, cut', left, left') at made
 
-pub one_more : (ends : List FiberEnd) (inner words : List ℕ) (e : Entry) (count : ℕ) → AreFlat ends inner words → All (λ f. Precedes f e) (entries_from 0 ends inner words) → AreOthers ends (end_at e.row 1 ∷ []) count
+pub one_more : (ends : List FiberEnd) (inner words : List ℕ) (e : Entry) (count : ℕ) → AreFlat ends inner words
+    → All (λ f. Precedes f e) (entries_from 0 ends inner words) → AreOthers ends (end_at e.row 1 ∷ []) count
     → IsOneMore (ends_with ends count e.row (length inner + 1)) ends inner words e
 one_more ends inner words e count flat before others =
     let made = attached ends inner words e count flat before others in
@@ -74,7 +78,8 @@ last_there es e h =
     elim at [ inl less ↦ absurd (omega arith) | inr same ↦ absurd (let less = same.1 in omega arith) ]
 
 -- what isn't in order isn't with one entry more, and an entry that doesn't go on from others isn't in order behind them
-pub listed_more : (es list : List Entry) (e : Entry) → (0 < length list → InOrder (es ++ list) → ⊥) → (length list ≡ 0 → All (λ f. Precedes f e) es → ⊥) → InOrder (es ++ (list ++ e ∷ [])) → ⊥
+pub listed_more : (es list : List Entry) (e : Entry) → (0 < length list → InOrder (es ++ list) → ⊥)
+    → (length list ≡ 0 → All (λ f. Precedes f e) es → ⊥) → InOrder (es ++ (list ++ e ∷ [])) → ⊥
 listed_more es list e other first order =
     let all : InOrder ((es ++ list) ++ e ∷ []) = rw (append_assoc es list (e ∷ [])) order in
     elim (cases_eq (length list) 0) [

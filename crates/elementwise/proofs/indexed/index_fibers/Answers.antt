@@ -10,7 +10,8 @@ use Rattle.elementwise.proofs.indexed.index_fibers.Goals.{In_ok-words}
 pub answers-requires : goal.answers-requires
 answers-requires c = rw (c.deref.ensures.value, c.deref-2.ensures.value, c.words.ensures) c.in_ok-ends.ensures.flat
 
-entries_made : (c : In_ok-words) → entries_from 0 c.in_ok-ends.ends.items c.in_ok-ends.inner.items c.in_ok-words.words.items ≡ mapped (as_they_lie c.args.is_column (answer_by c.args.op c.args.s)) (entries_from 0 c.in_ok-ends.ends.items c.in_ok-ends.inner.items (map (λ (e : Entry). e.word) c.args.fibers.now.entries))
+entries_made : (c : In_ok-words)
+    → entries_from 0 c.in_ok-ends.ends.items c.in_ok-ends.inner.items c.in_ok-words.words.items ≡ mapped (as_they_lie c.args.is_column (answer_by c.args.op c.args.s)) (entries_from 0 c.in_ok-ends.ends.items c.in_ok-ends.inner.items (map (λ (e : Entry). e.word) c.args.fibers.now.entries))
 entries_made c = rw (c.deref.ensures.value, c.deref-2.ensures.value, c.words.ensures) at c.in_ok-words.ensures.entries
 
 pub returns-clause-flat : goal.returns-clause-flat

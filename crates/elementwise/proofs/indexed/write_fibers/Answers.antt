@@ -9,7 +9,8 @@ use Rattle.elementwise.proofs.indexed.write_fibers.Goals.{In-loop-at}
 pub loop-at-init : goal.loop-at-init
 loop-at-init c = answered_none (as_they_lie c.args.is_column (answer_by c.args.op c.args.s)) c.args.ends.now c.args.inner.now c.args.words.now c.requires
 
-next : (c : In-loop-at) → IsNext c.loop-at.start (get_or c.args.ends.now c.loop-at.at (end_at 0 0)).end (length c.args.inner.now)
+next : (c : In-loop-at)
+    → IsNext c.loop-at.start (get_or c.args.ends.now c.loop-at.at (end_at 0 0)).end (length c.args.inner.now)
 next c =
     let s = c.loop-at in
     let ends = c.args.ends.now in

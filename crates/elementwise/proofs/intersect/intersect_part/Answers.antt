@@ -9,7 +9,8 @@ use Rattle.elementwise.proofs.Meets.{part_met}
 use Rattle.elementwise.proofs.intersect.intersect_part.Goals as goal
 use Rattle.elementwise.proofs.intersect.intersect_part.Goals.{After-fibers_in-2}
 
-left_in : (c : After-fibers_in-2) → AreIn c.args.range.start c.args.range.end c.args.a.now.cols (along c.args.a.now.cols c.fibers_in.result.entries)
+left_in : (c : After-fibers_in-2)
+    → AreIn c.args.range.start c.args.range.end c.args.a.now.cols (along c.args.a.now.cols c.fibers_in.result.entries)
 left_in c = rw c.fibers_in.ensures.entries (entries_between-inside c.args.range.start c.args.range.end c.args.a.now.cols (content_of c.args.a.now))
 
 pub intersect_fibers-requires-clause-before : goal.intersect_fibers-requires-clause-before

@@ -8,7 +8,8 @@ use Rattle.elementwise.proofs.MappedLaws.{flat-mapped, placed-mapped}
 use Rattle.elementwise.proofs.mapping.map_fibers.Goals as goal
 use Rattle.elementwise.proofs.mapping.map_fibers.Goals.{In_ok-words}
 
-words_are : (c : In_ok-words) → c.in_ok-words.words.items ≡ map (word_made c.args.function) (map (λ (e : Entry). e.word) c.args.fibers.now.entries)
+words_are : (c : In_ok-words) → c.in_ok-words.words.items ≡ map (word_made c.args.function)
+    (map (λ (e : Entry). e.word) c.args.fibers.now.entries)
 words_are c = c.in_ok-words.ensures ∙ ap (map (word_made c.args.function)) c.words.ensures
 
 pub returns-clause-flat : goal.returns-clause-flat

@@ -18,7 +18,9 @@ loop-at-init c =
     }
 
 -- where the fiber that is read next ends
-next : (c : In-loop-at) (r : FiberEnd) → r ≡ get_or (c.args.fibers.now.head ∷ c.args.fibers.now.others.now) c.loop-at.at r → IsNextPart c.args.fibers.now.from c.loop-at.start r.end (length c.args.fibers.now.inner.now)
+next : (c : In-loop-at) (r : FiberEnd)
+    → r ≡ get_or (c.args.fibers.now.head ∷ c.args.fibers.now.others.now) c.loop-at.at r
+    → IsNextPart c.args.fibers.now.from c.loop-at.start r.end (length c.args.fibers.now.inner.now)
 next c r is =
     let f = c.args.fibers.now in
     let s = c.loop-at in

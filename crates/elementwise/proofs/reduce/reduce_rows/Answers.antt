@@ -16,7 +16,8 @@ use Rattle.elementwise.proofs.reduce.reduce_rows.Goals as goal
 use Rattle.elementwise.proofs.reduce.reduce_rows.Goals.{After-cols}
 
 -- the entries of the range are in it
-in_range : (c : After-cols) → AreIn c.args.range.start c.args.range.end c.args.a.now.cols (along c.args.a.now.cols c.fibers_in-fibers.result.entries)
+in_range : (c : After-cols)
+    → AreIn c.args.range.start c.args.range.end c.args.a.now.cols (along c.args.a.now.cols c.fibers_in-fibers.result.entries)
 in_range c =
     let a = c.args.a.now in
     rw c.fibers_in-fibers.ensures.entries (entries_between-inside c.args.range.start c.args.range.end a.cols (content_of a))

@@ -32,7 +32,8 @@ returns-then-is_empty-clause-sums c i j =
     let is : row_sum c.args.monoid i c.args.fibers.now.entries ≡ nothing = ap (row_sum c.args.monoid i) (c.flat-flat.ensures.entries ∙ no_lines f.from (f.head ∷ f.others.now) f.inner.now f.words.now none) in
     ap (λ es. word_at (transposed es) i j) (none_made (search rules)) ∙ rw is (elim (eqb j 0) as (λ b. nothing ≡ cond b nothing nothing) [ true ↦ refl | false ↦ refl ])
 
-made : (c : In_ok-close) → IsSumColumn c.args.monoid c.args.fibers.now.entries c.close.new.self.ends.items c.close.new.self.inner.items c.close.new.self.words.items
+made : (c : In_ok-close)
+    → IsSumColumn c.args.monoid c.args.fibers.now.entries c.close.new.self.ends.items c.close.new.self.inner.items c.close.new.self.words.items
 made c =
     let f = c.flat-flat.result in
     let left = c.flat-flat.ensures.left in

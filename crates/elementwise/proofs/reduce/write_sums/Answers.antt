@@ -16,7 +16,8 @@ loop-at-init c =
       summed = summed_none c.args.monoid.kind c.args.monoid.op.domain f.from (f.head ∷ f.others.now) f.words.now c.args.rows.now c.args.sums.now (left.rises c.requires.some) (omega arith);
     }
 
-next : (c : After-fiber-outer) → IsNextSum c.args.fibers.now.from c.loop-at.start c.fiber-outer.result.end (length c.args.fibers.now.words.now)
+next : (c : After-fiber-outer)
+    → IsNextSum c.args.fibers.now.from c.loop-at.start c.fiber-outer.result.end (length c.args.fibers.now.words.now)
 next c =
     let f = c.args.fibers.now in
     let s = c.loop-at in

@@ -18,7 +18,8 @@ use Rattle.store.specs.Stored.{Stored}
 use Rattle.kernel.proofs.computing.step_rows.Goals as goal
 
 -- the step, where the positions are known too
-known_positions : (recipe : Recipe) (positions known : Positions) (op : BinaryOp) → recipe.step ≡ Combine positions op → positions ≡ known → recipe.step ≡ Combine known op
+known_positions : (recipe : Recipe) (positions known : Positions) (op : BinaryOp) → recipe.step ≡ Combine positions op
+    → positions ≡ known → recipe.step ≡ Combine known op
 known_positions recipe positions known op is same = is ∙ ap (λ (p : Positions). Combine p op) same
 
 pub multiplied_rows-requires-clause-factors : goal.multiplied_rows-requires-clause-factors

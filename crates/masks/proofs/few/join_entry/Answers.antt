@@ -5,7 +5,8 @@ use Rattle.masks.proofs.few.join_entry.Goals as goal
 use Rattle.masks.proofs.few.join_entry.Goals.{In_ok-push, else-at-left-via-then-at-left+else-left-at, else-at-left-via-else-at-left}
 
 -- behind the run
-run : (c : In_ok-push) → IsJoinSoFar c.args.by c.args.left.inner.now c.args.left.words.now c.args.right.inner.now c.args.right.words.now c.place_from-at.result c.args.k c.append_run.new.lists.inner.items c.append_run.new.lists.words.items
+run : (c : In_ok-push)
+    → IsJoinSoFar c.args.by c.args.left.inner.now c.args.left.words.now c.args.right.inner.now c.args.right.words.now c.place_from-at.result c.args.k c.append_run.new.lists.inner.items c.append_run.new.lists.words.items
 run c =
     let left = c.args.left.inner.now in
     let right = c.args.right.inner.now in

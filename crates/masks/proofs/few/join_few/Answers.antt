@@ -12,7 +12,8 @@ loop-k-init c = rw (c.in_ok-lists.ensures.inner, c.in_ok-lists.ensures.words) (r
 })
 
 -- the whole of both sides is joined
-made : (c : After-shrink_to_fit) → AreFlat c.shrink_to_fit.new.self.ends.items c.shrink_to_fit.new.self.inner.items c.shrink_to_fit.new.self.words.items
+made : (c : After-shrink_to_fit)
+    → AreFlat c.shrink_to_fit.new.self.ends.items c.shrink_to_fit.new.self.inner.items c.shrink_to_fit.new.self.words.items
     × IsJoin c.args.by (entries_along c.args.pair.outer c.args.pair.left.inner.now c.args.pair.left.words.now) (entries_along c.args.pair.outer c.args.pair.right.inner.now c.args.pair.right.words.now) (entries_in c.shrink_to_fit.new.self)
 made c =
     let left = c.args.pair.left.inner.now in

@@ -7,7 +7,8 @@ use Rattle.masks.proofs.FullLaws.{closed_full}
 use Rattle.masks.proofs.full.join_into.Goals as goal
 use Rattle.masks.proofs.full.join_into.Goals.{After-drop-joined-2}
 
-made : (c : After-drop-joined-2) → AreFlat c.close.new.self.ends.items c.close.new.self.inner.items c.close.new.self.words.items
+made : (c : After-drop-joined-2)
+    → AreFlat c.close.new.self.ends.items c.close.new.self.inner.items c.close.new.self.words.items
     × IsJoinBy (both_beside c.args.side c.args.by) (entries_along c.args.outer c.args.full.inner.now c.args.full.words.now) (entries_along c.args.outer c.args.other.inner.now c.args.other.words.now) (entries_in c.close.new.self)
 made c =
     let full = c.args.full.inner.now in

@@ -34,7 +34,8 @@ returns-then-are_alike c =
     c.join_alike.ensures.flat c.join_alike.ensures.entries
 
 -- the rows of a pair's join
-of_pair : (c : After-full_side) (r : Result FiberLists NoMemory) → IfOk r (λ lists. AreFlat lists.ends.items lists.inner.items lists.words.items)
+of_pair : (c : After-full_side) (r : Result FiberLists NoMemory)
+    → IfOk r (λ lists. AreFlat lists.ends.items lists.inner.items lists.words.items)
     → IfOk r (λ lists. IsJoin c.args.by (entries_along c.in-Some.pair.outer c.in-Some.pair.left.inner.now c.in-Some.pair.left.words.now)
     (entries_along c.in-Some.pair.outer c.in-Some.pair.right.inner.now c.in-Some.pair.right.words.now) (entries_in lists))
     → IfOk r (HasRows (joined c.args.by (content_of c.args.left.now) (content_of c.args.right.now)) c.args.range.start c.args.range.end c.args.left.now.cols)

@@ -9,10 +9,12 @@ use Rattle.masks.proofs.Joins.{part_joined}
 use Rattle.masks.proofs.join.join_part.Goals as goal
 use Rattle.masks.proofs.join.join_part.Goals.{After-fibers_in-2}
 
-left_in : (c : After-fibers_in-2) → AreIn c.args.range.start c.args.range.end c.args.left.now.cols (along c.args.left.now.cols c.fibers_in.result.entries)
+left_in : (c : After-fibers_in-2)
+    → AreIn c.args.range.start c.args.range.end c.args.left.now.cols (along c.args.left.now.cols c.fibers_in.result.entries)
 left_in c = rw c.fibers_in.ensures.entries (entries_between-inside c.args.range.start c.args.range.end c.args.left.now.cols (content_of c.args.left.now))
 
-right_in : (c : After-fibers_in-2) → AreIn c.args.range.start c.args.range.end c.args.left.now.cols (along c.args.left.now.cols c.fibers_in-2.result.entries)
+right_in : (c : After-fibers_in-2)
+    → AreIn c.args.range.start c.args.range.end c.args.left.now.cols (along c.args.left.now.cols c.fibers_in-2.result.entries)
 right_in c = rw c.requires.cols (rw c.fibers_in-2.ensures.entries (entries_between-inside c.args.range.start c.args.range.end c.args.right.now.cols (content_of c.args.right.now)))
 
 pub join_fibers-requires-clause-left : goal.join_fibers-requires-clause-left

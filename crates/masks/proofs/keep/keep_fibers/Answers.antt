@@ -16,7 +16,8 @@ loop-at-init c = record {
   keeping = keeping_none c.args.test c.args.stored.entries c.args.ends.now c.args.inner.now c.args.words.now c.requires;
 }
 
-next : (c : In-loop-at) → IsNext c.loop-at.ends c.loop-at.inner c.loop-at.at c.loop-at.start (get_or c.loop-at.ends c.loop-at.at (end_at 0 0)).outer (get_or c.loop-at.ends c.loop-at.at (end_at 0 0)).end
+next : (c : In-loop-at)
+    → IsNext c.loop-at.ends c.loop-at.inner c.loop-at.at c.loop-at.start (get_or c.loop-at.ends c.loop-at.at (end_at 0 0)).outer (get_or c.loop-at.ends c.loop-at.at (end_at 0 0)).end
 next c =
     let s = c.loop-at in
     let within = c.loop-at-test.true in

@@ -8,7 +8,8 @@ use Rattle.masks.proofs.Keeps.{all_before}
 use Rattle.masks.proofs.keep.place_from.Goals as goal
 use Rattle.masks.proofs.keep.place_from.Goals.{After-partition_point}
 
-pointed : (c : After-partition_point) → IsPartitionPoint (λ x. ltb x c.args.index ≡ true) (λ x. ltb x c.args.index ≡ false) (drop c.args.from c.args.inner.now) c.partition_point.result
+pointed : (c : After-partition_point) → IsPartitionPoint (λ x. ltb x c.args.index ≡ true)
+    (λ x. ltb x c.args.index ≡ false) (drop c.args.from c.args.inner.now) c.partition_point.result
 pointed c =
     let xs = c.args.inner.now in
     let index = c.args.index in

@@ -36,7 +36,8 @@ returns-clause-merged c =
     let b_in = here.b_in in
     along_all c.args.left.now c.args.left_words.now c.args.right.now c.args.right_words.now c.loop-i-2.i s.j s.k s.inner s.lefts s.rights s.sides here c.requires.left_words c.requires.right_words s.invariant.left_done c.loop-j-test.false (omega arith)
 
-chosen : (c : goal.After-from-in-loop-i-3) → ((get_or c.args.left.now c.loop-i.i 0 < get_or c.args.right.now c.loop-i.j 0) × (c.if-p-q.inner ≡ get_or c.args.left.now c.loop-i.i 0)) ⊎ ((get_or c.args.right.now c.loop-i.j 0 ≤ get_or c.args.left.now c.loop-i.i 0) × (c.if-p-q.inner ≡ get_or c.args.right.now c.loop-i.j 0))
+chosen : (c : goal.After-from-in-loop-i-3)
+    → ((get_or c.args.left.now c.loop-i.i 0 < get_or c.args.right.now c.loop-i.j 0) × (c.if-p-q.inner ≡ get_or c.args.left.now c.loop-i.i 0)) ⊎ ((get_or c.args.right.now c.loop-i.j 0 ≤ get_or c.args.left.now c.loop-i.i 0) × (c.if-p-q.inner ≡ get_or c.args.right.now c.loop-i.j 0))
 chosen c =
     elim c.if-p-q.branch [
       | then-p-q w ↦ inl (w.if-p-q.true, w.inner-is)

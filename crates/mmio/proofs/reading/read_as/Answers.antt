@@ -10,7 +10,8 @@ use Rattle.mmio.proofs.ListingLaws.{matrix_listed-is}
 use Rattle.mmio.proofs.reading.read_as.Goals as goal
 
 -- a fault of the entries is one of the matrix
-no_matrix : (h : Heading) (file : List ℕ) (entries : Result (List Entry) Misread) (fault : MmFault) → located file entries ≡ Err fault → located file (matrix_of h entries) ≡ Err fault
+no_matrix : (h : Heading) (file : List ℕ) (entries : Result (List Entry) Misread) (fault : MmFault)
+    → located file entries ≡ Err fault → located file (matrix_of h entries) ≡ Err fault
 no_matrix h file (Ok listed) fault is = absurd (cc)
 no_matrix h file (Err wrong) fault is = cc
 

@@ -26,7 +26,8 @@ fill_rows-requires-clause-rows c = rw c.deref-2.ensures.value (c.in_ok-rows.ensu
 pub fill_rows-requires-clause-cols : goal.fill_rows-requires-clause-cols
 fill_rows-requires-clause-cols c = rw c.deref-3.ensures.value (c.in_ok-cols.ensures c.args.shape.1 (omega arith)).rising
 
-made : (c : goal.In_ok-lists-2) → IsMade (spread c.in_ok-rows.rows.items c.in_ok-cols.cols.items c.args.word) c.args.range.start c.args.range.end c.args.shape.1 c.in_ok-lists-2.lists
+made : (c : goal.In_ok-lists-2)
+    → IsMade (spread c.in_ok-rows.rows.items c.in_ok-cols.cols.items c.args.word) c.args.range.start c.args.range.end c.args.shape.1 c.in_ok-lists-2.lists
 made c =
     let rows = c.in_ok-rows.ensures c.args.shape.0 c.requires.end in
     let cols = c.in_ok-cols.ensures c.args.shape.1 (omega arith) in

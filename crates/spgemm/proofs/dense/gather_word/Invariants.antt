@@ -9,8 +9,10 @@ invariant-loop-left l = record {
   p : ℕ;
   are_left : AreLeft l.bits l.left p;
   ends : l.lists.ends ≡ l.initial.lists.ends;
-  inner : l.lists.inner.items ≡ l.initial.lists.inner.items ++ map (λ s. s.col) (found (word_by l.bits l.base l.words) l.base p);
-  words : l.lists.words.items ≡ l.initial.lists.words.items ++ map (λ s. s.word) (found (word_by l.bits l.base l.words) l.base p);
+  inner : l.lists.inner.items ≡ l.initial.lists.inner.items ++ map (λ s. s.col)
+      (found (word_by l.bits l.base l.words) l.base p);
+  words : l.lists.words.items ≡ l.initial.lists.words.items ++ map (λ s. s.word)
+      (found (word_by l.bits l.base l.words) l.base p);
   inner_room : vec_len l.lists.inner + (64 - p) ≤ vec_capacity l.lists.inner;
   words_room : vec_len l.lists.words + (64 - p) ≤ vec_capacity l.lists.words;
 }

@@ -13,12 +13,16 @@ use Rattle.spgemm.proofs.Rows.{open_of}
 use Rattle.spgemm.proofs.row.sum_collected.Goals as goal
 
 -- where no entry is left, the terms are those of the row
-all_terms : (op : BinaryOp) (index : ℕ) (cols words : List ℕ) (b : Stored) (terms : List Term) (done : ℕ) → length words ≡ length cols → length cols ≤ done → AreFirstTerms op (entries_along index cols words) b terms done → terms ≡ terms_of_row op (entries_along index cols words) b
+all_terms : (op : BinaryOp) (index : ℕ) (cols words : List ℕ) (b : Stored) (terms : List Term) (done : ℕ)
+    → length words ≡ length cols → length cols ≤ done → AreFirstTerms op (entries_along index cols words) b terms done
+    → terms ≡ terms_of_row op (entries_along index cols words) b
 all_terms op index cols words b terms done same past first =
     let long = length_row index cols words same in
     first.are_those ∙ ap (λ row. terms_of_row op row b) (take_all done (entries_along index cols words) (omega arith))
 
-below_cols : (op : BinaryOp) (index : ℕ) (cols words : List ℕ) (b : Stored) (terms : List Term) (done : ℕ) → length words ≡ length cols → length cols ≤ done → AreFirstTerms op (entries_along index cols words) b terms done → All (λ t. t.col < b.cols) terms
+below_cols : (op : BinaryOp) (index : ℕ) (cols words : List ℕ) (b : Stored) (terms : List Term) (done : ℕ)
+    → length words ≡ length cols → length cols ≤ done → AreFirstTerms op (entries_along index cols words) b terms done
+    → All (λ t. t.col < b.cols) terms
 below_cols op index cols words b terms done same past first =
     subst (All (λ t. t.col < b.cols)) (sym (all_terms op index cols words b terms done same past first)) (terms_inside op (entries_along index cols words) b)
 

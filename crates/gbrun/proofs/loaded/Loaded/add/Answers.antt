@@ -8,8 +8,10 @@ use Rattle.std.proofs.lemmas.Slice.Eq.{bytes_eq-Decides}
 use Rattle.gbrun.specs.Known.{IsFile}
 use Rattle.gbrun.proofs.loaded.Loaded.add.Goals as goal
 
-held_more : {T : Type 0} (items : T → List ℕ) (content : List ℕ → Option (List ℕ)) (key name : List ℕ) (bytes : Option T) (before now : Option (Option T))
-    → now ≡ cond (bytes_eq key name) (Some bytes) before → IsFile (content key) (option_map items bytes) → IsFile (content name) (option_and_then (λ b. option_map items b) before)
+held_more : {T : Type 0} (items : T → List ℕ) (content : List ℕ → Option (List ℕ)) (key name : List ℕ)
+    (bytes : Option T) (before now : Option (Option T))
+    → now ≡ cond (bytes_eq key name) (Some bytes) before → IsFile (content key) (option_map items bytes)
+    → IsFile (content name) (option_and_then (λ b. option_map items b) before)
     → IsFile (content name) (option_and_then (λ b. option_map items b) now)
 held_more items content key name bytes before now is new old = elim (cases_Bool (bytes_eq key name)) [
   | inl same ↦
@@ -22,7 +24,8 @@ mapped_is_some : {T U : Type 0} (f : T → U) (o : Option T) → is_some (option
 mapped_is_some f None = refl
 mapped_is_some f (Some t) = refl
 
-tried_more : {T : Type 0} (items : T → List ℕ) (readable : List ℕ → Type 0) (key name : List ℕ) (bytes : Option T) (before now : Option (Option T))
+tried_more : {T : Type 0} (items : T → List ℕ) (readable : List ℕ → Type 0) (key name : List ℕ) (bytes : Option T)
+    (before now : Option (Option T))
     → now ≡ cond (bytes_eq key name) (Some bytes) before → (readable key → is_some bytes ≡ true)
     → (is_some before ≡ true → readable name → is_some (option_and_then (λ b. option_map items b) before) ≡ true)
     → is_some now ≡ true → readable name → is_some (option_and_then (λ b. option_map items b) now) ≡ true

@@ -24,11 +24,13 @@ unfolding readings_of
 this_or_later rest line others name cut loaded =
     first_or_later (λ reading. file_named reading ≡ Some name) (reading_of line) (readings_of others) (rw cut at loaded)
 
-one_name : (file : Option (Bor (List ℕ))) (named : Bor (List ℕ)) (name : List ℕ) (said : Option (List ℕ)) → option_map (λ n. n.now) file ≡ said → file ≡ Some named → said ≡ Some name
+one_name : (file : Option (Bor (List ℕ))) (named : Bor (List ℕ)) (name : List ℕ) (said : Option (List ℕ))
+    → option_map (λ n. n.now) file ≡ said → file ≡ Some named → said ≡ Some name
     → named.now ≡ name
 one_name file named name said is some this = let both : Some named.now ≡ Some name = rw some at (is ∙ this) in cc
 
-no_name : (file : Option (Bor (List ℕ))) (name : List ℕ) (said : Option (List ℕ)) → option_map (λ n. n.now) file ≡ said → file ≡ None → said ≡ Some name → ⊥
+no_name : (file : Option (Bor (List ℕ))) (name : List ℕ) (said : Option (List ℕ)) → option_map (λ n. n.now) file ≡ said
+    → file ≡ None → said ≡ Some name → ⊥
 no_name file name said is none this = let both : None ≡ Some name = rw none at (is ∙ this) in absurd (cc)
 
 pub loop-rest-preserved-in_ok-add : goal.loop-rest-preserved-in_ok-add

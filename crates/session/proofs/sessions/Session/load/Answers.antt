@@ -15,7 +15,8 @@ use Rattle.session.proofs.SessionLaws.{not_there, number_left}
 use Rattle.session.proofs.sessions.Session.load.Goals as goal
 
 -- what a store holds that was made of a matrix
-read_object : (domain : Domain) (m : Matrix) (content : Content) → ((i j : ℕ) → content i j ≡ gathered (Some (sum_in_file domain)) m.entries i j)
+read_object : (domain : Domain) (m : Matrix) (content : Content)
+    → ((i j : ℕ) → content i j ≡ gathered (Some (sum_in_file domain)) m.entries i j)
     → (let o : Object = record { domain = domain; shape = Two m.rows m.cols; content = content } in o ≡ object_read domain m)
 read_object domain m content is = objects_equal _ (object_read domain m) refl refl is
 
