@@ -174,18 +174,14 @@ there_first (Some o) rest h = refl
 all_there : (count : ℕ) (call : Call (Option Signature) Bool) → early_fault count call ≡ None → are_there call ≡ true
 unfolding early_fault
 all_there count call h =
-    not_false (are_there call) (passed (call_fails count call) status.UninitializedObject (status.NameTaken ∷ [])
-    (status.WrongKind ∷ status.NoFile ∷ status.BadFile ∷ status.NotImplemented ∷ status.DomainMismatch ∷ status.DimensionMismatch ∷ status.InvalidIndex
-    ∷ status.IndexOutOfBounds ∷ status.InvalidValue ∷ []) h)
+    not_false (are_there call) (passed (call_fails count call) 1 status.UninitializedObject refl h)
 
 -- ..and a new name isn't taken
 untaken : (count : ℕ) (call : Call (Option Signature) Bool) → early_fault count call ≡ None
     → call_fails count call status.NameTaken ≡ false
 unfolding early_fault
 untaken count call h =
-    passed (call_fails count call) status.NameTaken []
-    (status.UninitializedObject ∷ status.WrongKind ∷ status.NoFile ∷ status.BadFile ∷ status.NotImplemented ∷ status.DomainMismatch ∷ status.DimensionMismatch
-    ∷ status.InvalidIndex ∷ status.IndexOutOfBounds ∷ status.InvalidValue ∷ []) h
+    passed (call_fails count call) 0 status.NameTaken refl h
 
 -- a call as its tests see it
 abbrev known : Environment Name → Call Name Name → Call (Option Signature) Bool

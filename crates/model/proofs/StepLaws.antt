@@ -1,6 +1,6 @@
 -- Every step keeps all objects well formed: their words are of their domains, at positions inside their shapes.
 use Rattle.std.proofs.Common.{take, drop, ◌≡◌, ◌∙◌, ℕ, ◌+◌, Bool, true, false, cond, not, [], ◌∷◌, ◌++◌, Option, Some, None, is_some, refl, sym, ap}
-use Rattle.std.specs.List.{All, find, list_all}
+use Rattle.std.specs.List.{All, list_all}
 use Rattle.std.specs.Option.{option_map, option_map_or}
 use Rattle.std.specs.Str.{bytes_eq}
 use Rattle.std.proofs.lemmas.List.Elements.{All-cons, All-nil}
@@ -166,8 +166,7 @@ accepted-test env call n s in_order same accepted =
     let seen = renamed (option_map signature_of) (λ taken. taken) (seen env call) in
     let fails = call_fails env.count seen in
     sym (test-found env call s) ∙ sym same
-    ∙ passed fails s (take n order) (drop (n + 1) order)
-    (sym (ap (λ statuses. find fails statuses) in_order) ∙ no_early (early_fault env.count seen)
+    ∙ passed fails n s in_order (no_early (early_fault env.count seen)
     (late_fault (renamed found_object (λ taken. taken) (renamed env.find_object (λ name. is_some (env.find_object name)) call))) accepted)
 
 -- where no test fails, none of the later ones does

@@ -14,7 +14,7 @@ use Rattle.model.specs.declared.call.Operation.TheVariants.{Fill, OfOne, OfTwo}
 use Rattle.model.specs.declared.shape.Signature.{Signature}
 use Rattle.model.specs.declared.status.Status.TheVariants as status
 use Rattle.model.specs.Builds.{are_inside}
-use Rattle.model.specs.Entries.{entries_of, word_at}
+use Rattle.model.specs.Entries.{entries_of}
 use Rattle.model.specs.Fault.{fault_of, found_object}
 use Rattle.model.specs.Grammar.{Name}
 use Rattle.model.specs.Object.{Content, IsWithin, Object, cols_of, is_inside, no_content, rows_of}
@@ -29,7 +29,7 @@ use Rattle.model.proofs.WriteBackLaws.{not_false}
 use Rattle.plain.specs.declared.environment.PlainEnvironment.{PlainEnvironment}
 use Rattle.plain.specs.declared.objects.PlainObject.{PlainObject}
 use Rattle.plain.specs.Environments.{content_made, count_after, environment_of, find_in, known_as, made, with_name}
-use Rattle.plain.specs.Evaluated.{object_of}
+use Rattle.plain.specs.Evaluated.{listed_word, object_of}
 use Rattle.plain.proofs.GridLaws.{listed-cut}
 
 -- ---- the objects of an environment keep inside their shapes
@@ -39,7 +39,7 @@ kept_within inside v outside = rw outside refl
 
 found_inside : (o : Option PlainObject) → KeepsInside (found_object (option_map object_of o))
 found_inside None i j outside = refl
-found_inside (Some o) i j outside = kept_within (nat_lt i (rows_of o.shape) && nat_lt j (cols_of o.shape)) (word_at o.entries.items i j) outside
+found_inside (Some o) i j outside = kept_within (nat_lt i (rows_of o.shape) && nat_lt j (cols_of o.shape)) (listed_word o.entries.items i j) outside
 
 module _ (plain : PlainEnvironment) where
   abbrev pub env : Environment Name

@@ -1,15 +1,20 @@
 -- What the plain evaluator's objects and lines stand for.
-use Rattle.std.specs.Prelude.{ℕ, ◌&&◌, nat_lt, Bool, true, if◌then◌else◌, List, map, Option, Some, None, Vec}
-use Rattle.std.specs.Option.{option_map_or}
+use Rattle.std.specs.Prelude.{ℕ, ◌&&◌, ◌==◌, nat_lt, Bool, true, if◌then◌else◌, List, map, Option, Some, None, Vec}
+use Rattle.std.specs.List.{find}
+use Rattle.std.specs.Option.{option_map, option_map_or}
 use Rattle.algebra.specs.Operators.{offers}
 use Rattle.algebra.specs.declared.operator_names.OpName.{OpName}
 use Rattle.model.specs.declared.call.Form.{Form}
 use Rattle.model.specs.declared.call.Form.TheVariants.{MatrixMatrix, MatrixVector, VectorMatrix}
-use Rattle.model.specs.Entries.{word_at}
+use Rattle.model.specs.declared.entry.Entry.{Entry}
 use Rattle.model.specs.Object.{Content, Object, cols_of, rows_of, transposed_content, transposed_object}
 use Rattle.model.specs.Table.{transposed_if}
 use Rattle.plain.specs.declared.objects.PlainObject.{PlainObject}
 use Rattle.plain.specs.declared.inputs.Input.{Input}
+
+-- the first word that is listed for each position
+abbrev pub listed_word : List Entry → Content
+listed_word es = λ i j. option_map (λ e. e.word) (find (λ e. (i == e.row) && (j == e.col)) es)
 
 -- what a map has inside a shape of so many rows and columns
 abbrev pub within : ℕ → ℕ → Content → Content
@@ -20,7 +25,7 @@ abbrev pub object_of : PlainObject → Object
 object_of o = record {
   domain = o.domain;
   shape = o.shape;
-  content = within (rows_of o.shape) (cols_of o.shape) (word_at o.entries.items);
+  content = within (rows_of o.shape) (cols_of o.shape) (listed_word o.entries.items);
 }
 
 -- ..and one that is lent, as it is read
@@ -28,7 +33,7 @@ abbrev pub input_of : Input → Object
 input_of input = transposed_if transposed_object input.is_transposed (record {
   domain = input.domain;
   shape = input.kept_shape;
-  content = within (rows_of input.kept_shape) (cols_of input.kept_shape) (word_at input.entries.now);
+  content = within (rows_of input.kept_shape) (cols_of input.kept_shape) (listed_word input.entries.now);
 })
 
 -- the lines of an answer

@@ -5,7 +5,8 @@ ghost use Rattle.plain.specs.Environments.{environment_of, fault_in, named};
 ghost use Rattle.plain.specs.Evaluated.{lines_of};
 
 use crate::environment::PlainEnvironment;
-use crate::text::{canonical_lines, count_lines, sum_lines, value_lines};
+use crate::sums::sum_of_all;
+use crate::text::{canonical_lines, count_text, one_line, value_text};
 use model::{Call, Status};
 use std::alloc::{AllocError, Global};
 
@@ -30,14 +31,24 @@ impl PlainEnvironment {
             lines_of lines ≡ data_lines_of (on_objects (environment_of self.now) (named call.now))) }
     {
         match call {
-            Call::Get { object, place } => value_lines(alloc, self.object(object), *place),
-            Call::Nvals { object } => count_lines(alloc, self.object(object)),
+            Call::Get { object, place } => {
+                let object = self.object(object);
+                match object.word(place.row(), place.col()) {
+                    Some(word) => one_line(
+                        alloc,
+                        value_text(alloc, object.signature().domain, word)?,
+                    ),
+                    None => Ok(Vec::new(alloc)),
+                }
+            }
+            Call::Nvals { object } => one_line(alloc, count_text(alloc, self.object(object))?),
             Call::Print { object } => canonical_lines(alloc, self.object(object)),
             Call::Reduce { object, monoid } => {
                 let Some(monoid) = monoid.resolve() else {
                     unreachable!()
                 };
-                sum_lines(alloc, monoid, self.object(object))
+                let sum = sum_of_all(monoid, self.object(object));
+                one_line(alloc, value_text(alloc, monoid.op.domain, sum)?)
             }
             _ => Ok(Vec::new(alloc)),
         }

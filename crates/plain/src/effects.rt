@@ -80,10 +80,22 @@ impl PlainEnvironment {
                 name,
                 domain,
                 shape,
-            } => Some((name, Signature { domain: *domain, shape: *shape })),
+            } => Some((
+                name,
+                Signature {
+                    domain: *domain,
+                    shape: *shape,
+                },
+            )),
             Call::Dup { name, object } => Some((name, self.signature(object))),
             Call::Resize { object, shape } => {
-                Some((object, Signature { domain: self.signature(object).domain, shape: *shape }))
+                Some((
+                    object,
+                    Signature {
+                        domain: self.signature(object).domain,
+                        shape: *shape,
+                    },
+                ))
             }
             Call::Clear { object }
             | Call::Build { object, .. }

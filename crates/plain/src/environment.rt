@@ -5,17 +5,16 @@ ghost use Rattle.std.specs.Str.{bytes_eq};
 ghost use Rattle.std.specs.String.{string_bytes};
 ghost use Rattle.std.specs.Vec.{vec_capacity, vec_len};
 ghost use Rattle.model.specs.Object.{signature_of, transposed_object};
-ghost use Rattle.model.specs.Renamed.{renamed_out};
 ghost use Rattle.model.specs.Run.{no_objects, step, with_object};
 ghost use Rattle.model.specs.Table.{transposed_if};
-ghost use Rattle.plain.specs.Environments.{answer_of, effect_in, environment_of, find_in, named, object_in, out_in};
+ghost use Rattle.plain.specs.Environments.{answer_of, effect_in, environment_of, find_in, named, object_in};
 ghost use Rattle.plain.specs.Evaluated.{input_of, object_of};
 
 use crate::answers::PlainAnswer;
 use crate::inputs::Input;
 use crate::objects::PlainObject;
 use algebra::Domain;
-use model::{Call, Out, Shape, Signature, Status};
+use model::{Call, Shape, Signature, Status};
 use std::alloc::{AllocError, Global};
 
 /// The objects of a run, and how many there are. Each call is done as the definition of `step` says, with
@@ -81,22 +80,6 @@ impl PlainEnvironment {
         self.object(name).signature()
     }
 
-    /// An output on the objects that its names stand for.
-    pub(crate) fn output(&self, out: &Out<&str>) -> Out<Input<'_>>
-        ensures { renamed_out input_of result ≡ out_in self.now out.now }
-    {
-        let mask = match out.mask {
-            Some(mask) => Some(self.object(mask)),
-            None => None,
-        };
-        Out {
-            c: self.object(out.c),
-            mask,
-            accum: out.accum,
-            desc: out.desc,
-        }
-    }
-
     /// Puts an object in the place of those of its name, and counts the objects anew. An error leaves them
     /// as they were.
     pub(crate) fn put(&mut self, object: PlainObject, live: u64) -> Result<(), AllocError>
@@ -155,8 +138,7 @@ impl PlainEnvironment {
 
 /// Takes the objects of a name off a list.
 fn take_off(objects: &mut Vec<PlainObject>, name: &str)
-    ensures left {
-        objects.new.items ≡ filter (λ o. not (bytes_eq (string_bytes o.name) name.now)) objects.old.items }
+    ensures left { objects.new.items ≡ filter (λ o. not (bytes_eq (string_bytes o.name) name.now)) objects.old.items }
     ensures len { vec_len objects.new ≤ vec_len objects.old }
     ensures capacity { vec_capacity objects.new ≡ vec_capacity objects.old }
 {

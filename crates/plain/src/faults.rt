@@ -203,7 +203,7 @@ impl PlainEnvironment {
         ensures { result ≡ operation_fails (renamed_out signature_of (out_in self.now out.now))
             (renamed_operation signature_of (operation_in self.now operation.now)) status }
     {
-        let out = known(&self.output(out));
+        let out = self.known(out);
         let plan = self.plan(out.c, out.desc, operation);
         match status {
             Status::NotImplemented => !self.is_implemented(&out, operation),
@@ -211,9 +211,7 @@ impl PlainEnvironment {
                 !plan.kinds || !plan.shape.is_like(out.c.shape) || !out.mask_is_of_kind()
             }
             Status::DomainMismatch => {
-                !out.mask_serves()
-                    || !plan.compatible
-                    || !compatible(plan.domain, out.c.domain)
+                !out.mask_serves() || !plan.compatible || !compatible(plan.domain, out.c.domain)
             }
             Status::DimensionMismatch => {
                 !out.mask_fits() || !plan.shape.is_same(out.c.shape) || !plan.fits
@@ -221,6 +219,22 @@ impl PlainEnvironment {
             Status::IndexOutOfBounds => !plan.inside,
             Status::InvalidValue => !plan.values,
             _ => false,
+        }
+    }
+
+    /// What is known of the objects of an output.
+    fn known(&self, out: &Out<&str>) -> Out<Signature>
+        ensures { result ≡ renamed_out signature_of (out_in self.now out.now) }
+    {
+        let mask = match out.mask {
+            Some(mask) => Some(self.signature(mask)),
+            None => None,
+        };
+        Out {
+            c: self.signature(out.c),
+            mask,
+            accum: out.accum,
+            desc: out.desc,
         }
     }
 
@@ -251,30 +265,22 @@ impl PlainEnvironment {
         match call {
             Call::Get { object, place } => {
                 let word = self.object(object).word(place.row(), place.col());
-                Ok(if word.is_none() { Some(Status::NoValue) } else { None })
+                Ok(if word.is_none() {
+                    Some(Status::NoValue)
+                } else {
+                    None
+                })
             }
             Call::Build { object, .. } => {
                 let has_entries = has_entries(alloc, self.object(object))?;
-                Ok(if has_entries { Some(Status::OutputNotEmpty) } else { None })
+                Ok(if has_entries {
+                    Some(Status::OutputNotEmpty)
+                } else {
+                    None
+                })
             }
             _ => Ok(None),
         }
-    }
-}
-
-/// What is known of the objects of an output.
-fn known(out: &Out<Input<'_>>) -> Out<Signature>
-    ensures { result ≡ renamed_out signature_of (renamed_out input_of out.now) }
-{
-    let mask = match out.mask {
-        Some(mask) => Some(mask.signature()),
-        None => None,
-    };
-    Out {
-        c: out.c.signature(),
-        mask,
-        accum: out.accum,
-        desc: out.desc,
     }
 }
 

@@ -1,6 +1,8 @@
 //! Walks over the positions of a shape, row by row.
-ghost use Rattle.std.specs.Prelude.{◌≡◌, ◌++◌, IfOk, OnOk};
-ghost use Rattle.model.specs.Entries.{entries_of, row_entries};
+ghost use Rattle.std.specs.Prelude.{◌≡◌, ◌++◌, [], IfOk, OnOk};
+ghost use Rattle.std.specs.List.{cons_option};
+ghost use Rattle.std.specs.Option.{option_map};
+ghost use Rattle.model.specs.Entries.{entries_of, entry_at, row_entries};
 ghost use Rattle.model.specs.Object.{Content, cols_of, rows_of};
 
 use model::{Entry, Shape};
@@ -43,9 +45,17 @@ fn push_row<M: Mapping>(
     ensures { OnOk result (out.new.items ≡ out.old.items ++ row_entries cols (M.content mapping.now) row) }
 {
     for col in 0..cols {
-        if let Some(word) = mapping.at(row, col) {
-            out.push(Entry { row, col, word })?;
-        }
+        push_word(out, row, col, mapping.at(row, col))?;
+    }
+    Ok(())
+}
+
+/// Appends the entry of a word at a position, where there is one.
+fn push_word(out: &mut Vec<Entry>, row: u64, col: u64, word: Option<u64>) -> Result<(), AllocError>
+    ensures { OnOk result (out.new.items ≡ out.old.items ++ cons_option (option_map (entry_at row col) word) []) }
+{
+    if let Some(word) = word {
+        out.push(Entry { row, col, word })?;
     }
     Ok(())
 }

@@ -1,9 +1,8 @@
 //! Objects as they are read.
 ghost use Rattle.std.specs.Prelude.{◌≡◌};
 ghost use Rattle.algebra.specs.Value.{cast_of};
-ghost use Rattle.model.specs.Entries.{word_at};
 ghost use Rattle.model.specs.Object.{in_domain, signature_of};
-ghost use Rattle.plain.specs.Evaluated.{input_of};
+ghost use Rattle.plain.specs.Evaluated.{input_of, listed_word};
 
 use crate::grid::Mapping;
 use algebra::{Domain, cast};
@@ -83,12 +82,10 @@ impl Mapping for Input<'_> {
 
 /// The word of the first entry at a position.
 fn first_word(entries: &[Entry], row: u64, col: u64) -> Option<u64>
-    ensures { result ≡ word_at entries.now row col }
+    ensures { result ≡ listed_word entries.now row col }
 {
-    for entry in entries {
-        if row == entry.row && col == entry.col {
-            return Some(entry.word);
-        }
-    }
-    None
+    let entry = entries
+        .iter()
+        .find(|entry| row == entry.row && col == entry.col);
+    entry.map(|entry| entry.word)
 }

@@ -3,7 +3,6 @@ ghost use Rattle.std.specs.Prelude.{◌≡◌, true};
 ghost use Rattle.std.specs.Option.{option_map};
 ghost use Rattle.algebra.specs.Operators.{offers};
 ghost use Rattle.algebra.specs.Value.{cast_of};
-ghost use Rattle.model.specs.Renamed.{renamed_out};
 ghost use Rattle.model.specs.WriteBack.{accumulated, accumulated_by, has_position, mask_set, result_of};
 ghost use Rattle.plain.specs.Environments.{are_operators, landed_in, operation_in, out_in};
 ghost use Rattle.plain.specs.Evaluated.{accumulator_offered, input_of};
@@ -27,13 +26,12 @@ impl PlainEnvironment {
         requires { are_operators out.now operation.now ≡ true }
         ensures { result ≡ result_of (out_in self.now out.now) (operation_in self.now operation.now) row col }
     {
-        let out = self.output(out);
-        if is_in_mask_set(&out, row, col) {
-            self.landed_at(&out, operation, row, col)
+        if self.is_in_mask_set(out, row, col) {
+            self.landed_at(out, operation, row, col)
         } else if out.desc.replace {
             None
         } else {
-            out.c.word(row, col)
+            self.object(out.c).word(row, col)
         }
     }
 
@@ -41,22 +39,33 @@ impl PlainEnvironment {
     /// operation writes.
     fn landed_at(
         &self,
-        out: &Out<Input<'_>>,
+        out: &Out<&str>,
         operation: &Operation<&str>,
         row: u64,
         col: u64,
     ) -> Option<u64>
         requires { are_operators out.now operation.now ≡ true }
-        ensures { result ≡ landed_in (renamed_out input_of out.now) (operation_in self.now operation.now) row col }
+        ensures { result ≡ landed_in (out_in self.now out.now) (operation_in self.now operation.now) row col }
     {
-        let old = out.c.word(row, col);
-        let c = out.c.signature();
+        let c = self.signature(out.c);
+        let old = self.object(out.c).word(row, col);
         if !is_written(c.shape, operation, row, col) {
             return old;
         }
         let value = self.value_at(c, out.desc, operation, row, col);
         let domain = self.plan(c, out.desc, operation).domain;
         accumulated_by(out.accum, old, in_domain(domain, c.domain, value))
+    }
+
+    /// Whether a position is in the mask set.
+    fn is_in_mask_set(&self, out: &Out<&str>, row: u64, col: u64) -> bool
+        ensures { result ≡ mask_set (out_in self.now out.now) row col }
+    {
+        let is_in = match out.mask {
+            Some(mask) => has_position(out.desc, self.object(mask), row, col),
+            None => true,
+        };
+        is_in != out.desc.complement
     }
 }
 
@@ -68,17 +77,6 @@ const fn in_domain(from: Domain, to: Domain, word: Option<u64>) -> Option<u64>
         Some(word) => Some(cast(word, from, to)),
         None => None,
     }
-}
-
-/// Whether a position is in the mask set.
-fn is_in_mask_set(out: &Out<Input<'_>>, row: u64, col: u64) -> bool
-    ensures { result ≡ mask_set (renamed_out input_of out.now) row col }
-{
-    let is_in = match out.mask {
-        Some(mask) => has_position(out.desc, mask, row, col),
-        None => true,
-    };
-    is_in != out.desc.complement
 }
 
 /// Whether a mask has a position.
