@@ -28,7 +28,8 @@ counted first (suc n) =
 all_below : (n : ℕ) → All (λ k. k < n) (below n)
 all_below n = All-weaker (λ k. k < 0 + n) (λ k. k < n) (λ k low. omega arith) (below n) (counted 0 n)
 
-row-listed : (domain : Domain) (rows cols : ℕ) (c : Content) (i : ℕ) (ks : List ℕ) → AreWordsOf domain c → i < rows → All (λ k. k < cols) ks
+row-listed : (domain : Domain) (rows cols : ℕ) (c : Content) (i : ℕ) (ks : List ℕ) → AreWordsOf domain c → i < rows
+    → All (λ k. k < cols) ks
     → All (IsListed domain rows cols) (filter_map (λ k. option_map (entry_at i k) (c i k)) ks)
 row-listed domain rows cols c i [] words low all = All-nil (IsListed domain rows cols)
 row-listed domain rows cols c i (k ∷ ks) words low all =
@@ -41,7 +42,8 @@ row-listed domain rows cols c i (k ∷ ks) words low all =
     ] in
     found (c i k) refl
 
-rows-listed : (domain : Domain) (rows cols : ℕ) (c : Content) (is : List ℕ) → AreWordsOf domain c → All (λ i. i < rows) is → All (IsListed domain rows cols) (flat_map (row_entries cols c) is)
+rows-listed : (domain : Domain) (rows cols : ℕ) (c : Content) (is : List ℕ) → AreWordsOf domain c
+    → All (λ i. i < rows) is → All (IsListed domain rows cols) (flat_map (row_entries cols c) is)
 rows-listed domain rows cols c [] words all = All-nil (IsListed domain rows cols)
 rows-listed domain rows cols c (i ∷ is) words all =
     All-append (IsListed domain rows cols) (row_entries cols c i) (flat_map (row_entries cols c) is)
@@ -49,7 +51,8 @@ rows-listed domain rows cols c (i ∷ is) words all =
     (rows-listed domain rows cols c is words (All-tail (λ i. i < rows) i is all))
 
 -- each lies inside, with a word of the domain
-pub entries_of-listed : (domain : Domain) (rows cols : ℕ) (c : Content) → AreWordsOf domain c → All (IsListed domain rows cols) (entries_of rows cols c)
+pub entries_of-listed : (domain : Domain) (rows cols : ℕ) (c : Content) → AreWordsOf domain c
+    → All (IsListed domain rows cols) (entries_of rows cols c)
 unfolding entries_of
 entries_of-listed domain rows cols c words = rows-listed domain rows cols c (below rows) words (all_below rows)
 
@@ -121,7 +124,8 @@ words_at-rows cols c i j (suc n) first =
     ]
 
 -- ..and all inside a shape
-pub words_at-entries_of : (rows cols : ℕ) (c : Content) (i j : ℕ) → words_at (entries_of rows cols c) i j ≡ cond (nat_lt i rows && nat_lt j cols) (option_to_list (c i j)) []
+pub words_at-entries_of : (rows cols : ℕ) (c : Content) (i j : ℕ)
+    → words_at (entries_of rows cols c) i j ≡ cond (nat_lt i rows && nat_lt j cols) (option_to_list (c i j)) []
 unfolding entries_of
 words_at-entries_of rows cols c i j =
     let same : ((nat_le 0 i && nat_lt i (0 + rows)) && nat_lt j cols) ≡ (nat_lt i rows && nat_lt j cols) = grind (arith, nat_tests) in
@@ -136,6 +140,7 @@ within-option true o outside = refl
 within-option false o outside = rw (outside refl) refl
 
 -- the entries of a map make this map, whatever joins the words of one position
-pub gathered-entries_of : (dup : Option OpName) (rows cols : ℕ) (c : Content) → IsWithin rows cols c → (i j : ℕ) → gathered dup (entries_of rows cols c) i j ≡ c i j
+pub gathered-entries_of : (dup : Option OpName) (rows cols : ℕ) (c : Content) → IsWithin rows cols c → (i j : ℕ)
+    → gathered dup (entries_of rows cols c) i j ≡ c i j
 gathered-entries_of dup rows cols c within i j =
     ap (joined_all dup) (words_at-entries_of rows cols c i j ∙ within-option (nat_lt i rows && nat_lt j cols) (c i j) (within i j)) ∙ joined_all-option dup (c i j)

@@ -48,7 +48,8 @@ module _ (plain : PlainEnvironment) where
   inside : (name : Name) → KeepsInside (object_at env name)
   inside name = found_inside (find_in plain.objects.items name)
 
-  inputs_inside : (operation : Operation Name) → All KeepsInside (inputs_of (renamed_operation (object_at env) operation))
+  inputs_inside : (operation : Operation Name)
+      → All KeepsInside (inputs_of (renamed_operation (object_at env) operation))
   inputs_inside (Fill value region) = All-nil KeepsInside
   inputs_inside (OfOne computes a) = All-cons KeepsInside (object_at env a) [] (inside a) (All-nil KeepsInside)
   inputs_inside (OfTwo computes a b) =
@@ -67,7 +68,8 @@ module _ (plain : PlainEnvironment) where
   abbrev IsCut : Call Name Name → Name × Object → Type 0
   IsCut call m = (i j : ℕ) → m.1.content i j ≡ cut_to (rows_of m.1.shape) (cols_of m.1.shape) (content_made (on_objects env call)) i j
 
-  made-cut : (call : Call Name Name) → fault_of env.count (seen env call) ≡ None → MatchOption (made env call) Unit (IsCut call)
+  made-cut : (call : Call Name Name) → fault_of env.count (seen env call) ≡ None
+      → MatchOption (made env call) Unit (IsCut call)
   made-cut (Create name domain shape) accepted = whole (rows_of shape) (cols_of shape) no_content (λ i j outside. refl)
   made-cut (Dup name object) accepted =
       let o = object_at env object in whole (rows_of o.shape) (cols_of o.shape) o.content (inside object)
@@ -100,7 +102,8 @@ module _ (plain : PlainEnvironment) where
 
   named_object : (o : PlainObject) (c : Content) (m : Option (Name × Object))
       → MatchOption m Unit (λ m. (i j : ℕ) → m.1.content i j ≡ cut_to (rows_of m.1.shape) (cols_of m.1.shape) c i j)
-      → Some (known_as (with_name o)) ≡ option_map known_as m → o.entries.items ≡ entries_of (rows_of o.shape) (cols_of o.shape) c → Some (with_name o) ≡ m
+      → Some (known_as (with_name o)) ≡ option_map known_as m
+      → o.entries.items ≡ entries_of (rows_of o.shape) (cols_of o.shape) c → Some (with_name o) ≡ m
   named_object o c None cut is lists = absurd (cc)
   named_object o c (Some m) cut is lists =
       let known : known_as (with_name o) ≡ known_as m = cc in
@@ -121,7 +124,8 @@ module _ (plain : PlainEnvironment) where
 
   -- a call that frees nothing leaves what it makes in the place of its name
   effect-made : (call : Call Name Name) → ((name : Name) → call ≡ Free name → ⊥)
-      → effect bytes_eq env call ≡ option_map_or (λ m. with_object bytes_eq env m.0 m.1 (count_after call env.count)) (made env call) env
+      → effect bytes_eq env call ≡ option_map_or (λ m. with_object bytes_eq env m.0 m.1 (count_after call env.count))
+      (made env call) env
   unfolding effect
   effect-made (Create name domain shape) stays = refl
   effect-made (Dup name object) stays = refl
@@ -137,7 +141,8 @@ module _ (plain : PlainEnvironment) where
   effect-made (Print name) stays = refl
   effect-made (Reduce name monoid) stays = refl
 
-  pub effect-is : (call : Call Name Name) (m : Option (Name × Object)) → ((name : Name) → call ≡ Free name → ⊥) → m ≡ made env call
+  pub effect-is : (call : Call Name Name) (m : Option (Name × Object)) → ((name : Name) → call ≡ Free name → ⊥)
+      → m ≡ made env call
       → option_map_or (λ m. with_object bytes_eq env m.0 m.1 (count_after call env.count)) m env ≡ effect bytes_eq env call
   effect-is call m stays is =
       ap (λ (m : Option (Name × Object)). option_map_or (λ m. with_object bytes_eq env m.0 m.1 (count_after call env.count)) m env) is ∙ sym (effect-made call stays)

@@ -20,14 +20,16 @@ abbrev has_name : Name → PlainObject → Bool
 has_name name o = bytes_eq (string_bytes o.name) name
 
 -- the same objects are the same environment
-pub environment-kept : (old new : PlainEnvironment) → new.objects.items ≡ old.objects.items → new.live ≡ old.live → environment_of new ≡ environment_of old
+pub environment-kept : (old new : PlainEnvironment) → new.objects.items ≡ old.objects.items → new.live ≡ old.live
+    → environment_of new ≡ environment_of old
 environment-kept old new same count =
     environments_equal (environment_of new) (environment_of old)
     (λ name. ap (λ (os : List PlainObject). option_map object_of (find_in os name)) same)
     count
 
 -- an object of one name doesn't have another
-other_name : (name other : Name) (x : PlainObject) → has_name name x ≡ false → has_name other x ≡ true → bytes_eq name other ≡ false
+other_name : (name other : Name) (x : PlainObject) → has_name name x ≡ false → has_name other x ≡ true
+    → bytes_eq name other ≡ false
 other_name name other x elsewhere here = elim (cases_Bool (bytes_eq name other)) [
   | inl same ↦
       let is : name ≡ other = (bytes_eq-Decides name other).0 same in
@@ -39,7 +41,8 @@ other_name name other x elsewhere here = elim (cases_Bool (bytes_eq name other))
 
 -- the first object of another name among those that have not one name
 found_among : (name other : Name) (xs : List PlainObject)
-    → find (has_name other) (filter (λ o. not (has_name name o)) xs) ≡ cond (bytes_eq name other) None (find (has_name other) xs)
+    → find (has_name other)
+    (filter (λ o. not (has_name name o)) xs) ≡ cond (bytes_eq name other) None (find (has_name other) xs)
 found_among name other [] = elim (cases_Bool (bytes_eq name other)) [ inl same ↦ rw same refl | inr apart ↦ rw apart refl ]
 found_among name other (x ∷ xs) = elim (cases_Bool (has_name name x)) [
   | inl here ↦
@@ -57,12 +60,14 @@ found_among name other (x ∷ xs) = elim (cases_Bool (has_name name x)) [
       rw elsewhere (chosen (has_name other x) (bytes_eq name other) _ (find (has_name other) xs) (other_name name other x elsewhere) (found_among name other xs))
 ]
 
-option_map-none : {A B : Type 0} (f : A → B) (test : Bool) (o : Option A) → option_map f (cond test None o) ≡ cond test None (option_map f o)
+option_map-none : {A B : Type 0} (f : A → B) (test : Bool) (o : Option A)
+    → option_map f (cond test None o) ≡ cond test None (option_map f o)
 option_map-none f true o = refl
 option_map-none f false o = refl
 
 -- those of other names are left
-pub environment-freed : (old new : PlainEnvironment) (name : Name) → new.objects.items ≡ filter (λ o. not (has_name name o)) old.objects.items → new.live ≡ old.live - 1
+pub environment-freed : (old new : PlainEnvironment) (name : Name)
+    → new.objects.items ≡ filter (λ o. not (has_name name o)) old.objects.items → new.live ≡ old.live - 1
     → environment_of new ≡ effect bytes_eq (environment_of old) (Free name)
 unfolding effect
 environment-freed old new name left count =
@@ -75,18 +80,21 @@ environment-freed old new name left count =
 
 -- ---- objects that are put
 
-option_map-some : {A B : Type 0} (f : A → B) (test : Bool) (x : A) (o : Option A) → option_map f (cond test (Some x) o) ≡ cond test (Some (f x)) (option_map f o)
+option_map-some : {A B : Type 0} (f : A → B) (test : Bool) (x : A) (o : Option A)
+    → option_map f (cond test (Some x) o) ≡ cond test (Some (f x)) (option_map f o)
 option_map-some f true x o = refl
 option_map-some f false x o = refl
 
-chosen_last : {X : Type 0} (test : Bool) (o : Option X) (y : X) → option_or (cond test None o) (cond test (Some y) None) ≡ cond test (Some y) o
+chosen_last : {X : Type 0} (test : Bool) (o : Option X) (y : X)
+    → option_or (cond test None o) (cond test (Some y) None) ≡ cond test (Some y) o
 chosen_last true o y = refl
 chosen_last false None y = refl
 chosen_last false (Some x) y = refl
 
 -- a new object behind those of other names
 pub environment-put : (old new : PlainEnvironment) (o : PlainObject) (live : ℕ)
-    → new.objects.items ≡ filter (λ x. not (has_name (string_bytes o.name) x)) old.objects.items ++ o ∷ [] → new.live ≡ live
+    → new.objects.items ≡ filter (λ x. not (has_name (string_bytes o.name) x)) old.objects.items ++ o ∷ []
+    → new.live ≡ live
     → environment_of new ≡ with_object bytes_eq (environment_of old) (string_bytes o.name) (object_of o) live
 environment-put old new o live left count =
     let name = string_bytes o.name in

@@ -30,29 +30,35 @@ use Rattle.model.proofs.WriteBackLaws.{not_false}
 use Rattle.plain.specs.Environments.{are_operators}
 use Rattle.plain.specs.Evaluated.{accumulator_offered}
 
-pub accepted-reduce : (env : Environment Name) (name : Name) (monoid : MonoidName) → fault_of env.count (seen env (Reduce name monoid)) ≡ None
+pub accepted-reduce : (env : Environment Name) (name : Name) (monoid : MonoidName)
+    → fault_of env.count (seen env (Reduce name monoid)) ≡ None
     → offers (combines_by monoid.kind) monoid.domain ≡ true
 accepted-reduce env name monoid accepted =
     not_false (offers (combines_by monoid.kind) monoid.domain) (accepted-test env (Reduce name monoid) 5 status.NotImplemented refl refl accepted)
 
-accumulator_is : (domain : Domain) (accum : Option OpName) → option_map_or (accumulates domain) accum true ≡ true → accumulator_offered accum ≡ true
+accumulator_is : (domain : Domain) (accum : Option OpName) → option_map_or (accumulates domain) accum true ≡ true
+    → accumulator_offered accum ≡ true
 accumulator_is domain None h = refl
 accumulator_is domain (Some op) h =
     (and_parts (offers op.kind op.domain) (same_domain op.domain domain) (and_parts (offers op.kind op.domain && same_domain op.domain domain) (same_domain (answer_domain op.kind op.domain) domain) h).0).0
 
-pub accepted-build : (env : Environment Name) (name : Name) (dup : Option OpName) (tuples : List Tuple) → fault_of env.count (seen env (Build name dup tuples)) ≡ None
+pub accepted-build : (env : Environment Name) (name : Name) (dup : Option OpName) (tuples : List Tuple)
+    → fault_of env.count (seen env (Build name dup tuples)) ≡ None
     → accumulator_offered dup ≡ true
 accepted-build env name dup tuples accepted =
     let domain = (object_at env name).domain in
     accumulator_is domain dup (not_false (option_map_or (accumulates domain) dup true) (accepted-test env (Build name dup tuples) 5 status.NotImplemented refl refl accepted))
 
-offered_as : {K L : Type 0} (f : K → L) (operation : Operation K) → is_offered (renamed_operation f operation) ≡ is_offered operation
+offered_as : {K L : Type 0} (f : K → L) (operation : Operation K)
+    → is_offered (renamed_operation f operation) ≡ is_offered operation
 offered_as f (Fill value region) = refl
 offered_as f (OfOne computes a) = refl
 offered_as f (OfTwo computes a b) = refl
 
-pub accepted-operators : {K : Type 0} (name_of : K → Name) (env : Environment Name) (out : Out K) (operation : Operation K)
-    → fault_of env.count (seen env (Operate (renamed_out name_of out) (renamed_operation name_of operation))) ≡ None → are_operators out operation ≡ true
+pub accepted-operators : {K : Type 0} (name_of : K → Name) (env : Environment Name) (out : Out K)
+    (operation : Operation K)
+    → fault_of env.count (seen env (Operate (renamed_out name_of out) (renamed_operation name_of operation))) ≡ None
+    → are_operators out operation ≡ true
 accepted-operators name_of env out operation accepted =
     let names = renamed_operation name_of operation in
     let known_out = renamed_out signature_of (renamed_out (object_at env) (renamed_out name_of out)) in
@@ -64,7 +70,8 @@ accepted-operators name_of env out operation accepted =
     rw (sym same ∙ (and_parts (is_offered known) few all.0).0, accumulator_is known_out.c.domain out.accum all.1) refl
 
 -- an accepted call that makes an object finds room for it
-pub accepted-create : (env : Environment Name) (name : Name) (domain : Domain) (shape : Shape) (call : Call Name Name) → call ≡ Create name domain shape
+pub accepted-create : (env : Environment Name) (name : Name) (domain : Domain) (shape : Shape) (call : Call Name Name)
+    → call ≡ Create name domain shape
     → fault_of env.count (seen env call) ≡ None → nat_le MOST_OBJECTS env.count ≡ false
 accepted-create env name domain shape call is accepted = accepted-test env (Create name domain shape) 5 status.NotImplemented refl refl (rw is at accepted)
 

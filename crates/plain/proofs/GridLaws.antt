@@ -25,10 +25,12 @@ pub below-more : (n : ℕ) → below (n + 1) ≡ below n ++ n ∷ []
 below-more n = let e : 0 + n ≡ n = omega arith in rw add-one (rw e at (count_from-more 0 n))
 
 -- what a walk gives of one number more
-pub filter_map-below-more : {Y : Type 0} (h : ℕ → Option Y) (n : ℕ) → filter_map h (below (n + 1)) ≡ filter_map h (below n) ++ filter_map h (n ∷ [])
+pub filter_map-below-more : {Y : Type 0} (h : ℕ → Option Y) (n : ℕ)
+    → filter_map h (below (n + 1)) ≡ filter_map h (below n) ++ filter_map h (n ∷ [])
 filter_map-below-more h n = ap (filter_map h) (below-more n) ∙ filter_map-append h (below n) (n ∷ [])
 
-pub flat_map-below-more : {Y : Type 0} (h : ℕ → List Y) (n : ℕ) → flat_map h (below (n + 1)) ≡ flat_map h (below n) ++ h n
+pub flat_map-below-more : {Y : Type 0} (h : ℕ → List Y) (n : ℕ)
+    → flat_map h (below (n + 1)) ≡ flat_map h (below n) ++ h n
 flat_map-below-more h n = ap (flat_map h) (below-more n) ∙ flat_map-append h (below n) (n ∷ []) ∙ ap (λ ys. flat_map h (below n) ++ ys) (append-nil (h n))
 
 -- ---- walks
@@ -41,17 +43,20 @@ pub rows-start : {Y : Type 0} (h : ℕ → List Y) → [] ≡ flat_map h (below 
 unfolding count_from
 rows-start h = refl
 
-pub rows-more : {Y : Type 0} (h : ℕ → List Y) (n : ℕ) (out new : List Y) → out ≡ flat_map h (below n) → new ≡ out ++ h n → new ≡ flat_map h (below (n + 1))
+pub rows-more : {Y : Type 0} (h : ℕ → List Y) (n : ℕ) (out new : List Y) → out ≡ flat_map h (below n)
+    → new ≡ out ++ h n → new ≡ flat_map h (below (n + 1))
 rows-more h n out new so_far more = more ∙ rw (so_far, flat_map-below-more h n) refl
 
 -- the entries of one column more of a row
 pub row-more : (c : Content) (i n : ℕ) (old out new : List Entry)
-    → out ≡ old ++ row_entries n c i → new ≡ out ++ cons_option (option_map (entry_at i n) (c i n)) [] → new ≡ old ++ row_entries (n + 1) c i
+    → out ≡ old ++ row_entries n c i → new ≡ out ++ cons_option (option_map (entry_at i n) (c i n)) []
+    → new ≡ old ++ row_entries (n + 1) c i
 row-more c i n old out new so_far more =
     let h = λ (j : ℕ). option_map (entry_at i j) (c i j) in
     more ∙ rw (so_far, filter_map-below-more h n) (append_assoc old (filter_map h (below n)) (cons_option (h n) []))
 
-pub all_rows : (rows cols : ℕ) (c : Content) (out : List Entry) → out ≡ flat_map (row_entries cols c) (below rows) → out ≡ entries_of rows cols c
+pub all_rows : (rows cols : ℕ) (c : Content) (out : List Entry) → out ≡ flat_map (row_entries cols c) (below rows)
+    → out ≡ entries_of rows cols c
 unfolding entries_of
 all_rows rows cols c out h = h
 
@@ -80,7 +85,8 @@ inside_twice true v h = refl
 inside_twice false v h = sym (h refl)
 
 -- the entries of a map that has nothing outside the shape stand for it
-pub listed-whole : (rows cols : ℕ) (c : Content) (i j : ℕ) → ((nat_lt i rows && nat_lt j cols) ≡ false → c i j ≡ None) → within rows cols (listed_word (entries_of rows cols c)) i j ≡ c i j
+pub listed-whole : (rows cols : ℕ) (c : Content) (i j : ℕ) → ((nat_lt i rows && nat_lt j cols) ≡ false → c i j ≡ None)
+    → within rows cols (listed_word (entries_of rows cols c)) i j ≡ c i j
 listed-whole rows cols c i j outside = rw (listed rows cols c i j) (inside_twice (nat_lt i rows && nat_lt j cols) (c i j) outside)
 
 chosen_twice : (test : Bool) (v : Option ℕ) → cond test (cond test v None) None ≡ cond test v None
@@ -88,5 +94,6 @@ chosen_twice true v = refl
 chosen_twice false v = refl
 
 -- ..of any map stand for what it has inside the shape
-pub listed-cut : (rows cols : ℕ) (c : Content) (i j : ℕ) → within rows cols (listed_word (entries_of rows cols c)) i j ≡ cut_to rows cols c i j
+pub listed-cut : (rows cols : ℕ) (c : Content) (i j : ℕ)
+    → within rows cols (listed_word (entries_of rows cols c)) i j ≡ cut_to rows cols c i j
 listed-cut rows cols c i j = rw (listed rows cols c i j) (chosen_twice (nat_lt i rows && nat_lt j cols) (c i j))

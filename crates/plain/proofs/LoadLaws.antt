@@ -15,7 +15,8 @@ use Rattle.model.specs.MatrixMarket.{File, Matrix, matrix_in, object_read}
 use Rattle.model.specs.Object.{IsObject}
 use Rattle.model.proofs.MarketLaws.{matrix_in-inside, matrix_in-words, object_read-is_object}
 
-pub accepted-room : (count : ℕ) (taken : Bool) (read : File) → load_fault count taken read ≡ None → nat_le MOST_OBJECTS count ≡ false
+pub accepted-room : (count : ℕ) (taken : Bool) (read : File) → load_fault count taken read ≡ None
+    → nat_le MOST_OBJECTS count ≡ false
 unfolding load_fault
 accepted-room count true read h = absurd (cc)
 accepted-room count false None h = absurd (cc)
@@ -31,7 +32,8 @@ accepted-there count true read h missing = absurd (cc)
 accepted-there count false None h missing = absurd (cc)
 accepted-there count false (Some r) h missing = absurd (cc)
 
-pub accepted-matrix : (count : ℕ) (taken : Bool) (read : File) (f : MmFault) → load_fault count taken read ≡ None → read ≡ Some (Err f) → ⊥
+pub accepted-matrix : (count : ℕ) (taken : Bool) (read : File) (f : MmFault) → load_fault count taken read ≡ None
+    → read ≡ Some (Err f) → ⊥
 unfolding load_fault
 accepted-matrix count true read f h bad = absurd (cc)
 accepted-matrix count false None f h bad = absurd (cc)

@@ -13,14 +13,17 @@ unfolding product count_from
 product-start semiring a b i j = refl
 
 -- one column of the first and one row of the second more
-product-more : (semiring : SemiringName) (n : ℕ) (a b : Content) (i j : ℕ) → product semiring (n + 1) a b i j ≡ added (add_of semiring) (product semiring n a b i j) (product_of semiring (a i n) (b n j))
+product-more : (semiring : SemiringName) (n : ℕ) (a b : Content) (i j : ℕ)
+    → product semiring (n + 1) a b i j ≡ added (add_of semiring) (product semiring n a b i j)
+    (product_of semiring (a i n) (b n j))
 unfolding product
 product-more semiring n a b i j =
     ap (sum_of semiring) (filter_map-below-more (λ k. product_of semiring (a i k) (b k j)) n) ∙ sum-more (add_of semiring) (terms semiring n a b i j) (product_of semiring (a i n) (b n j))
 
 -- a turn of the loop over the terms
 pub term-added : (semiring : SemiringName) (n : ℕ) (a b : Content) (i j : ℕ) (x y term sum new : Option ℕ)
-    → x ≡ a i n → y ≡ b n j → term ≡ product_of semiring x y → sum ≡ product semiring n a b i j → new ≡ added (add_of semiring) sum term
+    → x ≡ a i n → y ≡ b n j → term ≡ product_of semiring x y → sum ≡ product semiring n a b i j
+    → new ≡ added (add_of semiring) sum term
     → new ≡ product semiring (n + 1) a b i j
 term-added semiring n a b i j x y term sum new is_x is_y is_term is_sum is_new =
     is_new ∙ rw (is_term, is_x, is_y, is_sum) (sym (product-more semiring n a b i j))

@@ -10,7 +10,8 @@ use Rattle.plain.proofs.lines.without_empty_last.Goals as goal
 abbrev bytes : Bor (List ℕ) → List ℕ
 bytes text = text.now
 
-last : (parts : List (Bor (List ℕ))) (d : Bor (List ℕ)) → 0 < length parts → get_or (texts_in parts) (length parts - 1) [] ≡ (get_or parts (length parts - 1) d).now
+last : (parts : List (Bor (List ℕ))) (d : Bor (List ℕ)) → 0 < length parts
+    → get_or (texts_in parts) (length parts - 1) [] ≡ (get_or parts (length parts - 1) d).now
 last parts d some = get_or-map bytes parts (length parts - 1) d [] (omega arith)
 
 count : (parts : List (Bor (List ℕ))) → 0 < length parts → length (texts_in parts) ≡ suc (length parts - 1)
