@@ -68,7 +68,8 @@ found_in env call = renamed (option_map signature_of) (λ taken. taken) (seen (e
 -- what is known of the objects that a call's names stand for
 abbrev pub known_in : PlainEnvironment → Call Name Name → Call Signature Bool
 known_in env call =
-    renamed signature_of (λ name. is_some ((environment_of env).find_object name)) (on_objects (environment_of env) call)
+    renamed signature_of (λ name. is_some ((environment_of env).find_object name))
+    (on_objects (environment_of env) call)
 
 -- the fault of a call, if it has one
 abbrev pub fault_in : PlainEnvironment → Call Name Name → Option Status
@@ -104,7 +105,8 @@ made env (Create name domain shape) = Some (name, empty_object domain shape)
 made env (Dup name object) = Some (name, object_at env object)
 made env (Resize name shape) = Some (name, resized (object_at env name) shape)
 made env call =
-    option_map (λ name. (name, record (object_at env name) { content = left_by (on_objects env call) })) (output_of call)
+    option_map (λ name. (name, record (object_at env name) { content = left_by (on_objects env call) }))
+    (output_of call)
 
 -- an object with its name, and what is known of one
 abbrev pub with_name : PlainObject → Name × Object
