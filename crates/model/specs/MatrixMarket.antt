@@ -3,8 +3,8 @@
 -- its symmetries all but `hermitian`; that comments and blank lines may stand anywhere behind the first line, that both
 -- sides of a diagonal may be listed, and that values of one position are summed is this project's.
 use Rattle.std.specs.Prelude.{ℕ, suc, ℤ, pos, neg_ℤ, int_le, ◌-◌, ◌^◌, ◌≡◌, ◌==◌, nat_le, nat_lt, not, Bool}
-use Rattle.std.specs.Prelude.{true, false, ◌&&◌, ◌||◌, if◌then◌else◌, List, [], ◌∷◌, ◌++◌, map, length, drop, take, slice_get}
-use Rattle.std.specs.Prelude.{slice_index, Option, Some, None, codes, filter, Result, Ok, Err}
+use Rattle.std.specs.Prelude.{true, false, ◌&&◌, ◌||◌, if◌then◌else◌, List, [], ◌∷◌, ◌++◌, map, length, drop, take}
+use Rattle.std.specs.Prelude.{slice_get, slice_index, Option, Some, None, codes, filter, Result, Ok, Err}
 use Rattle.std.specs.List.{All, filter_map, flat_map, list_all, list_any}
 use Rattle.std.specs.Option.{option_map, option_map_or}
 use Rattle.std.specs.Result.{result_err, result_map_both, result_ok}
