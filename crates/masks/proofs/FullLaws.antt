@@ -52,6 +52,16 @@ around xs ys rises rises' some some' wide low high =
           rw is (omega (arith, behind, low), omega (arith, before, high, wide));
     }
 
+-- the ends of numbers without gaps, and of those that lie between them
+pub ends_around : (xs ys : List ℕ) → 0 < length xs → 0 < length ys → IsAround xs ys
+    → (get_or xs (length xs - 1) 0 - get_or xs 0 0 ≡ length xs - 1) × (get_or xs 0 0 ≤ get_or ys 0 0)
+    × (get_or ys (length ys - 1) 0 ≤ get_or xs (length xs - 1) 0)
+ends_around xs ys some some' is =
+    let last = is.steps (length xs - 1) (omega arith) in
+    let low = is.inside 0 0 some' in
+    let high = is.inside (length ys - 1) 0 (omega arith) in
+    (omega (arith, last), low.0, omega (arith, last, high.1))
+
 -- ---- words
 
 with_none : (f : ℕ → ℕ → ℕ) (o : Option ℕ) → o ≡ of_either (λ w. w) (λ w. w) f o None

@@ -9,6 +9,7 @@ pub mod Keeps
 mod KeptFiber
 mod Merges
 mod Merging
+mod PairLaws
 pub mod SameEnds
 pub mod SamePlaces
 mod WriteLaws

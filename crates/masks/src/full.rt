@@ -1,5 +1,5 @@
 //! Entries joined into a fiber that has no gaps.
-ghost use Rattle.std.specs.Prelude.{◌≡◌, ◌<◌, ◌-◌, ℕ, Some, true, length, slice_index, IfOk};
+ghost use Rattle.std.specs.Prelude.{◌≡◌, ◌<◌, ◌-◌, ℕ, Some, false, true, length, slice_index, IfNone, IfOk};
 ghost use Rattle.std.specs.List.{AllPairs};
 ghost use Rattle.lanes.specs.Lists.{zip_with};
 ghost use Rattle.store.specs.Fibers.{AreFlat, entries_along, entries_in};
@@ -26,6 +26,12 @@ pub(crate) fn full_side(pair: Pair<'_>) -> Option<Side>
     requires right_rises { AllPairs (λ x y. x < y) pair.right.inner.now }
     ensures left { result ≡ Some sides.Left → IsAround pair.entry.left.inner.now pair.entry.right.inner.now }
     ensures right { result ≡ Some sides.Right → IsAround pair.entry.right.inner.now pair.entry.left.inner.now }
+
+    // Fibers without entries have no ends.
+    ensures none_left { IfNone result (0 < length pair.entry.left.inner.now → 0 < length pair.entry.right.inner.now
+        → IsAround pair.entry.left.inner.now pair.entry.right.inner.now → ⊥) }
+    ensures none_right { IfNone result (0 < length pair.entry.left.inner.now → 0 < length pair.entry.right.inner.now
+        → IsAround pair.entry.right.inner.now pair.entry.left.inner.now → ⊥) }
 {
     if is_around(pair.left.inner, pair.right.inner) {
         return Some(Side::Left);
@@ -40,7 +46,10 @@ pub(crate) fn full_side(pair: Pair<'_>) -> Option<Side>
 fn is_around(full: &[u64], other: &[u64]) -> bool
     requires full { AllPairs (λ x y. x < y) full.now }
     requires other { AllPairs (λ x y. x < y) other.now }
-    ensures { result ≡ true → IsAround full.now other.now }
+    ensures yes { result ≡ true → IsAround full.now other.now }
+
+    // Fibers without entries have no ends.
+    ensures no { result ≡ false → 0 < length full.now → 0 < length other.now → IsAround full.now other.now → ⊥ }
 {
     if full.is_empty() || other.is_empty() {
         return false;

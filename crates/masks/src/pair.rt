@@ -1,5 +1,5 @@
 //! Two sides that have one fiber each, at one outer index.
-ghost use Rattle.std.specs.Prelude.{◌≡◌, ◌<◌, ◌≤◌, ◌++◌, length, slice_range, IfSome, OnOk};
+ghost use Rattle.std.specs.Prelude.{◌≡◌, ◌<◌, ◌≤◌, ◌++◌, ℕ, length, slice_range, IfNone, IfSome, OnOk};
 ghost use Rattle.std.specs.List.{All, AllPairs};
 ghost use Rattle.store.specs.Fibers.{entries_along};
 
@@ -32,6 +32,10 @@ pub(crate) fn pair_of<'a>(left: Fibers<'a>, right: Fibers<'a>) -> Option<Pair<'a
     ensures right_words { IfSome result (λ pair. length pair.right.words.now ≡ length pair.right.inner.now) }
     ensures left_rises { IfSome result (λ pair. AllPairs (λ x y. x < y) pair.left.inner.now) }
     ensures right_rises { IfSome result (λ pair. AllPairs (λ x y. x < y) pair.right.inner.now) }
+
+    // No two fibers with entries at one outer index are passed over.
+    ensures none { IfNone result ((outer : ℕ) → 0 < length left.entry.entries → 0 < length right.entry.entries
+        → All (λ e. e.row ≡ outer) left.entry.entries → All (λ e. e.row ≡ outer) right.entry.entries → ⊥) }
 {
     let outer = left.outer();
     if right.outer() != outer {
@@ -49,6 +53,7 @@ fn only_fiber<'a>(fibers: Fibers<'a>, outer: u64) -> Option<Fiber<'a>>
         ≡ entries_along outer fiber.inner.now fiber.words.now) }
     ensures words { IfSome result (λ fiber. length fiber.words.now ≡ length fiber.inner.now) }
     ensures rises { IfSome result (λ fiber. AllPairs (λ x y. x < y) fiber.inner.now) }
+    ensures none { IfNone result (All (λ e. e.row ≡ outer) fibers.entry.entries → ⊥) }
 {
     let (inner, words, others) = fibers.split(outer);
     if others.len() > 0 {

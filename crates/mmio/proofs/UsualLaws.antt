@@ -1,5 +1,5 @@
 -- What an entry line says that is written as programs write it.
-use Rattle.std.proofs.Common.{◌≡◌, ℕ, ◌+◌, ◌-◌, ◌%◌, ◌^◌, ◌<◌, ◌≤◌, ◌==◌, ◌||◌, Bool, true, false, not, List, [], ◌∷◌, ◌++◌, map, length, get_or, take, drop, Option, Some, Ok, refl, ap, sym, ◌∙◌, inl, inr, arith, append_assoc, slice_index}
+use Rattle.std.proofs.Common.{◌≡◌, ℕ, zero, suc, ◌+◌, ◌-◌, ◌%◌, ◌^◌, ◌<◌, ◌≤◌, ◌==◌, ◌||◌, Bool, true, false, not, List, [], ◌∷◌, ◌++◌, map, length, get_or, take, drop, Option, Some, Ok, refl, ap, sym, ◌∙◌, inl, inr, arith, append_assoc, slice_index}
 use Rattle.std.specs.List.{All, list_all, slice_split}
 use Rattle.std.specs.Str.Lines.{strip_carriage_return}
 use Rattle.std.proofs.lemmas.Bool.{and_parts, cases_Bool}
@@ -48,6 +48,37 @@ digits_whole (b ∷ digits) is =
 
 digits_all : (digits : List ℕ) → are_digits digits ≡ true → list_all is_digit digits ≡ true
 digits_all digits are = (and_parts (not (length digits == 0)) (list_all is_digit digits) are).1
+
+digits_stop : (n : ℕ) (digits : List ℕ) (end : ℕ) (rest : List ℕ) → n ≤ length (digits ++ end ∷ rest)
+    → list_all is_digit (take n (digits ++ end ∷ rest)) ≡ true
+    → (n < length (digits ++ end ∷ rest) → is_digit (get_or (digits ++ end ∷ rest) n 0) ≡ false)
+    → list_all is_digit digits ≡ true → is_digit end ≡ false → n ≡ length digits
+digits_stop zero [] end rest within front stops are other = refl
+digits_stop (suc n) [] end rest within front stops are other =
+    let first = (and_parts (is_digit end) (list_all is_digit (take n rest)) front).0 in absurd (cc)
+digits_stop zero (d ∷ ds) end rest within front stops are other =
+    let first = (and_parts (is_digit d) (list_all is_digit ds) are).0 in
+    let no = stops (omega arith) in
+    absurd (cc)
+digits_stop (suc n) (d ∷ ds) end rest within front stops are other =
+    let behind = (and_parts (is_digit d) (list_all is_digit (take n (ds ++ end ∷ rest))) front).1 in
+    let digits = (and_parts (is_digit d) (list_all is_digit ds) are).1 in
+    ap suc (digits_stop n ds end rest (omega arith) behind (λ below. stops (omega arith)) digits other)
+
+byte_behind : (digits : List ℕ) (end : ℕ) (rest : List ℕ) → get_or (digits ++ end ∷ rest) (length digits) 0 ≡ end
+byte_behind [] end rest = refl
+byte_behind (d ∷ ds) end rest = byte_behind ds end rest
+
+-- where digits stand before a byte that is none, they are all at the front
+pub number_behind : (text : List ℕ) (n end : ℕ) (digits rest : List ℕ) → n ≤ length text
+    → list_all is_digit (take n text) ≡ true → (n < length text → is_digit (get_or text n 0) ≡ false)
+    → text ≡ digits ++ end ∷ rest → are_digits digits ≡ true → is_digit end ≡ false
+    → (n ≡ length digits) × (0 < n) × (n < length text) × (get_or text n 0 ≡ end)
+number_behind text n end digits rest within front stops parts are other =
+    let filled : 0 < length digits = grind (arith, nat_tests) in
+    let long : length text ≡ length digits + suc (length rest) = ap length parts ∙ length-append digits (end ∷ rest) in
+    let same : n ≡ length digits = digits_stop n digits end rest (rw (← parts) within) (rw (← parts) front) (rw (← parts) stops) (digits_all digits are) other in
+    (same, omega arith, omega arith, rw (parts, same) (byte_behind digits end rest))
 
 digits_word : (digits : List ℕ) → are_digits digits ≡ true → IsWord digits
 digits_word [] are = absurd (cc)

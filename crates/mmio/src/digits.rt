@@ -1,6 +1,6 @@
 //! The digits at the front of a line: the loop that nearly all time of a file goes into.
-ghost use Rattle.std.specs.Prelude.{◌≡◌, ◌%◌, ◌<◌, ◌≤◌, ◌^◌, IfSome, IsTrue, MatchOption, false, is_some, length};
-ghost use Rattle.std.specs.Prelude.{slice_index, take, true};
+ghost use Rattle.std.specs.Prelude.{◌≡◌, ◌%◌, ◌<◌, ◌≤◌, ◌^◌, ◌++◌, ◌∷◌, ℕ, IfNone, IfSome, IsTrue, List, MatchOption};
+ghost use Rattle.std.specs.Prelude.{false, is_some, length, slice_index, take, true};
 ghost use Rattle.std.specs.List.{list_all};
 ghost use Rattle.model.specs.Grammar.{digits_value, is_blank, is_digit, nth_word, words_of};
 ghost use Rattle.model.specs.MatrixMarket.{are_digits};
@@ -100,6 +100,10 @@ fn few_digits(text: &[u8]) -> (usize, u64)
 pub fn number_before(text: &[u8], end: u8) -> Option<(u64, &[u8])>
     ensures number { IfSome result (λ found. IsNumberBefore text.now end found.0 found.1.now) }
     ensures shorter { IfSome result (λ found. length found.1.now < length text.now) }
+
+    // No number is passed over that is short enough, where its end can be told from a digit.
+    ensures none { IfNone result ((digits rest : List ℕ) → text.now ≡ digits ++ end ∷ rest
+        → are_digits digits ≡ true → is_digit end ≡ false → MOST_SHORT < length digits) }
 {
     let (count, value) = few_digits(text);
     if count == 0 || count > MOST_SHORT || count == text.len() || text[count] != end {

@@ -50,7 +50,8 @@ fn marked(sorted: &[u64]) -> usize {
 
 /// For each of so many indices, whether a list has it.
 fn marks_of(alloc: Global, list: &[u64], count: usize) -> Result<Vec<bool>, NoMemory>
-    ensures { IfOk result (λ marks. (i : ℕ) → i < length marks.items
+    ensures length { IfOk result (λ marks. length marks.items ≡ count) }
+    ensures marks { IfOk result (λ marks. (i : ℕ) → i < length marks.items
         → get_or marks.items i false ≡ has_index list.now i) }
 {
     let mut marks = Vec::new(alloc);

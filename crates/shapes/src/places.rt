@@ -1,5 +1,5 @@
 //! The places of columns in a list, for many looks.
-ghost use Rattle.std.specs.Prelude.{◌≡◌, ◌<◌, ℕ, [], bit_and, false, get_or, length, map, slice_index, true, IfOk};
+ghost use Rattle.std.specs.Prelude.{◌≡◌, ◌<◌, ◌+◌, ℕ, [], bit_and, false, get_or, length, map, slice_index, true, IfOk};
 ghost use Rattle.model.specs.Entries.{row_entries};
 ghost use Rattle.model.specs.Indices.{These, are_below};
 ghost use Rattle.store.specs.Stored.{content_of};
@@ -73,8 +73,12 @@ fn place_columns(alloc: Global, size: u64, cols: &[u64]) -> Result<Store, NoMemo
 
 /// For each number that bits under a mask make, whether a column of the list has them.
 fn marks_of(alloc: Global, cols: &[u64], mask: u64) -> Result<Vec<bool>, NoMemory>
-    ensures { IfOk result (λ marks. (k : ℕ) → k < length cols.now
+    // All bits make more numbers than a list has places.
+    ensures length { mask < usize.MAX → IfOk result (λ marks. length marks.items ≡ mask + 1) }
+    ensures marked { IfOk result (λ marks. (k : ℕ) → k < length cols.now
         → get_or marks.items (bit_and (slice_index cols.now k) mask) true ≡ true) }
+    ensures only { IfOk result (λ marks. (n : ℕ) → get_or marks.items n false ≡ true
+        → (k : ℕ) × (k < length cols.now) × (bit_and (slice_index cols.now k) mask ≡ n)) }
 {
     let mut marks = Vec::new(alloc);
     marks.resize((mask as usize).saturating_add(1), false)?;

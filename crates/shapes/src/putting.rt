@@ -1,5 +1,6 @@
 //! Rows of a block put into a store at lists of rows and columns.
-ghost use Rattle.std.specs.Prelude.{[], ◌≡◌, ◌<◌, ◌≤◌, ℕ, length, IfOk, OnOk, if◌then◌else◌, is_some, not, true};
+ghost use Rattle.std.specs.Prelude.{[], ◌≡◌, ◌<◌, ◌≤◌, ◌↔◌, ℕ, length, IfOk, IsTrue, OnOk, if◌then◌else◌, is_some};
+ghost use Rattle.std.specs.Prelude.{not, true};
 ghost use Rattle.model.specs.Indices.{All, Indices, are_below, place_in};
 ghost use Rattle.model.specs.Object.{Content};
 ghost use Rattle.model.specs.Regions.{is_listed};
@@ -95,7 +96,7 @@ fn put_all(old: &Store, new: RowBlock) -> RowBlock
 
 /// Whether a list is `:`.
 fn is_all(indices: &IndexList) -> bool
-    ensures { result ≡ true → indices.now ≡ All }
+    ensures { IsTrue result ↔ (indices.now ≡ All) }
 {
     match indices.listed() {
         Some(_) => false,

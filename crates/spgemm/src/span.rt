@@ -75,6 +75,8 @@ pub(crate) fn widened_by_row(ends: (u64, u64), cols: &[u64]) -> (u64, u64)
 pub(crate) fn words_between(ends: (u64, u64)) -> Range<usize>
     ensures order { result.start ≤ result.end }
     ensures low { result.start ≤ ends.0 / 64 }
+    ensures first { ends.0 / 64 ≤ ends.1 / 64 → result.start ≡ ends.0 / 64 }
+    ensures above { ends.1 / 64 ≤ ends.0 / 64 → result.start ≡ ends.1 / 64 }
     ensures high { result.end ≡ ends.1 / 64 + 1 }
 {
     let last = ends.1 / 64;
@@ -102,6 +104,7 @@ fn widened(ends: (u64, u64), col: u64) -> (u64, u64)
     ensures greatest { ends.1 ≤ result.1 }
     ensures low { result.0 ≤ col }
     ensures high { col ≤ result.1 }
+    ensures either_least { (result.0 ≡ ends.0) ⊎ (result.0 ≡ col) }
     ensures either { (result.1 ≡ ends.1) ⊎ (result.1 ≡ col) }
 {
     let greatest = if ends.1 < col { col } else { ends.1 };
