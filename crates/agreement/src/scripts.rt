@@ -5,7 +5,7 @@ use crate::compared::Compared;
 use crate::held::Files;
 use lines::{Line, first_line, parse_line};
 use mmio::read_entries;
-use model::{Call, Shape};
+use model::{Act, Call, Shape};
 use script::Sources;
 use std::alloc::{AllocError, Global};
 
@@ -81,7 +81,11 @@ fn is_small(alloc: Global, script: &[u8], files: Files<'_>) -> bool {
 /// The shape that a line gives an object, if it gives one.
 fn shape_of(alloc: Global, line: &[u8], files: Files<'_>) -> Option<Shape> {
     match parse_line(alloc, line).ok()? {
-        Line::Call(Call::Create { shape, .. } | Call::Resize { shape, .. }) => Some(shape),
+        Line::Call(Call::Create { shape, .. }) => Some(shape),
+        Line::Call(Call::On {
+            act: Act::Resize(shape),
+            ..
+        }) => Some(shape),
         Line::Load(load) => {
             let bytes = files.bytes(load.file.as_bytes())?;
             let (rows, cols, _) = read_entries(alloc, bytes, load.domain).ok()?;

@@ -14,7 +14,8 @@ use Rattle.model.specs.declared.call.Out.{Out}
 use Rattle.model.specs.declared.shape.Signature.{Signature}
 use Rattle.model.specs.declared.status.Status.{Status}
 use Rattle.model.specs.Object.{Object}
-use Rattle.model.specs.Renamed.{renamed_operation, renamed_out}
+use Rattle.model.specs.Renamed.{found_operation, found_out, renamed_operation, renamed_out}
+use Rattle.model.proofs.RenamedLaws.{some_operation, some_out}
 use Rattle.model.specs.WriteBack.{result_of}
 
 -- the objects that take the roles of an output are its own
@@ -105,12 +106,14 @@ recipe_along known out operation known_out known_operation recipe same_out same_
 -- ..also where there is a recipe only if there is no fault
 pub if_recipe : {K : Type 0} (result : Result Recipe Status) (fault : Option Status) (known : K → Option Signature)
     (out : Out K) (operation : Operation K) (known_out : Out Signature) (known_operation : Operation Signature)
-    → renamed_out Some known_out ≡ renamed_out known out
-    → renamed_operation Some known_operation ≡ renamed_operation known operation
+    → Some known_out ≡ found_out (renamed_out known out)
+    → Some known_operation ≡ found_operation (renamed_operation known operation)
     → MatchResult result (λ recipe. (fault ≡ None) × IsRecipeOf Some known_out known_operation recipe)
     (λ status. fault ≡ Some status)
     → IfOk result (IsRecipeOf known out operation)
-if_recipe (Ok recipe) fault known out operation known_out known_operation same_out same_operation is = recipe_along known out operation known_out known_operation recipe same_out same_operation is.1
+if_recipe (Ok recipe) fault known out operation known_out known_operation same_out same_operation is =
+    recipe_along known out operation known_out known_operation recipe (some_out (renamed_out known out) known_out same_out)
+    (some_operation (renamed_operation known operation) known_operation same_operation) is.1
 if_recipe (Err status) fault known out operation known_out known_operation same_out same_operation is = tt
 
 -- ---- what recipes mean

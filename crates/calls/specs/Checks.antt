@@ -1,6 +1,5 @@
 -- What checks find.
-use Rattle.std.specs.Prelude.{◌≡◌, Bool, false, is_some, List, None, Ok, Err, Option, Result, Some}
-use Rattle.std.specs.List.{list_all}
+use Rattle.std.specs.Prelude.{◌≡◌, Bool, false, None, Ok, Err, Option, Result, Some}
 use Rattle.calls.specs.declared.checking.Checked.{Checked}
 use Rattle.calls.specs.declared.checking.Checked.TheVariants.{Plain, Operation}
 use Rattle.calls.specs.declared.obj.Obj.{Obj}
@@ -19,10 +18,6 @@ known_call known call = renamed known (λ name. false) call
 abbrev pub Decides : {T : Type 0} → Option Status → Result T Status → Type 0
 Decides fault (Ok x) = fault ≡ None
 Decides fault (Err status) = fault ≡ Some status
-
--- some name stands for nothing
-abbrev pub IsMissing : {X : Type 0} → List (Option X) → Type 0
-IsMissing found = list_all is_some found ≡ false
 
 -- what was found of an accepted call: the recipe of an operation, and of another call nothing
 abbrev pub IsFoundOf : {N : Type 0} → (Obj → Option Signature) → Call Obj N → Checked → Type 0

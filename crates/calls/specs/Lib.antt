@@ -1,5 +1,4 @@
 pub mod Checks
-pub mod Known
 pub mod Recipes
 pub mod Roles
 pub mod Steps

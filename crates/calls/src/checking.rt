@@ -1,18 +1,18 @@
 //! The checks of calls, before anything is done.
-ghost use Rattle.std.specs.Prelude.{◌≡◌, IfOk, MatchOption, None, Some, false, if◌then◌else◌, nat_le};
-ghost use Rattle.calls.specs.Checks.{Decides, IsFoundOf, IsMissing, known_call};
-ghost use Rattle.calls.specs.Known.{operation_in};
+ghost use Rattle.std.specs.Prelude.{◌≡◌, IfOk, None, Some, false, if◌then◌else◌, nat_le};
+ghost use Rattle.std.specs.Option.{option_map};
+ghost use Rattle.algebra.specs.Value.{word_of};
+ghost use Rattle.calls.specs.Checks.{Decides, IsFoundOf, known_call};
 ghost use Rattle.calls.specs.Recipes.{IsRecipeOf};
 ghost use Rattle.model.specs.Fault.{early_fault};
-ghost use Rattle.model.specs.Renamed.{inputs_of, outputs_of, renamed_operation, renamed_out};
+ghost use Rattle.model.specs.Renamed.{renamed_operation, renamed_out};
 
-use crate::known::Known;
-use crate::obj::{Obj, Shapes};
+use crate::obj::{Obj, Shapes, Signatures};
 use crate::operation::recipe_of;
 use crate::recipe::Recipe;
 use algebra::{Domain, MonoidName, OpName, compatible};
 use model::{
-    Call, MOST_OBJECTS, Operation, Out, Place, Shape, Signature, Status, TupleList,
+    Act, Call, Lookup, MOST_OBJECTS, Operation, Out, Place, Shape, Signature, Status, TupleList,
     accumulator_serves,
 };
 
@@ -36,25 +36,7 @@ pub fn check<'a, N, S: Shapes>(call: &'a Call<Obj, N>, shapes: &S) -> Result<Che
     match call {
         Call::Create { domain, shape, .. } => check_create(shapes, *domain, *shape)?,
         Call::Dup { object, .. } => check_dup(shapes, *object)?,
-        Call::Resize { object, shape } => check_resize(shapes, *object, *shape)?,
-        Call::Build {
-            object,
-            dup,
-            tuples,
-        } => check_build(shapes, *object, *dup, tuples)?,
-        Call::Set {
-            object,
-            place,
-            value,
-        } => check_set(shapes, *object, *place, *value)?,
-        Call::Remove { object, place } | Call::Get { object, place } => {
-            check_place(shapes, *object, *place)?;
-        }
-        Call::Reduce { object, monoid } => check_reduce(shapes, *object, *monoid)?,
-        Call::Free { object }
-        | Call::Clear { object }
-        | Call::Nvals { object }
-        | Call::Print { object } => check_there(shapes, *object)?,
+        Call::On { object, act } => check_act(shapes, *object, act)?,
         Call::Operate { out, operation } => {
             return Ok(Checked::Operation(check_operate(shapes, out, operation)?));
         }
@@ -62,12 +44,21 @@ pub fn check<'a, N, S: Shapes>(call: &'a Call<Obj, N>, shapes: &S) -> Result<Che
     Ok(Checked::Plain)
 }
 
-/// What is known of an object.
-fn signature<S: Shapes>(shapes: &S, object: Obj) -> Option<Signature>
-    ensures { result ≡ S.known shapes.now object }
+/// The checks of what is done to one object, but for those that depend on its entries.
+fn check_act<S: Shapes>(shapes: &S, object: Obj, act: &Act) -> Result<(), Status>
+    ensures { Decides (early_fault (S.count shapes.now) (Call.On (S.known shapes.now object) act.now)) result }
 {
-    let (domain, shape) = shapes.object(object)?;
-    Some(Signature { domain, shape })
+    match act {
+        Act::Free | Act::Clear | Act::Nvals | Act::Print => check_there(shapes, object),
+        Act::Resize(shape) => check_resize(shapes, object, *shape),
+        Act::Build { dup, tuples } => check_build(shapes, object, *dup, tuples),
+        Act::Set { place, value } => {
+            check_set(shapes, object, *place, *value)?;
+            Ok(())
+        }
+        Act::Remove(place) | Act::Get(place) => check_place(shapes, object, *place),
+        Act::Reduce(monoid) => check_reduce(shapes, object, *monoid),
+    }
 }
 
 /// Refuses one more object where there are the most.
@@ -99,7 +90,7 @@ pub fn check_create<S: Shapes>(shapes: &S, domain: Domain, shape: Shape) -> Resu
 pub fn check_dup<S: Shapes>(shapes: &S, object: Obj) -> Result<(), Status>
     ensures { Decides (early_fault (S.count shapes.now) (Call.Dup false (S.known shapes.now object))) result }
 {
-    if signature(shapes, object).is_none() {
+    if Signatures(shapes).find(object).is_none() {
         return Err(Status::UninitializedObject);
     }
     check_room(shapes)
@@ -108,9 +99,9 @@ pub fn check_dup<S: Shapes>(shapes: &S, object: Obj) -> Result<(), Status>
 /// The checks of another shape (`GrB_Matrix_resize`, `GrB_Vector_resize`).
 #[tactic(auto, unfolding(model::specs::Fault::early_fault))]
 pub fn check_resize<S: Shapes>(shapes: &S, object: Obj, to: Shape) -> Result<(), Status>
-    ensures { Decides (early_fault (S.count shapes.now) (Call.Resize (S.known shapes.now object) to)) result }
+    ensures { Decides (early_fault (S.count shapes.now) (Call.On (S.known shapes.now object) (Act.Resize to))) result }
 {
-    let Some(Signature { shape, .. }) = signature(shapes, object) else {
+    let Some(Signature { shape, .. }) = Signatures(shapes).find(object) else {
         return Err(Status::UninitializedObject);
     };
     if !to.is_like(shape) {
@@ -131,10 +122,10 @@ pub fn check_build<S: Shapes>(
     dup: Option<OpName>,
     tuples: &TupleList,
 ) -> Result<(), Status>
-    ensures { Decides (early_fault (S.count shapes.now) (Call.Build (S.known shapes.now object) dup tuples.now))
+    ensures { Decides (early_fault (S.count shapes.now) (Call.On (S.known shapes.now object) (Act.Build dup tuples.now)))
         result }
 {
-    let Some(Signature { shape, domain }) = signature(shapes, object) else {
+    let Some(Signature { shape, domain }) = Signatures(shapes).find(object) else {
         return Err(Status::UninitializedObject);
     };
     if !tuples.are_of_kind(shape) {
@@ -152,17 +143,20 @@ pub fn check_build<S: Shapes>(
     Ok(())
 }
 
-/// The checks of an entry that is set (`GrB_Matrix_setElement`, `GrB_Vector_setElement`).
+/// The checks of an entry that is set (`GrB_Matrix_setElement`, `GrB_Vector_setElement`), and the word of its value.
 #[tactic(auto, unfolding(model::specs::Fault::early_fault))]
 pub fn check_set<S: Shapes>(
     shapes: &S,
     object: Obj,
     place: Place,
     value: i128,
-) -> Result<(), Status>
-    ensures { Decides (early_fault (S.count shapes.now) (Call.Set (S.known shapes.now object) place value)) result }
+) -> Result<u64, Status>
+    ensures fault { Decides (early_fault (S.count shapes.now)
+        (Call.On (S.known shapes.now object) (Act.Set place value))) result }
+    ensures word { IfOk result (λ word.
+        option_map (λ o. word_of o.domain value) (S.known shapes.now object) ≡ Some word) }
 {
-    let Some(Signature { domain, shape }) = signature(shapes, object) else {
+    let Some(Signature { domain, shape }) = Signatures(shapes).find(object) else {
         return Err(Status::UninitializedObject);
     };
     if !place.is_of_kind(shape) {
@@ -171,19 +165,16 @@ pub fn check_set<S: Shapes>(
     if !place.is_inside(shape) {
         return Err(Status::InvalidIndex);
     }
-    if domain.word_of(value).is_none() {
-        return Err(Status::InvalidValue);
-    }
-    Ok(())
+    domain.word_of(value).ok_or(Status::InvalidValue)
 }
 
 /// The checks of a place, at which an entry is removed or asked for, but for that of the entry.
 #[tactic(auto, unfolding(model::specs::Fault::early_fault))]
 pub fn check_place<S: Shapes>(shapes: &S, object: Obj, place: Place) -> Result<(), Status>
-    ensures remove { Decides (early_fault (S.count shapes.now) (Call.Remove (S.known shapes.now object) place)) result }
-    ensures get { Decides (early_fault (S.count shapes.now) (Call.Get (S.known shapes.now object) place)) result }
+    ensures remove { Decides (early_fault (S.count shapes.now) (Call.On (S.known shapes.now object) (Act.Remove place))) result }
+    ensures get { Decides (early_fault (S.count shapes.now) (Call.On (S.known shapes.now object) (Act.Get place))) result }
 {
-    let Some(Signature { shape, .. }) = signature(shapes, object) else {
+    let Some(Signature { shape, .. }) = Signatures(shapes).find(object) else {
         return Err(Status::UninitializedObject);
     };
     if !place.is_of_kind(shape) {
@@ -198,12 +189,12 @@ pub fn check_place<S: Shapes>(shapes: &S, object: Obj, place: Place) -> Result<(
 /// The check of a call that asks for no more than that its object is there.
 #[tactic(auto, unfolding(model::specs::Fault::early_fault))]
 pub fn check_there<S: Shapes>(shapes: &S, object: Obj) -> Result<(), Status>
-    ensures free { Decides (early_fault (S.count shapes.now) (Call.Free (S.known shapes.now object))) result }
-    ensures clear { Decides (early_fault (S.count shapes.now) (Call.Clear (S.known shapes.now object))) result }
-    ensures nvals { Decides (early_fault (S.count shapes.now) (Call.Nvals (S.known shapes.now object))) result }
-    ensures print { Decides (early_fault (S.count shapes.now) (Call.Print (S.known shapes.now object))) result }
+    ensures free { Decides (early_fault (S.count shapes.now) (Call.On (S.known shapes.now object) Act.Free)) result }
+    ensures clear { Decides (early_fault (S.count shapes.now) (Call.On (S.known shapes.now object) Act.Clear)) result }
+    ensures nvals { Decides (early_fault (S.count shapes.now) (Call.On (S.known shapes.now object) Act.Nvals)) result }
+    ensures print { Decides (early_fault (S.count shapes.now) (Call.On (S.known shapes.now object) Act.Print)) result }
 {
-    match signature(shapes, object) {
+    match Signatures(shapes).find(object) {
         Some(_) => Ok(()),
         None => Err(Status::UninitializedObject),
     }
@@ -212,9 +203,9 @@ pub fn check_there<S: Shapes>(shapes: &S, object: Obj) -> Result<(), Status>
 /// The checks of the sum of all values (`GrB_reduce`).
 #[tactic(auto, unfolding(model::specs::Fault::early_fault))]
 pub fn check_reduce<S: Shapes>(shapes: &S, object: Obj, monoid: MonoidName) -> Result<(), Status>
-    ensures { Decides (early_fault (S.count shapes.now) (Call.Reduce (S.known shapes.now object) monoid)) result }
+    ensures { Decides (early_fault (S.count shapes.now) (Call.On (S.known shapes.now object) (Act.Reduce monoid))) result }
 {
-    let Some(Signature { domain, .. }) = signature(shapes, object) else {
+    let Some(Signature { domain, .. }) = Signatures(shapes).find(object) else {
         return Err(Status::UninitializedObject);
     };
     if !monoid.is_offered() {
@@ -238,56 +229,12 @@ fn check_operate<'a, S: Shapes>(
         (renamed_operation (S.known shapes.now) operation.now))) result }
     ensures found { IfOk result (IsRecipeOf (S.known shapes.now) out.now operation.now) }
 {
-    let Some(known_out) = known_out(shapes, out) else {
+    let signatures = Signatures(shapes);
+    let Some(known_out) = out.found(&signatures) else {
         return Err(Status::UninitializedObject);
     };
-    let Some(known) = known_operation(shapes, operation) else {
+    let Some(known) = operation.lent(&signatures) else {
         return Err(Status::UninitializedObject);
     };
     recipe_of(&known_out, known)
-}
-
-/// What is known of the objects of an output.
-fn known_out<S: Shapes>(shapes: &S, out: &Out<Obj>) -> Option<Out<Signature>>
-    ensures { let found = renamed_out (S.known shapes.now) out.now in
-        MatchOption result (IsMissing (outputs_of found)) (λ known. renamed_out Some known ≡ found) }
-{
-    let c = signature(shapes, out.c)?;
-    let mask = match out.mask {
-        Some(mask) => Some(signature(shapes, mask)?),
-        None => None,
-    };
-    Some(Out {
-        c,
-        mask,
-        accum: out.accum,
-        desc: out.desc,
-    })
-}
-
-/// An operation on what is known of its inputs.
-fn known_operation<'a, S: Shapes>(shapes: &S, operation: &'a Operation<Obj>) -> Option<Known<'a>>
-    ensures { let found = renamed_operation (S.known shapes.now) operation.now in
-        MatchOption result (IsMissing (inputs_of found))
-        (λ known. renamed_operation Some (operation_in known) ≡ found) }
-{
-    match operation {
-        Operation::Fill { value, region } => Some(Known::Fill {
-            value: *value,
-            region,
-        }),
-        Operation::OfOne { computes, a } => {
-            let a = signature(shapes, *a)?;
-            Some(Known::OfOne { computes, a })
-        }
-        Operation::OfTwo { computes, a, b } => {
-            let a = signature(shapes, *a)?;
-            let b = signature(shapes, *b)?;
-            Some(Known::OfTwo {
-                computes: *computes,
-                a,
-                b,
-            })
-        }
-    }
 }

@@ -2,10 +2,8 @@
 #![tactic(auto)]
 
 mod checking;
-mod known;
 mod obj;
 mod operation;
-mod plan;
 mod recipe;
 mod role;
 mod step;
@@ -15,7 +13,7 @@ pub use checking::{
     check_set, check_there,
 };
 pub use model::{
-    Call, Desc, Form, IndexList, OneInput, Operation, Out, Place, Positions, Region, Shape,
+    Act, Call, Desc, Form, IndexList, OneInput, Operation, Out, Place, Positions, Region, Shape,
     Signature, Tuple, TupleList, TwoInputs,
 };
 pub use obj::{Obj, Shapes};

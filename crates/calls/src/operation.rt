@@ -1,32 +1,30 @@
 //! The checks of operations.
 ghost use Rattle.std.specs.Prelude.{◌≡◌, MatchOption, MatchResult, None, Some, false, true};
-ghost use Rattle.calls.specs.Known.{operation_in};
+ghost use Rattle.model.specs.Lent.{operation_lent};
 ghost use Rattle.calls.specs.Recipes.{IsRecipeOf};
 ghost use Rattle.calls.specs.Roles.{operation_by_role};
 ghost use Rattle.calls.specs.Steps.{called};
 ghost use Rattle.model.specs.Fault.{is_implemented, operation_fault};
 
-use crate::known::Known;
-use crate::plan::plan;
 use crate::recipe::Recipe;
-use crate::role::out_by_role;
+use crate::role::{known_by_role, out_by_role};
 use crate::step::{Step, resolved};
 use algebra::compatible;
-use model::{MOST_FILLED, Out, Signature, Status};
+use model::{Lent, MOST_FILLED, Out, Signature, Status};
 
 /// An operation by roles, with its operators; its fault, if it has one.
 #[tactic(auto, unfolding(model::specs::Fault::operation_fault))]
 pub(crate) fn check_operation<'a>(
     out: &Out<Signature>,
-    operation: Known<'a>,
+    operation: Lent<'a, Signature>,
 ) -> Result<Step<'a>, Status>
     ensures { MatchResult result
-        (λ step. (operation_fault out.now (operation_in operation.entry) ≡ None)
-        × (called step ≡ operation_by_role (operation_in operation.entry)))
-        (λ status. operation_fault out.now (operation_in operation.entry) ≡ Some status) }
+        (λ step. (operation_fault out.now (operation_lent operation.entry) ≡ None)
+        × (called step ≡ operation_by_role (operation_lent operation.entry)))
+        (λ status. operation_fault out.now (operation_lent operation.entry) ≡ Some status) }
 {
     let c = out.c;
-    let plan = plan(c, out.desc, operation);
+    let plan = operation.plan(c, out.desc);
     if !plan.kinds || !plan.shape.is_like(c.shape) || !out.mask_is_of_kind() {
         return Err(Status::WrongKind);
     }
@@ -48,10 +46,10 @@ pub(crate) fn check_operation<'a>(
 
 /// An operation by roles, where its operators and its accumulator are offered, and it fills no more
 /// positions than may be.
-fn implemented<'a>(out: &Out<Signature>, operation: Known<'a>) -> Option<Step<'a>>
-    ensures { MatchOption result (is_implemented out.now (operation_in operation.entry) ≡ false)
-        (λ step. (is_implemented out.now (operation_in operation.entry) ≡ true)
-        × (called step ≡ operation_by_role (operation_in operation.entry))) }
+fn implemented<'a>(out: &Out<Signature>, operation: Lent<'a, Signature>) -> Option<Step<'a>>
+    ensures { MatchOption result (is_implemented out.now (operation_lent operation.entry) ≡ false)
+        (λ step. (is_implemented out.now (operation_lent operation.entry) ≡ true)
+        × (called step ≡ operation_by_role (operation_lent operation.entry))) }
 {
     let step = resolved(operation)?;
     if operation.filled(out.c.shape) > MOST_FILLED as u128 || !out.accumulator_serves() {
@@ -63,17 +61,17 @@ fn implemented<'a>(out: &Out<Signature>, operation: Known<'a>) -> Option<Step<'a
 /// The recipe of an operation, by what is known of its objects; its fault, if it has one.
 pub(crate) fn recipe_of<'a>(
     out: &Out<Signature>,
-    operation: Known<'a>,
+    operation: Lent<'a, Signature>,
 ) -> Result<Recipe<'a>, Status>
     ensures { MatchResult result
-        (λ recipe. (operation_fault out.now (operation_in operation.entry) ≡ None)
-        × IsRecipeOf Some out.now (operation_in operation.entry) recipe)
-        (λ status. operation_fault out.now (operation_in operation.entry) ≡ Some status) }
+        (λ recipe. (operation_fault out.now (operation_lent operation.entry) ≡ None)
+        × IsRecipeOf Some out.now (operation_lent operation.entry) recipe)
+        (λ status. operation_fault out.now (operation_lent operation.entry) ≡ Some status) }
 {
     let step = check_operation(out, operation)?;
     Ok(Recipe {
         out: out_by_role(out),
         step,
-        signatures: operation.by_role(out),
+        signatures: known_by_role(out, operation),
     })
 }

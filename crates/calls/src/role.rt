@@ -1,8 +1,9 @@
 //! The roles that an operation's objects have in it.
 ghost use Rattle.std.specs.Prelude.{◌≡◌};
 ghost use Rattle.calls.specs.Roles.{out_by_role, role_of, roles_of};
+ghost use Rattle.model.specs.Lent.{operation_lent};
 
-use model::{Operation, Out};
+use model::{Lent, Operation, Out, Signature};
 
 /// Which of an operation's objects one is.
 #[derive(Clone, Copy)]
@@ -48,6 +49,28 @@ pub fn by_role<K: Copy>(out: &Out<K>, operation: &Operation<K>) -> Roles<K>
         Operation::Fill { .. } => (old, old),
         Operation::OfOne { a, .. } => (*a, *a),
         Operation::OfTwo { a, b, .. } => (*a, *b),
+    };
+    Roles {
+        old,
+        mask,
+        first,
+        second,
+    }
+}
+
+/// What is known of an operation's objects by their roles.
+pub(crate) fn known_by_role(
+    out: &Out<Signature>,
+    operation: Lent<'_, Signature>,
+) -> Roles<Signature>
+    ensures { result ≡ roles_of out.now (operation_lent operation.entry) }
+{
+    let old = out.c;
+    let mask = out.mask.unwrap_or(old);
+    let (first, second) = match operation {
+        Lent::Fill { .. } => (old, old),
+        Lent::OfOne { a, .. } => (a, a),
+        Lent::OfTwo { a, b, .. } => (a, b),
     };
     Roles {
         old,

@@ -1,13 +1,12 @@
 //! Operations with their operators.
 ghost use Rattle.std.specs.Prelude.{◌≡◌, MatchOption, true, false};
-ghost use Rattle.calls.specs.Known.{operation_in};
+ghost use Rattle.model.specs.Lent.{operation_lent};
 ghost use Rattle.calls.specs.Roles.{operation_by_role};
 ghost use Rattle.calls.specs.Steps.{called, called_of_one, called_of_two};
 ghost use Rattle.model.specs.Table.{is_offered, offers_one, offers_two};
 
-use crate::known::Known;
 use algebra::{BinaryOp, Function, IndexOp, Monoid, Semiring};
-use model::{Form, OneInput, Positions, Region, TwoInputs};
+use model::{Form, Lent, OneInput, Positions, Region, Signature, TwoInputs};
 
 /// What an operation computes of the objects in the roles of its inputs: its operators are there, in the
 /// place of their names.
@@ -34,15 +33,15 @@ pub enum Step<'a> {
 }
 
 /// An operation by roles, with its operators; None where one isn't offered.
-pub(crate) fn resolved(operation: Known<'_>) -> Option<Step<'_>>
-    ensures { MatchOption result (is_offered (operation_in operation.entry) ≡ false)
-        (λ step. (is_offered (operation_in operation.entry) ≡ true)
-        × (called step ≡ operation_by_role (operation_in operation.entry))) }
+pub(crate) fn resolved(operation: Lent<'_, Signature>) -> Option<Step<'_>>
+    ensures { MatchOption result (is_offered (operation_lent operation.entry) ≡ false)
+        (λ step. (is_offered (operation_lent operation.entry) ≡ true)
+        × (called step ≡ operation_by_role (operation_lent operation.entry))) }
 {
     match operation {
-        Known::Fill { value, region } => Some(Step::Fill { value, region }),
-        Known::OfOne { computes, .. } => resolved_one(computes),
-        Known::OfTwo { computes, .. } => resolved_two(computes),
+        Lent::Fill { value, region } => Some(Step::Fill { value, region }),
+        Lent::OfOne { computes, .. } => resolved_one(computes),
+        Lent::OfTwo { computes, .. } => resolved_two(computes),
     }
 }
 

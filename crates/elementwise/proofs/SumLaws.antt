@@ -26,7 +26,8 @@ use Rattle.store.proofs.Contents.{transposed_along}
 use Rattle.store.proofs.FlatLaws.{all_rows, flat_none}
 use Rattle.store.proofs.Order.{all_append_left, all_append_right, all_pairs_map}
 use Rattle.store.proofs.Positions.{filter_none, filter_whole}
-use Rattle.store.proofs.RowEntries.{entries_between-row, row_words-entries}
+use Rattle.model.proofs.EntryLaws.{row_words-entries}
+use Rattle.store.proofs.RowEntries.{entries_between-row}
 use Rattle.elementwise.proofs.Filled.{AreFilled, is_first}
 use Rattle.elementwise.specs.Sums.{folded, row_sum, sums_of}
 

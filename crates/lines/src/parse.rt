@@ -12,7 +12,7 @@ ghost use Rattle.model.specs.Renamed.{renamed};
 use crate::loads::load;
 use crate::operations::{accum, operate};
 use crate::{Line, LineFault, kinds, lists, words};
-use model::{Call, LONGEST_LINE, Place, Shape};
+use model::{Act, Call, LONGEST_LINE, Place, Shape};
 use std::alloc::Global;
 
 /// Reads one line of a script, without its line end.
@@ -205,7 +205,10 @@ fn resize<'a>(words: &[&'a [u8]]) -> Option<Call<&'a str, &'a str>>
     if words.len() == 3 {
         let object = words::name(words[1])?;
         let shape = Shape::One(words::number(words[2])?);
-        return Some(Call::Resize { object, shape });
+        return Some(Call::On {
+            object,
+            act: Act::Resize(shape),
+        });
     }
     if words.len() != 4 {
         return None;
@@ -214,7 +217,10 @@ fn resize<'a>(words: &[&'a [u8]]) -> Option<Call<&'a str, &'a str>>
     let rows = words::number(words[2])?;
     let cols = words::number(words[3])?;
     let shape = Shape::Two(rows, cols);
-    Some(Call::Resize { object, shape })
+    Some(Call::On {
+        object,
+        act: Act::Resize(shape),
+    })
 }
 
 /// `build NAME DUP TUPLE..`
@@ -229,11 +235,8 @@ fn build<'a>(alloc: Global, words: &[&'a [u8]]) -> Result<Call<&'a str, &'a str>
     let object = words::name(words[1]).ok_or(LineFault::Syntax)?;
     let dup = accum(words[2]).ok_or(LineFault::Syntax)?;
     let tuples = lists::tuples(alloc, &words[3..])?;
-    Ok(Call::Build {
-        object,
-        dup,
-        tuples,
-    })
+    let act = Act::Build { dup, tuples };
+    Ok(Call::On { object, act })
 }
 
 /// The name behind the first word, where nothing else follows.
@@ -253,7 +256,10 @@ fn free<'a>(words: &[&'a [u8]]) -> Option<Call<&'a str, &'a str>>
         ≡ free_of (map (λ word. word.now) words.now) }
 {
     let object = only_name(words)?;
-    Some(Call::Free { object })
+    Some(Call::On {
+        object,
+        act: Act::Free,
+    })
 }
 
 /// `clear NAME`
@@ -262,7 +268,10 @@ fn clear<'a>(words: &[&'a [u8]]) -> Option<Call<&'a str, &'a str>>
         ≡ clear_of (map (λ word. word.now) words.now) }
 {
     let object = only_name(words)?;
-    Some(Call::Clear { object })
+    Some(Call::On {
+        object,
+        act: Act::Clear,
+    })
 }
 
 /// The place behind a name, before so many last words.
@@ -292,11 +301,8 @@ fn set<'a>(words: &[&'a [u8]]) -> Option<Call<&'a str, &'a str>>
     let place = place(words, 1)?;
     let object = words::name(words[1])?;
     let value = words::value(words[words.len() - 1])?;
-    Some(Call::Set {
-        object,
-        place,
-        value,
-    })
+    let act = Act::Set { place, value };
+    Some(Call::On { object, act })
 }
 
 /// `remove NAME NUM` or `remove NAME NUM NUM`
@@ -307,7 +313,10 @@ fn remove<'a>(words: &[&'a [u8]]) -> Option<Call<&'a str, &'a str>>
 {
     let place = place(words, 0)?;
     let object = words::name(words[1])?;
-    Some(Call::Remove { object, place })
+    Some(Call::On {
+        object,
+        act: Act::Remove(place),
+    })
 }
 
 /// `get NAME NUM` or `get NAME NUM NUM`
@@ -318,7 +327,10 @@ fn get<'a>(words: &[&'a [u8]]) -> Option<Call<&'a str, &'a str>>
 {
     let place = place(words, 0)?;
     let object = words::name(words[1])?;
-    Some(Call::Get { object, place })
+    Some(Call::On {
+        object,
+        act: Act::Get(place),
+    })
 }
 
 /// `nvals NAME`
@@ -327,7 +339,10 @@ fn nvals<'a>(words: &[&'a [u8]]) -> Option<Call<&'a str, &'a str>>
         ≡ nvals_of (map (λ word. word.now) words.now) }
 {
     let object = only_name(words)?;
-    Some(Call::Nvals { object })
+    Some(Call::On {
+        object,
+        act: Act::Nvals,
+    })
 }
 
 /// `print NAME`
@@ -336,7 +351,10 @@ fn print<'a>(words: &[&'a [u8]]) -> Option<Call<&'a str, &'a str>>
         ≡ print_of (map (λ word. word.now) words.now) }
 {
     let object = only_name(words)?;
-    Some(Call::Print { object })
+    Some(Call::On {
+        object,
+        act: Act::Print,
+    })
 }
 
 /// `reduce NAME MONOID`
@@ -350,5 +368,8 @@ fn reduce<'a>(words: &[&'a [u8]]) -> Option<Call<&'a str, &'a str>>
     }
     let object = words::name(words[1])?;
     let monoid = kinds::monoid_name(words[2])?;
-    Some(Call::Reduce { object, monoid })
+    Some(Call::On {
+        object,
+        act: Act::Reduce(monoid),
+    })
 }

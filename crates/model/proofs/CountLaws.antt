@@ -1,25 +1,26 @@
 -- An environment's count is the number of names that stand for an object, and every step keeps that.
-use Rattle.std.proofs.Common.{◌≡◌, ◌∙◌, ℕ, ◌+◌, Bool, true, false, not, cond, ◌&&◌, ◌||◌, List, [], ◌∷◌, length, Option, Some, None, is_some, refl, sym, ap, inl, inr, arith}
-use Rattle.std.specs.Option.{option_map}
+use Rattle.std.proofs.Common.{◌≡◌, ◌∙◌, ℕ, ◌+◌, Bool, true, false, not, cond, ◌&&◌, ◌||◌, List, [], ◌∷◌, length, Option, Some, None, is_none, is_some, refl, sym, ap, inl, inr, arith}
+use Rattle.std.specs.Option.{option_and_then, option_map}
 use Rattle.std.specs.Prelude.{Ok, Err}
 use Rattle.std.specs.Str.{bytes_eq}
 use Rattle.std.proofs.lemmas.Bool.{and_parts, cases_Bool}
 use Rattle.std.proofs.lemmas.Slice.Eq.{bytes_eq-Decides}
+use Rattle.model.specs.declared.call.Act.{Act}
+use Rattle.model.specs.declared.call.Act.TheVariants.{Free, Clear, Resize, Build, Set, Remove, Get, Nvals, Print, Reduce}
 use Rattle.model.specs.declared.call.Call.{Call}
-use Rattle.model.specs.declared.call.Call.TheVariants.{Create, Dup, Free, Clear, Resize, Build, Set, Remove, Get, Nvals, Print, Reduce, Operate}
+use Rattle.model.specs.declared.call.Call.TheVariants.{Create, Dup, On, Operate}
+use Rattle.model.specs.declared.call.Operation.{Operation}
+use Rattle.model.specs.declared.call.Out.{Out}
 use Rattle.model.specs.declared.status.Status.{Status}
-use Rattle.model.specs.declared.status.Status.TheVariants as status
-use Rattle.model.specs.Fault.{are_there, call_fails, early_fault, fault_of}
+use Rattle.model.specs.Fault.{fault_of}
 use Rattle.model.specs.Grammar.{Name}
 use Rattle.model.specs.Object.{Object, empty_object, signature_of}
 use Rattle.algebra.specs.declared.domain.Domain.{Domain}
-use Rattle.model.specs.declared.shape.Signature.{Signature}
 use Rattle.model.specs.Loads.{load_fault}
 use Rattle.model.specs.MatrixMarket.{File, object_read}
-use Rattle.model.specs.Renamed.{renamed}
+use Rattle.model.specs.Renamed.{found, found_out, renamed_out}
 use Rattle.model.specs.Run.{Environment, answered, data_lines_of, effect, load, loaded, no_objects, object_at, on_objects, resized, seen, step, with_object, without_object}
-use Rattle.model.proofs.StepLaws.{no_early}
-use Rattle.model.proofs.WriteBackLaws.{not_false, passed}
+use Rattle.model.proofs.StepLaws.{accepted-there, accepted-untaken}
 
 -- whether a name stands in a list
 abbrev pub is_among : List Name → Name → Bool
@@ -165,27 +166,30 @@ shrunk-counted env name there c = record {
 
 -- ---- steps
 
-there_first : (found : Option Object) (rest : Bool) → (is_some (option_map signature_of found) && rest) ≡ true
-    → is_some found ≡ true
-there_first None rest h = absurd (cc)
-there_first (Some o) rest h = refl
+there_mapped : {A B : Type 0} (f : A → B) (o : Option A) → is_none (option_map f o) ≡ false → is_some o ≡ true
+there_mapped f None h = absurd (cc)
+there_mapped f (Some a) h = refl
 
--- where no test fails, the objects that a call names are there
-all_there : (count : ℕ) (call : Call (Option Signature) Bool) → early_fault count call ≡ None → are_there call ≡ true
-unfolding early_fault
-all_there count call h =
-    not_false (are_there call) (passed (call_fails count call) 1 status.UninitializedObject refl h)
+there_bound : {A B : Type 0} (f : A → Option B) (o : Option A) → is_none (option_and_then f o) ≡ false → is_none o ≡ false
+there_bound f None h = absurd (cc)
+there_bound f (Some a) h = refl
 
--- ..and a new name isn't taken
-untaken : (count : ℕ) (call : Call (Option Signature) Bool) → early_fault count call ≡ None
-    → call_fails count call status.NameTaken ≡ false
-unfolding early_fault
-untaken count call h =
-    passed (call_fails count call) 0 status.NameTaken refl h
+-- the object of an accepted act is there
+there_on : (env : Environment Name) (name : Name) (act : Act) → fault_of env.count (seen env (On name act)) ≡ None
+    → is_some (env.find_object name) ≡ true
+there_on env name act accepted =
+    go (env.find_object name) (accepted-there env (On name act) accepted) where
+      go : (o : Option Object) → is_none (found {N = Bool} (On (option_map signature_of o) act)) ≡ false → is_some o ≡ true
+      go None h = absurd (cc)
+      go (Some o) h = refl
 
--- a call as its tests see it
-abbrev known : Environment Name → Call Name Name → Call (Option Signature) Bool
-known env call = renamed (option_map signature_of) (λ taken. taken) (seen env call)
+-- ..and so is the output of an accepted operation
+there_out : (env : Environment Name) (out : Out Name) (op : Operation Name)
+    → fault_of env.count (seen env (Operate out op)) ≡ None → is_some (env.find_object out.c) ≡ true
+there_out env out op accepted =
+    let known = renamed_out (option_map signature_of) (renamed_out env.find_object out) in
+    let out_there = there_bound _ (found_out known) (accepted-there env (Operate out op) accepted) in
+    there_mapped signature_of (env.find_object out.c) (there_bound _ known.c out_there)
 
 -- an accepted call leaves as many objects as are counted
 pub effect-counted : (env : Environment Name) (call : Call Name Name) → fault_of env.count (seen env call) ≡ None
@@ -193,36 +197,24 @@ pub effect-counted : (env : Environment Name) (call : Call Name Name) → fault_
     → IsCounted (effect bytes_eq env call)
 unfolding effect
 effect-counted env (Create name domain shape) accepted c =
-    let early = no_early (early_fault env.count (known env (Create name domain shape))) None accepted in
-    grown-counted env name (empty_object domain shape) (untaken env.count (known env (Create name domain shape)) early) c
+    grown-counted env name (empty_object domain shape) (accepted-untaken env (Create name domain shape) accepted) c
 effect-counted env (Dup name object) accepted c =
-    let early = no_early (early_fault env.count (known env (Dup name object))) None accepted in
-    grown-counted env name (object_at env object) (untaken env.count (known env (Dup name object)) early) c
-effect-counted env (Resize name shape) accepted c =
-    let early = no_early (early_fault env.count (known env (Resize name shape))) None accepted in
-    changed-counted env name (resized (object_at env name) shape) (there_first (env.find_object name) true (all_there env.count (known env (Resize name shape)) early)) c
-effect-counted env (Free name) accepted c =
-    let early = no_early (early_fault env.count (known env (Free name))) None accepted in
-    shrunk-counted env name (there_first (env.find_object name) true (all_there env.count (known env (Free name)) early)) c
-effect-counted env (Clear name) accepted c =
-    let early = no_early (early_fault env.count (known env (Clear name))) None accepted in
-    changed-counted env name _ (there_first (env.find_object name) true (all_there env.count (known env (Clear name)) early)) c
-effect-counted env (Build name dup tuples) accepted c =
-    let early = no_early (early_fault env.count (known env (Build name dup tuples))) _ accepted in
-    changed-counted env name _ (there_first (env.find_object name) true (all_there env.count (known env (Build name dup tuples)) early)) c
-effect-counted env (Set name place value) accepted c =
-    let early = no_early (early_fault env.count (known env (Set name place value))) None accepted in
-    changed-counted env name _ (there_first (env.find_object name) true (all_there env.count (known env (Set name place value)) early)) c
-effect-counted env (Remove name place) accepted c =
-    let early = no_early (early_fault env.count (known env (Remove name place))) None accepted in
-    changed-counted env name _ (there_first (env.find_object name) true (all_there env.count (known env (Remove name place)) early)) c
-effect-counted env (Get name place) accepted c = c
-effect-counted env (Nvals name) accepted c = c
-effect-counted env (Print name) accepted c = c
-effect-counted env (Reduce name monoid) accepted c = c
-effect-counted env (Operate out op) accepted c =
-    let early = no_early (early_fault env.count (known env (Operate out op))) None accepted in
-    changed-counted env out.c _ (there_first (env.find_object out.c) _ (all_there env.count (known env (Operate out op)) early)) c
+    grown-counted env name (object_at env object) (accepted-untaken env (Dup name object) accepted) c
+effect-counted env (On name Free) accepted c = shrunk-counted env name (there_on env name Free accepted) c
+effect-counted env (On name (Resize shape)) accepted c =
+    changed-counted env name (resized (object_at env name) shape) (there_on env name (Resize shape) accepted) c
+effect-counted env (On name Clear) accepted c = changed-counted env name _ (there_on env name Clear accepted) c
+effect-counted env (On name (Build dup tuples)) accepted c =
+    changed-counted env name _ (there_on env name (Build dup tuples) accepted) c
+effect-counted env (On name (Set place value)) accepted c =
+    changed-counted env name _ (there_on env name (Set place value) accepted) c
+effect-counted env (On name (Remove place)) accepted c =
+    changed-counted env name _ (there_on env name (Remove place) accepted) c
+effect-counted env (On name (Get place)) accepted c = c
+effect-counted env (On name Nvals) accepted c = c
+effect-counted env (On name Print) accepted c = c
+effect-counted env (On name (Reduce monoid)) accepted c = c
+effect-counted env (Operate out op) accepted c = changed-counted env out.c _ (there_out env out op accepted) c
 
 -- what is left is what was there where there is a fault, and what the call leaves where there is none
 left-counted : (number : ℕ) (env : Environment Name) (fault : Option Status) (lines : List (List ℕ))

@@ -1,11 +1,11 @@
 -- The entries of a map, row by row: they lie inside the shape, and make the map.
-use Rattle.std.proofs.Common.{◌≡◌, ℕ, zero, suc, ◌+◌, ◌<◌, ◌==◌, ◌&&◌, Bool, true, false, cond, List, [], ◌∷◌, ◌++◌, Option, Some, None, refl, subst, inl, inr, ◌∙◌, ap, arith}
+use Rattle.std.proofs.Common.{◌≡◌, ℕ, zero, suc, ◌+◌, ◌<◌, ◌==◌, ◌&&◌, Bool, true, false, cond, List, [], ◌∷◌, ◌++◌, map, Option, Some, None, refl, subst, sym, inl, inr, ◌∙◌, ap, arith}
 use Rattle.std.specs.Prelude.{nat_le, nat_lt}
 use Rattle.std.specs.List.{All, cons_option, filter_map, flat_map}
 use Rattle.std.specs.Option.{option_map, option_to_list}
 use Rattle.std.proofs.lemmas.Bool.{cases_Bool}
 use Rattle.std.proofs.lemmas.Bool.Decides.{nat_tests}
-use Rattle.std.proofs.lemmas.List.{append-nil}
+use Rattle.std.proofs.lemmas.List.{append-nil, map-append}
 use Rattle.std.proofs.lemmas.List.Elements.{All-append, All-cons, All-head, All-nil, All-tail, All-weaker}
 use Rattle.algebra.specs.declared.domain.Domain.{Domain}
 use Rattle.model.proofs.MarketLaws.{IsListed}
@@ -14,6 +14,7 @@ use Rattle.algebra.specs.declared.operator_names.OpName.{OpName}
 use Rattle.model.specs.Builds.{gathered, joined_all, words_at}
 use Rattle.model.specs.Entries.{below, count_from, entries_of, entry_at, row_entries}
 use Rattle.model.specs.Object.{AreWordsOf, Content, IsWithin}
+use Rattle.model.specs.Reductions.{all_words, row_words}
 
 -- ---- inside
 
@@ -55,6 +56,34 @@ pub entries_of-listed : (domain : Domain) (rows cols : ℕ) (c : Content) → Ar
     → All (IsListed domain rows cols) (entries_of rows cols c)
 unfolding entries_of
 entries_of-listed domain rows cols c words = rows-listed domain rows cols c (below rows) words (all_below rows)
+
+-- ---- words alone
+
+words_of_columns : (c : Content) (i : ℕ) (ks : List ℕ)
+    → filter_map (λ k. c i k) ks ≡ map (λ (e : Entry). e.word) (filter_map (λ k. option_map (entry_at i k) (c i k)) ks)
+words_of_columns c i [] = refl
+words_of_columns c i (k ∷ ks) =
+    elim (c i k) as (λ o. cons_option o (filter_map (λ k. c i k) ks) ≡ map (λ (e : Entry). e.word) (cons_option (option_map (entry_at i k) o) (filter_map (λ k. option_map (entry_at i k) (c i k)) ks))) [
+      | None ↦ words_of_columns c i ks
+      | Some w ↦ ap (λ ws. w ∷ ws) (words_of_columns c i ks)
+    ]
+
+-- the words of a row are those of its entries
+pub row_words-entries : (cols : ℕ) (c : Content) (i : ℕ)
+    → row_words cols c i ≡ map (λ (e : Entry). e.word) (row_entries cols c i)
+row_words-entries cols c i = words_of_columns c i (below cols)
+
+words_of_rows : (cols : ℕ) (c : Content) (is : List ℕ)
+    → flat_map (row_words cols c) is ≡ map (λ (e : Entry). e.word) (flat_map (row_entries cols c) is)
+words_of_rows cols c [] = refl
+words_of_rows cols c (i ∷ is) =
+    rw (row_words-entries cols c i, words_of_rows cols c is) (sym (map-append (λ (e : Entry). e.word) (row_entries cols c i) (flat_map (row_entries cols c) is)))
+
+-- all words are those of all entries
+pub all_words-entries : (rows cols : ℕ) (c : Content) → all_words rows cols c ≡ map (λ (e : Entry). e.word)
+    (entries_of rows cols c)
+unfolding entries_of
+all_words-entries rows cols c = words_of_rows cols c (below rows)
 
 -- ---- the map that they make
 

@@ -10,6 +10,7 @@ pub mod IndexLaws
 pub mod MarketLaws
 pub mod MaskLaws
 pub mod ObjectLaws
+pub mod OldLaws
 pub mod OperationLaws
 pub mod ProductLaws
 pub mod RegionLaws

@@ -81,24 +81,34 @@ entry_word : (domain : Domain) (at : Bool) (set word : ℕ) (o : Option ℕ) →
 entry_word domain true set word o small old is = let same : set ≡ word = cc in rw same at small
 entry_word domain false set word o small old is = old word is
 
+-- a map with a word at a position inside rows and columns has nothing outside these
+entry-within : (c : Content) (row col word rows cols : ℕ) → IsWithin rows cols c → row < rows → col < cols
+    → IsWithin rows cols (with_entry c row col word)
+entry-within c row col word rows cols within low left i j outside =
+    entry_within ((i == row) && (j == col)) word (c i j) (not_there i j row col rows cols low left outside) (within i j outside)
+
+-- an object with a word of its domain at a position inside it
+pub entry-is_object : (o : Object) (row col word : ℕ) → IsObject o → row < rows_of o.shape → col < cols_of o.shape
+    → IsWordOf o.domain word → IsObject (record o { content = with_entry o.content row col word })
+entry-is_object o row col word is low left small = record {
+  within = entry-within o.content row col word (rows_of o.shape) (cols_of o.shape) is.within low left;
+  words = λ i j w set. entry_word o.domain ((i == row) && (j == col)) word w (o.content i j) small (is.words i j) set;
+}
+
 -- a map with a value set at a place inside a shape has nothing outside that
 pub set-within : (o : Object) (p : Place) (word : ℕ) → IsWithin (rows_of o.shape) (cols_of o.shape) o.content
     → is_inside p o.shape ≡ true
     → IsWithin (rows_of o.shape) (cols_of o.shape) (with_entry o.content (row_of p) (col_of p) word)
-set-within o p word within inside i j outside =
+set-within o p word within inside =
     let bounds = inside-bounds p o.shape inside in
-    entry_within ((i == row_of p) && (j == col_of p)) word (o.content i j)
-    (not_there i j (row_of p) (col_of p) (rows_of o.shape) (cols_of o.shape) bounds.0 bounds.1 outside) (within i j outside)
+    entry-within o.content (row_of p) (col_of p) word (rows_of o.shape) (cols_of o.shape) within bounds.0 bounds.1
 
 -- an object with a value set at a place inside it
 pub set-is_object : (o : Object) (p : Place) (value : ℤ) → IsObject o → is_inside p o.shape ≡ true
     → IsObject (record o { content = with_entry o.content (row_of p) (col_of p) (word_of o.domain value) })
-set-is_object o p value is inside = record {
-  within = set-within o p (word_of o.domain value) is.within inside;
-  words = λ i j word set.
-      entry_word o.domain ((i == row_of p) && (j == col_of p)) (word_of o.domain value) word (o.content i j)
-      (IsWordOf-word_of o.domain value) (is.words i j) set;
-}
+set-is_object o p value is inside =
+    let bounds = inside-bounds p o.shape inside in
+    entry-is_object o (row_of p) (col_of p) (word_of o.domain value) is bounds.0 bounds.1 (IsWordOf-word_of o.domain value)
 
 removed_within : (at : Bool) (o : Option ℕ) → o ≡ None → cond at None o ≡ None
 removed_within true o none = refl
@@ -108,17 +118,27 @@ removed_word : (at : Bool) (o : Option ℕ) (word : ℕ) → cond at None o ≡ 
 removed_word true o word is = absurd (cc)
 removed_word false o word is = is
 
--- a map without the entry at a place has nothing outside what it had nothing outside
+-- a map without the entry at a position has nothing outside what it had nothing outside
+without-within : (c : Content) (row col rows cols : ℕ) → IsWithin rows cols c
+    → IsWithin rows cols (without_entry c row col)
+without-within c row col rows cols within i j outside = removed_within ((i == row) && (j == col)) (c i j) (within i j outside)
+
+-- an object without the entry at a position
+pub without-is_object : (o : Object) (row col : ℕ) → IsObject o
+    → IsObject (record o { content = without_entry o.content row col })
+without-is_object o row col is = record {
+  within = without-within o.content row col (rows_of o.shape) (cols_of o.shape) is.within;
+  words = λ i j word left. is.words i j word (removed_word ((i == row) && (j == col)) (o.content i j) word left);
+}
+
+-- ..at a place
 pub removed-within : (o : Object) (p : Place) → IsWithin (rows_of o.shape) (cols_of o.shape) o.content
     → IsWithin (rows_of o.shape) (cols_of o.shape) (without_entry o.content (row_of p) (col_of p))
-removed-within o p within i j outside = removed_within ((i == row_of p) && (j == col_of p)) (o.content i j) (within i j outside)
+removed-within o p within = without-within o.content (row_of p) (col_of p) (rows_of o.shape) (cols_of o.shape) within
 
--- an object without the entry at a place
-pub removed-is_object : (o : Object) (p : Place) → IsObject o → IsObject (record o { content = without_entry o.content (row_of p) (col_of p) })
-removed-is_object o p is = record {
-  within = removed-within o p is.within;
-  words = λ i j word left. is.words i j word (removed_word ((i == row_of p) && (j == col_of p)) (o.content i j) word left);
-}
+pub removed-is_object : (o : Object) (p : Place) → IsObject o
+    → IsObject (record o { content = without_entry o.content (row_of p) (col_of p) })
+removed-is_object o p is = without-is_object o (row_of p) (col_of p) is
 
 -- ---- the transpose
 

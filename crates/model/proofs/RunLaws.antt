@@ -58,19 +58,17 @@ had_memory (a ∷ answers) none =
     } in
     All-cons IsNoWant a answers (λ is. none.no_refusal (here OutOfMemory is), λ is. none.no_failure (here InvalidObject is)) (had_memory answers others)
 
--- what is written by a run
-pub ran : (readings : List (Reading File)) (old new : List ℕ) (answers : List Answer)
-    → IsRun 1 first_state readings answers → new ≡ old ++ flat_map answer_text answers → Ran readings old new
+-- where no answer tells of want of memory, a run wrote what the lines' calls give when each is done at once
+pub ran-at_once : (readings : List (Reading File)) (old new : List ℕ) (ran : Ran readings old new)
+    → HadMemory ran.answers → new ≡ old ++ out_of_readings readings
 unfolding out_of_readings
-ran readings old new answers run written =
-    let at_once : HadMemory answers → new ≡ old ++ out_of_readings readings =
-    λ had. written ∙ ap (λ all. old ++ flat_map answer_text all) (run-at_once 1 first_state readings answers run had) in
-    record {
-      answers = answers;
-      run = run;
-      written = written;
-      at_once = at_once;
-      in_bytes = λ text is none.
-          let same : text ≡ flat_map answer_text answers = append_cancel_left old text (flat_map answer_text answers) (sym is ∙ written) in
-          append_cancel_left old text (out_of_readings readings) (sym is ∙ at_once (had_memory answers (rw same at none)));
-    }
+ran-at_once readings old new ran had =
+    ran.written ∙ ap (λ all. old ++ flat_map answer_text all) (run-at_once 1 first_state readings ran.answers ran.run had)
+
+-- ..and so it did where what it wrote tells of none
+pub ran-in_bytes : (readings : List (Reading File)) (old new : List ℕ) → Ran readings old new
+    → (text : List ℕ) → new ≡ old ++ text → TellsOfNoWant text → text ≡ out_of_readings readings
+ran-in_bytes readings old new ran text is none =
+    let same : text ≡ flat_map answer_text ran.answers = append_cancel_left old text (flat_map answer_text ran.answers) (sym is ∙ ran.written) in
+    let had = had_memory ran.answers (rw same at none) in
+    append_cancel_left old text (out_of_readings readings) (sym is ∙ ran-at_once readings old new ran had)

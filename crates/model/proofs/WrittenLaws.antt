@@ -29,8 +29,9 @@ use Rattle.algebra.specs.declared.operator_names.UnaryName.{UnaryName}
 use Rattle.algebra.specs.IndexOperators.{is_by_position}
 use Rattle.algebra.specs.Operators.{combines_by}
 use Rattle.algebra.specs.Names.{binary_name, domain_name, index_from_name, index_name, monoid_name, unary_name}
+use Rattle.model.specs.declared.call.Act.TheVariants.{Free, Clear, Resize, Build, Set, Remove, Get, Nvals, Print, Reduce}
 use Rattle.model.specs.declared.call.Call.{Call}
-use Rattle.model.specs.declared.call.Call.TheVariants.{Create, Dup, Free, Clear, Resize, Build, Set, Remove, Get, Nvals, Print, Reduce, Operate}
+use Rattle.model.specs.declared.call.Call.TheVariants.{Create, Dup, On, Operate}
 use Rattle.model.specs.declared.call.Desc.{Desc}
 use Rattle.model.specs.declared.call.Form.{Form}
 use Rattle.model.specs.declared.call.Form.TheVariants.{MatrixMatrix}
@@ -360,36 +361,36 @@ unfolding command_of call_of matrix_of vector_of domain_of
 written-create name d (shape.One size) named is sized = rw (name_of-name name named, domain-named d is, number_of-decimal size sized) refl
 written-create name d (shape.Two rows cols) named is sized = rw (name_of-name name named, domain-named d is, number_of-decimal rows sized.0, number_of-decimal cols sized.1) refl
 
-written-resize : (object : Name) (s : Shape) → IsName object → IsShape s → IsRead (Resize object s)
+written-resize : (object : Name) (s : Shape) → IsName object → IsShape s → IsRead (On object (Resize s))
 unfolding command_of call_of resize_of
 written-resize object (shape.One size) named sized = rw (name_of-name object named, number_of-decimal size sized) refl
 written-resize object (shape.Two rows cols) named sized = rw (name_of-name object named, number_of-decimal rows sized.0, number_of-decimal cols sized.1) refl
 
 written-build : (object : Name) (dup : Option OpName) (tuples : List Tuple) → IsName object
     → IfSome dup (λ op. IsDomain op.domain) → All IsTuple tuples → are_alike tuples ≡ true
-    → IsRead (Build object dup tuples)
+    → IsRead (On object (Build dup tuples))
 unfolding command_of call_of entry_call_of build_of
 written-build object dup tuples named is all alike =
     let long : nat_le 3 (suc (suc (suc (length (map tuple_word tuples))))) ≡ true = grind (arith, nat_tests) in
     rw (long, name_of-name object named, perhaps-op dup is, tuples_of-words tuples all alike) refl
 
-written-set : (object : Name) (p : Place) (z : ℤ) → IsName object → IsPlace p → IsValue z → IsRead (Set object p z)
+written-set : (object : Name) (p : Place) (z : ℤ) → IsName object → IsPlace p → IsValue z → IsRead (On object (Set p z))
 unfolding command_of call_of entry_call_of set_of place_of
 written-set object (One i) z named is value = rw (number_of-decimal i is, name_of-name object named, value_of_word-value z value) refl
 written-set object (Two i j) z named is value = rw (number_of-decimal i is.0, number_of-decimal j is.1, name_of-name object named, value_of_word-value z value) refl
 
-written-remove : (object : Name) (p : Place) → IsName object → IsPlace p → IsRead (Remove object p)
+written-remove : (object : Name) (p : Place) → IsName object → IsPlace p → IsRead (On object (Remove p))
 unfolding command_of call_of entry_call_of remove_of place_of
 written-remove object (One i) named is = rw (number_of-decimal i is, name_of-name object named) refl
 written-remove object (Two i j) named is = rw (number_of-decimal i is.0, number_of-decimal j is.1, name_of-name object named) refl
 
-written-get : (object : Name) (p : Place) → IsName object → IsPlace p → IsRead (Get object p)
+written-get : (object : Name) (p : Place) → IsName object → IsPlace p → IsRead (On object (Get p))
 unfolding command_of call_of entry_call_of get_of place_of
 written-get object (One i) named is = rw (number_of-decimal i is, name_of-name object named) refl
 written-get object (Two i j) named is = rw (number_of-decimal i is.0, number_of-decimal j is.1, name_of-name object named) refl
 
 written-names : (object : Name) → IsName object
-    → IsRead (Free object) × IsRead (Clear object) × IsRead (Nvals object) × IsRead (Print object)
+    → IsRead (On object Free) × IsRead (On object Clear) × IsRead (On object Nvals) × IsRead (On object Print)
 unfolding command_of call_of entry_call_of only_name_of
 written-names object named =
     let name = name_of-name object named in
@@ -400,7 +401,7 @@ unfolding command_of call_of dup_of
 written-dup name object new old = rw (name_of-name name new, name_of-name object old) refl
 
 written-reduce : (object : Name) (monoid : MonoidName) → IsName object → IsDomain monoid.domain
-    → IsRead (Reduce object monoid)
+    → IsRead (On object (Reduce monoid))
 unfolding command_of call_of entry_call_of reduce_of
 written-reduce object monoid named is = rw (name_of-name object named, monoid_name_of-word monoid is) refl
 
@@ -445,16 +446,16 @@ written-one out (Assign (region.Two rows cols)) a is fits named = rw (indices_of
 pub command_of-words_for : (call : Call Name Name) → IsWritable call → command_of (words_for call) ≡ Some (Called call)
 command_of-words_for (Create name domain s) is = written-create name domain s is.0 is.1 is.2
 command_of-words_for (Dup name object) is = written-dup name object is.0 is.1
-command_of-words_for (Free object) is = (written-names object is).0
-command_of-words_for (Clear object) is = (written-names object is).1
-command_of-words_for (Nvals object) is = (written-names object is).2
-command_of-words_for (Print object) is = (written-names object is).3
-command_of-words_for (Resize object s) is = written-resize object s is.0 is.1
-command_of-words_for (Build object dup tuples) is = written-build object dup tuples is.0 is.1 is.2 is.3
-command_of-words_for (Set object place value) is = written-set object place value is.0 is.1 is.2
-command_of-words_for (Remove object place) is = written-remove object place is.0 is.1
-command_of-words_for (Get object place) is = written-get object place is.0 is.1
-command_of-words_for (Reduce object monoid) is = written-reduce object monoid is.0 is.1
+command_of-words_for (On object Free) is = (written-names object is.0).0
+command_of-words_for (On object Clear) is = (written-names object is.0).1
+command_of-words_for (On object Nvals) is = (written-names object is.0).2
+command_of-words_for (On object Print) is = (written-names object is.0).3
+command_of-words_for (On object (Resize s)) is = written-resize object s is.0 is.1
+command_of-words_for (On object (Build dup tuples)) is = written-build object dup tuples is.0 is.1.0 is.1.1 is.1.2
+command_of-words_for (On object (Set place value)) is = written-set object place value is.0 is.1.0 is.1.1
+command_of-words_for (On object (Remove place)) is = written-remove object place is.0 is.1
+command_of-words_for (On object (Get place)) is = written-get object place is.0 is.1
+command_of-words_for (On object (Reduce monoid)) is = written-reduce object monoid is.0 is.1
 command_of-words_for (Operate out (Fill value indices)) is = written-fill out value indices is.0 is.1.0 is.1.1
 command_of-words_for (Operate out (OfOne computes a)) is = written-one out computes a is.0 is.1.0 is.1.1
 command_of-words_for (Operate out (OfTwo (Multiply form semiring) a b)) is = written-multiply out form semiring a b is.0 is.1.0 is.1.1 is.1.2

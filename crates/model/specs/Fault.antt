@@ -2,30 +2,30 @@
 -- several is this project's).
 use Rattle.std.specs.Prelude.{ℕ, ◌==◌, ◌&&◌, ◌||◌, not, Bool, true, false, is_none, is_some, nat_le, List, [], ◌∷◌}
 use Rattle.std.specs.Prelude.{length, Option, Some, None, if◌then◌else◌}
-use Rattle.std.specs.List.{find, list_all}
-use Rattle.std.specs.Option.{option_map, option_map_or}
+use Rattle.std.specs.List.{find}
+use Rattle.std.specs.Option.{option_and_then, option_map, option_map_or}
 use Rattle.algebra.specs.declared.domain.Domain.{Domain}
-use Rattle.algebra.specs.declared.domain.Domain.TheVariants as domains
 use Rattle.algebra.specs.declared.operator_names.OpName.{OpName}
 use Rattle.algebra.specs.Operators.{answer_domain, combines_by, offers}
 use Rattle.algebra.specs.Value.{are_compatible, is_built_in, is_value_of, same_domain}
+use Rattle.model.specs.declared.call.Act.{Act}
+use Rattle.model.specs.declared.call.Act.TheVariants.{Resize, Build, Set, Remove, Get, Reduce}
 use Rattle.model.specs.declared.call.Call.{Call}
-use Rattle.model.specs.declared.call.Call.TheVariants.{Create, Dup, Resize, Build, Set, Remove, Get, Reduce, Operate}
+use Rattle.model.specs.declared.call.Call.TheVariants.{Create, Dup, On, Operate}
 use Rattle.model.specs.declared.call.Desc.{Desc}
 use Rattle.model.specs.declared.call.Operation.{Operation}
 use Rattle.model.specs.declared.call.Out.{Out}
 use Rattle.model.specs.declared.call.Plan.{Plan}
 use Rattle.model.specs.declared.limits.TheConstants.{GREATEST_DIMENSION, MOST_FILLED, MOST_OBJECTS}
 use Rattle.model.specs.declared.shape.Shape.{Shape}
-use Rattle.model.specs.declared.shape.Shape.TheVariants.{One}
 use Rattle.model.specs.declared.shape.Signature.{Signature}
 use Rattle.model.specs.declared.status.Status.{Status}
 use Rattle.model.specs.declared.status.Status.TheVariants as status
 use Rattle.model.specs.Builds.{are_inside, are_of_kind, are_single, are_values_of}
 use Rattle.model.specs.Entries.{entries_of}
-use Rattle.model.specs.Object.{Object, col_of, cols_of, empty_object, is_inside, is_of_kind, row_of, rows_of, same_kind}
+use Rattle.model.specs.Object.{Object, col_of, cols_of, is_inside, is_of_kind, row_of, rows_of, same_kind}
 use Rattle.model.specs.Object.{same_shape, signature_of, transposed_signature}
-use Rattle.model.specs.Renamed.{objects_of, renamed}
+use Rattle.model.specs.Renamed.{found, renamed}
 use Rattle.model.specs.Table.{filled_by, is_offered, plan_of, transposed}
 
 -- the order of the checks; that a line is no call is found before them
@@ -92,69 +92,71 @@ operation_fails out operation s = plan_fails out (plan_in out.c out.desc operati
 unfoldable pub operation_fault : Out Signature → Operation Signature → Option Status
 operation_fault out operation = first_of (operation_fails out operation)
 
+-- ---- acts
+
+-- which tests an act fails on its object
+abbrev pub act_fails : Signature → Act → Status → Bool
+act_fails o (Resize shape) status.WrongKind = not (same_kind shape o.shape)
+act_fails o (Resize shape) status.InvalidValue = not (are_dimensions shape)
+act_fails o (Build dup tuples) status.WrongKind = not (are_of_kind o.shape tuples)
+act_fails o (Build dup tuples) status.NotImplemented = not (option_map_or (accumulates o.domain) dup true)
+act_fails o (Build dup tuples) status.IndexOutOfBounds = not (are_inside o.shape tuples)
+act_fails o (Build dup tuples) status.InvalidValue =
+    not (are_values_of o.domain tuples && (is_some dup || are_single tuples))
+act_fails o (Set place value) status.WrongKind = not (is_of_kind place o.shape)
+act_fails o (Set place value) status.InvalidIndex = not (is_inside place o.shape)
+act_fails o (Set place value) status.InvalidValue = not (is_value_of o.domain value)
+act_fails o (Remove place) status.WrongKind = not (is_of_kind place o.shape)
+act_fails o (Remove place) status.InvalidIndex = not (is_inside place o.shape)
+act_fails o (Get place) status.WrongKind = not (is_of_kind place o.shape)
+act_fails o (Get place) status.InvalidIndex = not (is_inside place o.shape)
+act_fails o (Reduce monoid) status.NotImplemented = not (offers (combines_by monoid.kind) monoid.domain)
+act_fails o (Reduce monoid) status.DomainMismatch = not (are_compatible o.domain monoid.domain)
+act_fails o _ _ = false
+
+abbrev pub has_entries : Object → Bool
+has_entries o = not (length (entries_of (rows_of o.shape) (cols_of o.shape) o.content) == 0)
+
+-- the fault of an act that depends on values
+abbrev pub late_fault : Object → Act → Option Status
+late_fault o (Get place) = if is_none (o.content (row_of place) (col_of place)) then Some status.NoValue else None
+late_fault o (Build dup tuples) = if has_entries o then Some status.OutputNotEmpty else None
+late_fault o _ = None
+
 -- ---- calls
 
--- which tests a call fails on objects that are there; `count` is the number of objects, and a new name
--- stands for whether it is taken
-abbrev pub test_fails : ℕ → Call Signature Bool → Status → Bool
-test_fails count (Create taken domain shape) status.NameTaken = taken
-test_fails count (Create taken domain shape) status.NotImplemented = nat_le MOST_OBJECTS count
-test_fails count (Create taken domain shape) status.InvalidValue = not (are_dimensions shape)
-test_fails count (Dup taken o) status.NameTaken = taken
-test_fails count (Dup taken o) status.NotImplemented = nat_le MOST_OBJECTS count
-test_fails count (Resize o shape) status.WrongKind = not (same_kind shape o.shape)
-test_fails count (Resize o shape) status.InvalidValue = not (are_dimensions shape)
-test_fails count (Build o dup tuples) status.WrongKind = not (are_of_kind o.shape tuples)
-test_fails count (Build o dup tuples) status.NotImplemented = not (option_map_or (accumulates o.domain) dup true)
-test_fails count (Build o dup tuples) status.IndexOutOfBounds = not (are_inside o.shape tuples)
-test_fails count (Build o dup tuples) status.InvalidValue =
-    not (are_values_of o.domain tuples && (is_some dup || are_single tuples))
-test_fails count (Set o place value) status.WrongKind = not (is_of_kind place o.shape)
-test_fails count (Set o place value) status.InvalidIndex = not (is_inside place o.shape)
-test_fails count (Set o place value) status.InvalidValue = not (is_value_of o.domain value)
-test_fails count (Remove o place) status.WrongKind = not (is_of_kind place o.shape)
-test_fails count (Remove o place) status.InvalidIndex = not (is_inside place o.shape)
-test_fails count (Get o place) status.WrongKind = not (is_of_kind place o.shape)
-test_fails count (Get o place) status.InvalidIndex = not (is_inside place o.shape)
-test_fails count (Reduce o monoid) status.NotImplemented = not (offers (combines_by monoid.kind) monoid.domain)
-test_fails count (Reduce o monoid) status.DomainMismatch = not (are_compatible o.domain monoid.domain)
+-- which tests a call fails on its objects, where there are so many objects
+abbrev pub test_fails : {N : Type 0} → ℕ → Call Signature N → Status → Bool
+test_fails count (Create name domain shape) status.NotImplemented = nat_le MOST_OBJECTS count
+test_fails count (Create name domain shape) status.InvalidValue = not (are_dimensions shape)
+test_fails count (Dup name o) status.NotImplemented = nat_le MOST_OBJECTS count
+test_fails count (On o act) s = act_fails o act s
 test_fails count (Operate out operation) s = operation_fails out operation s
 test_fails count _ _ = false
 
--- what stands for an object that isn't there, where no test but the one for that is told
-abbrev pub no_object : Object
-no_object = empty_object domains.Bool (One 0)
+-- whether a call makes an object under a name that is taken; a new name stands for whether it is
+abbrev pub takes_name : {K : Type 0} → Call K Bool → Bool
+takes_name (Create taken domain shape) = taken
+takes_name (Dup taken object) = taken
+takes_name _ = false
 
-abbrev pub found_object : Option Object → Object
-found_object o = option_map_or (λ o. o) o no_object
-
-abbrev pub found_signature : Option Signature → Signature
-found_signature s = option_map_or (λ s. s) s (signature_of no_object)
-
--- whether each object that the call names is there
-abbrev pub are_there : {X N : Type 0} → Call (Option X) N → Bool
-are_there call = list_all is_some (objects_of call)
-
--- which tests a call fails
+-- which tests a call fails; those on objects are made where all are there
 abbrev pub call_fails : ℕ → Call (Option Signature) Bool → Status → Bool
-call_fails count call status.UninitializedObject = not (are_there call)
-call_fails count call s = test_fails count (renamed found_signature (λ taken. taken) call) s
+call_fails count call status.NameTaken = takes_name call
+call_fails count call status.UninitializedObject = is_none (found call)
+call_fails count call s = option_map_or (λ call. test_fails count call s) (found call) false
 
 -- the fault that depends on names, domains, shapes and the number of objects alone
 unfoldable pub early_fault : ℕ → Call (Option Signature) Bool → Option Status
 early_fault count call = first_of (call_fails count call)
 
-abbrev pub has_entries : Object → Bool
-has_entries o = not (length (entries_of (rows_of o.shape) (cols_of o.shape) o.content) == 0)
-
--- the fault that depends on values
-abbrev pub late_fault : {N : Type 0} → Call Object N → Option Status
-late_fault (Get o place) = if is_none (o.content (row_of place) (col_of place)) then Some status.NoValue else None
-late_fault (Build o dup tuples) = if has_entries o then Some status.OutputNotEmpty else None
-late_fault _ = None
+-- the fault of a call that depends on the values of its object, where that is there
+abbrev pub fault_by_values : {N : Type 0} → Call (Option Object) N → Option Status
+fault_by_values (On o act) = option_and_then (λ o. late_fault o act) o
+fault_by_values _ = None
 
 -- the fault of a call, if it has one
 abbrev pub fault_of : ℕ → Call (Option Object) Bool → Option Status
 fault_of count call =
     option_map_or Some (early_fault count (renamed (option_map signature_of) (λ taken. taken) call))
-    (late_fault (renamed found_object (λ taken. taken) call))
+    (fault_by_values call)

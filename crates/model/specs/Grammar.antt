@@ -17,9 +17,10 @@ use Rattle.algebra.specs.declared.operator_names.UnaryName.{UnaryName}
 use Rattle.algebra.specs.IndexOperators.{is_by_position}
 use Rattle.algebra.specs.Value.{is_built_in}
 use Rattle.algebra.specs.Names.{binary_from_name, domain_from_name, index_from_name, monoid_from_name, unary_from_name}
+use Rattle.model.specs.declared.call.Act.TheVariants.{Free, Clear, Resize, Build, Set, Remove, Get, Nvals, Print}
+use Rattle.model.specs.declared.call.Act.TheVariants.{Reduce}
 use Rattle.model.specs.declared.call.Call.{Call}
-use Rattle.model.specs.declared.call.Call.TheVariants.{Create, Dup, Free, Clear, Resize, Build, Set, Remove, Get}
-use Rattle.model.specs.declared.call.Call.TheVariants.{Nvals, Print, Reduce, Operate}
+use Rattle.model.specs.declared.call.Call.TheVariants.{Create, Dup, On, Operate}
 use Rattle.model.specs.declared.call.Desc.{Desc}
 use Rattle.model.specs.declared.call.Form.{Form}
 use Rattle.model.specs.declared.call.Form.TheVariants.{MatrixMatrix, MatrixVector, VectorMatrix}
@@ -245,10 +246,10 @@ unfoldable pub resize_of : List (List ℕ) → Option (Call Name Name)
 resize_of words =
     if length words == 3
     then (name_of (nth_word words 1) >>= λ name. number_of (nth_word words 2) >>= λ size.
-    Some (Resize name (shape.One size)))
+    Some (On name (Resize (shape.One size))))
     else if length words == 4
     then (name_of (nth_word words 1) >>= λ name. number_of (nth_word words 2) >>= λ rows.
-    number_of (nth_word words 3) >>= λ cols. Some (Resize name (shape.Two rows cols)))
+    number_of (nth_word words 3) >>= λ cols. Some (On name (Resize (shape.Two rows cols))))
     else None
 
 -- the name that follows the first word, where nothing else does
@@ -257,11 +258,11 @@ only_name_of words = if length words == 2 then name_of (nth_word words 1) else N
 
 -- free NAME
 abbrev pub free_of : List (List ℕ) → Option (Call Name Name)
-free_of words = only_name_of words >>= λ name. Some (Free name)
+free_of words = only_name_of words >>= λ name. Some (On name Free)
 
 -- clear NAME
 abbrev pub clear_of : List (List ℕ) → Option (Call Name Name)
-clear_of words = only_name_of words >>= λ name. Some (Clear name)
+clear_of words = only_name_of words >>= λ name. Some (On name Clear)
 
 -- the place between a name and the last words
 unfoldable pub place_of : List (List ℕ) → ℕ → Option Place
@@ -273,30 +274,30 @@ place_of words rest =
 -- set NAME NUM VALUE, or NAME NUM NUM VALUE
 unfoldable pub set_of : List (List ℕ) → Option (Call Name Name)
 set_of words = place_of words 1 >>= λ place. name_of (nth_word words 1) >>= λ name.
-    value_of_word (nth_word words (length words - 1)) >>= λ value. Some (Set name place value)
+    value_of_word (nth_word words (length words - 1)) >>= λ value. Some (On name (Set place value))
 
 -- remove NAME NUM, or NAME NUM NUM
 unfoldable pub remove_of : List (List ℕ) → Option (Call Name Name)
-remove_of words = place_of words 0 >>= λ place. name_of (nth_word words 1) >>= λ name. Some (Remove name place)
+remove_of words = place_of words 0 >>= λ place. name_of (nth_word words 1) >>= λ name. Some (On name (Remove place))
 
 -- get NAME NUM, or NAME NUM NUM
 unfoldable pub get_of : List (List ℕ) → Option (Call Name Name)
-get_of words = place_of words 0 >>= λ place. name_of (nth_word words 1) >>= λ name. Some (Get name place)
+get_of words = place_of words 0 >>= λ place. name_of (nth_word words 1) >>= λ name. Some (On name (Get place))
 
 -- nvals NAME
 abbrev pub nvals_of : List (List ℕ) → Option (Call Name Name)
-nvals_of words = only_name_of words >>= λ name. Some (Nvals name)
+nvals_of words = only_name_of words >>= λ name. Some (On name Nvals)
 
 -- print NAME
 abbrev pub print_of : List (List ℕ) → Option (Call Name Name)
-print_of words = only_name_of words >>= λ name. Some (Print name)
+print_of words = only_name_of words >>= λ name. Some (On name Print)
 
 -- reduce NAME MONOID
 unfoldable pub reduce_of : List (List ℕ) → Option (Call Name Name)
 reduce_of words =
     if length words == 3
     then (name_of (nth_word words 1) >>= λ name. monoid_name_of (nth_word words 2) >>= λ monoid.
-    Some (Reduce name monoid))
+    Some (On name (Reduce monoid)))
     else None
 
 -- `-`: no mask, no accumulator, no flags
@@ -311,7 +312,7 @@ perhaps read word = if is_none_word word then Some None else (read word >>= λ x
 unfoldable pub build_of : List (List ℕ) → Option (Call Name Name)
 build_of words = if not (nat_le 3 (length words)) then None else
     (name_of (nth_word words 1) >>= λ name. perhaps op_name_of (nth_word words 2) >>= λ dup.
-    tuples_of (drop 3 words) >>= λ tuples. Some (Build name dup tuples))
+    tuples_of (drop 3 words) >>= λ tuples. Some (On name (Build dup tuples)))
 
 -- ---- operations: C MASK ACCUM .. DESC
 

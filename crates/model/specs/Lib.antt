@@ -4,6 +4,7 @@ pub mod Entries
 pub mod Fault
 pub mod Grammar
 pub mod Indices
+pub mod Lent
 pub mod Loads
 pub mod MatrixMarket
 pub mod Object

@@ -1,15 +1,18 @@
--- Calls whose objects are named another way, and the objects that a call names.
-use Rattle.std.specs.Prelude.{List, [], ◌∷◌, ◌++◌, Option, Some, None}
-use Rattle.std.specs.Option.{option_map, option_to_list}
+-- Calls whose objects are named another way, and calls on what their names stand for.
+use Rattle.std.specs.Prelude.{List, [], ◌∷◌, Option, Some, None}
+use Rattle.std.specs.Option.{option_and_then, option_map}
 use Rattle.model.specs.declared.call.Call.{Call}
-use Rattle.model.specs.declared.call.Call.TheVariants.{Create, Dup, Free, Clear, Resize, Build, Set, Remove}
-use Rattle.model.specs.declared.call.Call.TheVariants.{Get, Nvals, Print, Reduce, Operate}
+use Rattle.model.specs.declared.call.Call.TheVariants.{Create, Dup, On, Operate}
 use Rattle.model.specs.declared.call.Operation.{Operation}
 use Rattle.model.specs.declared.call.Operation.TheVariants.{Fill, OfOne, OfTwo}
 use Rattle.model.specs.declared.call.Out.{Out}
 
+-- an output with another object and another mask
+abbrev pub out_over : {K L : Type 0} → Out K → L → Option L → Out L
+out_over out c mask = record { c = c; mask = mask; accum = out.accum; desc = out.desc }
+
 abbrev pub renamed_out : {K L : Type 0} → (K → L) → Out K → Out L
-renamed_out f out = record { c = f out.c; mask = option_map f out.mask; accum = out.accum; desc = out.desc }
+renamed_out f out = out_over out (f out.c) (option_map f out.mask)
 
 abbrev pub renamed_operation : {K L : Type 0} → (K → L) → Operation K → Operation L
 renamed_operation f (Fill value region) = Fill value region
@@ -20,48 +23,32 @@ renamed_operation f (OfTwo computes a b) = OfTwo computes (f a) (f b)
 abbrev pub renamed : {K L M N : Type 0} → (K → L) → (M → N) → Call K M → Call L N
 renamed f g (Create name domain shape) = Create (g name) domain shape
 renamed f g (Dup name object) = Dup (g name) (f object)
-renamed f g (Resize object shape) = Resize (f object) shape
-renamed f g (Build object dup tuples) = Build (f object) dup tuples
-renamed f g (Free object) = Free (f object)
-renamed f g (Clear object) = Clear (f object)
-renamed f g (Set object place value) = Set (f object) place value
-renamed f g (Remove object place) = Remove (f object) place
-renamed f g (Get object place) = Get (f object) place
-renamed f g (Nvals object) = Nvals (f object)
-renamed f g (Print object) = Print (f object)
-renamed f g (Reduce object monoid) = Reduce (f object) monoid
+renamed f g (On object act) = On (f object) act
 renamed f g (Operate out operation) = Operate (renamed_out f out) (renamed_operation f operation)
-
--- ---- the objects that must be there
 
 abbrev pub inputs_of : {K : Type 0} → Operation K → List K
 inputs_of (Fill value region) = []
 inputs_of (OfOne computes a) = a ∷ []
 inputs_of (OfTwo computes a b) = a ∷ b ∷ []
 
-abbrev pub outputs_of : {K : Type 0} → Out K → List K
-outputs_of out = out.c ∷ option_to_list out.mask
+-- ---- names that stand for something, each of them, or none is said to
 
-abbrev pub objects_of : {K N : Type 0} → Call K N → List K
-objects_of (Create name domain shape) = []
-objects_of (Dup name object) = object ∷ []
-objects_of (Resize object shape) = object ∷ []
-objects_of (Build object dup tuples) = object ∷ []
-objects_of (Free object) = object ∷ []
-objects_of (Clear object) = object ∷ []
-objects_of (Set object place value) = object ∷ []
-objects_of (Remove object place) = object ∷ []
-objects_of (Get object place) = object ∷ []
-objects_of (Nvals object) = object ∷ []
-objects_of (Print object) = object ∷ []
-objects_of (Reduce object monoid) = object ∷ []
-objects_of (Operate out operation) = outputs_of out ++ inputs_of operation
+-- a mask needn't be there, but where one is named it stands for something
+abbrev pub found_mask : {X : Type 0} → Option (Option X) → Option (Option X)
+found_mask None = Some None
+found_mask (Some mask) = option_map Some mask
 
--- the object that has other entries after a call, and the same shape
-abbrev pub output_of : {K N : Type 0} → Call K N → Option K
-output_of (Clear object) = Some object
-output_of (Build object dup tuples) = Some object
-output_of (Set object place value) = Some object
-output_of (Remove object place) = Some object
-output_of (Operate out operation) = Some out.c
-output_of _ = None
+abbrev pub found_out : {X : Type 0} → Out (Option X) → Option (Out X)
+found_out out = option_and_then (λ c. option_map (out_over out c) (found_mask out.mask)) out.c
+
+abbrev pub found_operation : {X : Type 0} → Operation (Option X) → Option (Operation X)
+found_operation (Fill value region) = Some (Fill value region)
+found_operation (OfOne computes a) = option_map (OfOne computes) a
+found_operation (OfTwo computes a b) = option_and_then (λ a. option_map (OfTwo computes a) b) a
+
+abbrev pub found : {X N : Type 0} → Call (Option X) N → Option (Call X N)
+found (Create name domain shape) = Some (Create name domain shape)
+found (Dup name object) = option_map (Dup name) object
+found (On object act) = option_map (λ o. On o act) object
+found (Operate out operation) =
+    option_and_then (λ out. option_map (Operate out) (found_operation operation)) (found_out out)

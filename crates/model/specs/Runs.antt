@@ -5,7 +5,7 @@ use Rattle.std.specs.List.{All, flat_map}
 use Rattle.model.specs.declared.status.Status.TheVariants as status
 use Rattle.model.specs.Grammar.{Name, Reading, Silent, Malformed, Called, Loads}
 use Rattle.model.specs.MatrixMarket.{File}
-use Rattle.model.specs.Run.{Environment, no_objects, out_of_readings, turn}
+use Rattle.model.specs.Run.{Environment, no_objects, turn}
 use Rattle.model.specs.Text.{Answer, answer_text}
 
 -- what a run knows between two lines
@@ -68,11 +68,8 @@ pub record TellsOfNoWant (text : List ℕ) : Type 0 where
   pub no_refusal : ¬ (HasWord (codes "OUT_OF_MEMORY") text)
   pub no_failure : ¬ (HasWord (codes "INVALID_OBJECT") text)
 
--- Bytes and what a run of lines appended to them. Where no answer tells of want of memory, that is what the lines'
--- calls give when each is done at once; and whether one does can be seen in the bytes.
+-- bytes, and with them the answers of a run of lines
 pub record Ran (readings : List (Reading File)) (old new : List ℕ) : Type 0 where
   pub answers : List Answer
   pub run : IsRun 1 first_state readings answers
   pub written : new ≡ old ++ flat_map answer_text answers
-  pub at_once : HadMemory answers → new ≡ old ++ out_of_readings readings
-  pub in_bytes : (text : List ℕ) → new ≡ old ++ text → TellsOfNoWant text → text ≡ out_of_readings readings

@@ -41,94 +41,72 @@ product_shape MatrixMatrix a b = Two (rows_of a) (cols_of b)
 product_shape MatrixVector a b = One (rows_of a)
 product_shape VectorMatrix a b = One (cols_of b)
 
--- what an operation says of its output and its one input
-abbrev pub plan_of_one : Signature → OneInput → Signature → Plan
-plan_of_one c (Apply function) a = record {
+-- what asks nothing, and computes what has a shape and a domain
+abbrev pub asks_nothing : Signature → Plan
+asks_nothing of = record {
   kinds = true;
-  compatible = takes function a.domain;
-  fits = true;
-  inside = true;
-  values = has_value function;
-  shape = a.shape;
-  domain = function_answer function;
-}
-plan_of_one c (Select op scalar) a = record {
-  kinds = true;
-  compatible = takes_index op.kind op.domain a.domain;
-  fits = true;
-  inside = true;
-  values = is_value_of (scalar_domain op.kind op.domain) scalar;
-  shape = a.shape;
-  domain = a.domain;
-}
-plan_of_one c (ReduceRows monoid) a = record {
-  kinds = is_matrix a.shape;
-  compatible = are_compatible a.domain monoid.domain;
+  compatible = true;
   fits = true;
   inside = true;
   values = true;
+  shape = of.shape;
+  domain = of.domain;
+}
+
+-- what an operation says of its output and its one input
+abbrev pub plan_of_one : Signature → OneInput → Signature → Plan
+plan_of_one c (Apply function) a = record (asks_nothing a) {
+  compatible = takes function a.domain;
+  values = has_value function;
+  domain = function_answer function;
+}
+plan_of_one c (Select op scalar) a = record (asks_nothing a) {
+  compatible = takes_index op.kind op.domain a.domain;
+  values = is_value_of (scalar_domain op.kind op.domain) scalar;
+}
+plan_of_one c (ReduceRows monoid) a = record (asks_nothing a) {
+  kinds = is_matrix a.shape;
+  compatible = are_compatible a.domain monoid.domain;
   shape = One (rows_of a.shape);
   domain = monoid.domain;
 }
-plan_of_one c Transpose a = record {
-  kinds = is_matrix a.shape;
-  compatible = true;
-  fits = true;
-  inside = true;
-  values = true;
-  shape = transposed_shape a.shape;
-  domain = a.domain;
-}
-plan_of_one c (Extract region) a = record {
+plan_of_one c Transpose a = record (asks_nothing a) { kinds = is_matrix a.shape; shape = transposed_shape a.shape }
+plan_of_one c (Extract region) a = record (asks_nothing a) {
   kinds = is_region_of region a.shape;
-  compatible = true;
-  fits = true;
   inside = lies_inside a.shape region;
-  values = true;
   shape = shape_in a.shape region;
-  domain = a.domain;
 }
-plan_of_one c (Assign region) a = record {
+plan_of_one c (Assign region) a = record (asks_nothing a) {
   kinds = is_region_of region a.shape && is_region_of region c.shape;
-  compatible = true;
   fits = same_shape a.shape (shape_in c.shape region);
   inside = lies_inside c.shape region;
   values = has_no_repeat region;
   shape = c.shape;
-  domain = a.domain;
 }
 
 -- ..and of its two inputs
 abbrev pub plan_of_two : TwoInputs → Signature → Signature → Plan
-plan_of_two (Multiply form semiring) a b = record {
+plan_of_two (Multiply form semiring) a b = record (asks_nothing a) {
   kinds = are_factors form a.shape b.shape;
   compatible = are_compatible a.domain semiring.domain && are_compatible b.domain semiring.domain;
   fits = inner_size form a.shape == rows_of b.shape;
-  inside = true;
-  values = true;
   shape = product_shape form a.shape b.shape;
   domain = answer_domain semiring.multiply semiring.domain;
 }
-plan_of_two (Combine positions op) a b = record {
+plan_of_two (Combine positions op) a b = record (asks_nothing a) {
   kinds = same_kind a.shape b.shape;
   compatible = are_compatible a.domain op.domain && are_compatible b.domain op.domain;
   fits = same_shape a.shape b.shape;
-  inside = true;
-  values = true;
-  shape = a.shape;
   domain = answer_domain op.kind op.domain;
 }
 
 -- ..and of a region of its output, where it has no input
 abbrev pub plan_of_fill : Signature → ℤ → Region → Plan
-plan_of_fill c value region = record {
+plan_of_fill c value region = record (asks_nothing c) {
   kinds = is_region_of region c.shape;
   compatible = is_built_in c.domain;
-  fits = true;
   inside = lies_inside c.shape region;
   values = is_value_of c.domain value;
-  shape = c.shape;
-  domain = c.domain;
 }
 
 abbrev pub plan_of : Signature → Operation Signature → Plan

@@ -1,20 +1,18 @@
--- Mask, accumulator and write-back (the last steps of every operation of the GraphBLAS C API), and what a call
+-- Mask, accumulator and write-back (the last steps of every operation of the GraphBLAS C API), and what an operation
 -- leaves in its output.
-use Rattle.std.specs.Prelude.{ℕ, ◌||◌, ◌==◌, not, Bool, true, false, if◌then◌else◌, Option, Some, None}
+use Rattle.std.specs.Prelude.{ℕ, ◌||◌, ◌==◌, not, Bool, true, false, if◌then◌else◌, is_some, Option, Some, None}
 use Rattle.std.specs.Option.{option_map_or}
 use Rattle.algebra.specs.declared.domain.Domain.TheVariants as domains
 use Rattle.algebra.specs.declared.operator_names.OpName.{OpName}
 use Rattle.algebra.specs.Operators.{eval_of}
-use Rattle.algebra.specs.Value.{cast_of, word_of}
-use Rattle.model.specs.declared.call.Call.{Call}
-use Rattle.model.specs.declared.call.Call.TheVariants.{Build, Set, Remove, Operate}
+use Rattle.algebra.specs.Value.{cast_of}
 use Rattle.model.specs.declared.call.Desc.{Desc}
+use Rattle.model.specs.declared.call.OneInput.TheVariants.{Assign}
 use Rattle.model.specs.declared.call.Operation.{Operation}
+use Rattle.model.specs.declared.call.Operation.TheVariants.{Fill, OfOne}
 use Rattle.model.specs.declared.call.Out.{Out}
-use Rattle.model.specs.Builds.{built}
 use Rattle.model.specs.Fault.{plan_in}
-use Rattle.model.specs.Object.{Content, Object, cast_content, col_of, no_content, row_of, signature_of}
-use Rattle.model.specs.Object.{transposed_object, with_entry, without_entry}
+use Rattle.model.specs.Object.{Content, Object, cast_content, signature_of, transposed_object}
 use Rattle.model.specs.Operations.{is_written_by, operation}
 use Rattle.model.specs.Renamed.{renamed_operation}
 use Rattle.model.specs.Table.{transposed}
@@ -64,10 +62,15 @@ result_of out inputs =
     let values = cast_content plan.domain c.domain (operation c (transposed transposed_object out.desc inputs)) in
     masked out (landed out (is_written_by c.shape inputs) values)
 
--- what a call leaves in the object into which it writes
-abbrev pub left_by : {N : Type 0} → Call Object N → Content
-left_by (Set o place value) = with_entry o.content (row_of place) (col_of place) (word_of o.domain value)
-left_by (Remove o place) = without_entry o.content (row_of place) (col_of place)
-left_by (Build o dup tuples) = built dup o.domain tuples
-left_by (Operate out inputs) = result_of out inputs
-left_by _ = no_content
+-- ---- what is read of the output
+
+-- the operation writes some positions alone
+abbrev pub writes_region : {K : Type 0} → Operation K → Bool
+writes_region (Fill value region) = true
+writes_region (OfOne (Assign region) a) = true
+writes_region _ = false
+
+-- Whether what the output has before the call is read: where a mask or its complement keeps some of it, an accumulator
+-- combines with it, or what is outside a region stays. (OldLaws.antt: else the result doesn't depend on it.)
+abbrev pub reads_old : {K L : Type 0} → Out K → Operation L → Bool
+reads_old out inputs = is_some out.mask || out.desc.complement || is_some out.accum || writes_region inputs

@@ -14,9 +14,11 @@ use Rattle.algebra.specs.declared.operator_names.SemiringName.{SemiringName}
 use Rattle.algebra.specs.declared.operator_names.UnaryName.{UnaryName}
 use Rattle.algebra.specs.IndexOperators.{is_by_position}
 use Rattle.algebra.specs.Names.{binary_name, domain_name, index_name, monoid_name, unary_name}
+use Rattle.model.specs.declared.call.Act.{Act}
+use Rattle.model.specs.declared.call.Act.TheVariants.{Free, Clear, Resize, Build, Set, Remove, Get, Nvals, Print}
+use Rattle.model.specs.declared.call.Act.TheVariants.{Reduce}
 use Rattle.model.specs.declared.call.Call.{Call}
-use Rattle.model.specs.declared.call.Call.TheVariants.{Create, Dup, Free, Clear, Resize, Build, Set, Remove, Get}
-use Rattle.model.specs.declared.call.Call.TheVariants.{Nvals, Print, Reduce, Operate}
+use Rattle.model.specs.declared.call.Call.TheVariants.{Create, Dup, On, Operate}
 use Rattle.model.specs.declared.call.Desc.{Desc}
 use Rattle.model.specs.declared.call.Form.{Form}
 use Rattle.model.specs.declared.call.Form.TheVariants.{MatrixMatrix, MatrixVector, VectorMatrix}
@@ -158,19 +160,32 @@ abbrev pub create_word : Shape → List ℕ
 create_word (shape.One size) = codes "vector"
 create_word (shape.Two rows cols) = codes "matrix"
 
+-- an act's word, and those behind the object
+abbrev pub act_word : Act → List ℕ
+act_word Free = codes "free"
+act_word Clear = codes "clear"
+act_word (Resize s) = codes "resize"
+act_word (Build dup tuples) = codes "build"
+act_word (Set place value) = codes "set"
+act_word (Remove place) = codes "remove"
+act_word (Get place) = codes "get"
+act_word Nvals = codes "nvals"
+act_word Print = codes "print"
+act_word (Reduce monoid) = codes "reduce"
+
+abbrev pub act_words : Act → List (List ℕ)
+act_words (Resize s) = shape_words s
+act_words (Build dup tuples) = word_or_none op_word dup ∷ map tuple_word tuples
+act_words (Set place value) = place_words place ++ signed_decimal value ∷ []
+act_words (Remove place) = place_words place
+act_words (Get place) = place_words place
+act_words (Reduce monoid) = monoid_word monoid ∷ []
+act_words _ = []
+
 abbrev pub words_for : Call Name Name → List (List ℕ)
 words_for (Create name domain s) = create_word s ∷ name ∷ domain_name domain ∷ shape_words s
 words_for (Dup name object) = codes "dup" ∷ name ∷ object ∷ []
-words_for (Free object) = codes "free" ∷ object ∷ []
-words_for (Clear object) = codes "clear" ∷ object ∷ []
-words_for (Resize object s) = codes "resize" ∷ object ∷ shape_words s
-words_for (Build object dup tuples) = codes "build" ∷ object ∷ word_or_none op_word dup ∷ map tuple_word tuples
-words_for (Set object place value) = codes "set" ∷ object ∷ place_words place ++ signed_decimal value ∷ []
-words_for (Remove object place) = codes "remove" ∷ object ∷ place_words place
-words_for (Get object place) = codes "get" ∷ object ∷ place_words place
-words_for (Nvals object) = codes "nvals" ∷ object ∷ []
-words_for (Print object) = codes "print" ∷ object ∷ []
-words_for (Reduce object monoid) = codes "reduce" ∷ object ∷ monoid_word monoid ∷ []
+words_for (On object act) = act_word act ∷ object ∷ act_words act
 words_for (Operate out operation) =
     first_word operation ∷ out.c ∷ word_or_none (λ mask. mask) out.mask ∷ word_or_none op_word out.accum
     ∷ middle_words operation ++ desc_word out.desc ∷ []
@@ -236,18 +251,18 @@ IsOperation (Fill value indices) = IsValue value × IsRegion indices
 IsOperation (OfOne computes a) = IsOneInput computes × IsName a
 IsOperation (OfTwo computes a b) = IsTwoInputs computes × IsName a × IsName b
 
+abbrev pub IsWritableAct : Act → Type 0
+IsWritableAct (Resize s) = IsShape s
+IsWritableAct (Build dup tuples) =
+    IfSome dup (λ op. IsDomain op.domain) × All IsTuple tuples × (are_alike tuples ≡ true)
+IsWritableAct (Set place value) = IsPlace place × IsValue value
+IsWritableAct (Remove place) = IsPlace place
+IsWritableAct (Get place) = IsPlace place
+IsWritableAct (Reduce monoid) = IsDomain monoid.domain
+IsWritableAct _ = Unit
+
 abbrev pub IsWritable : Call Name Name → Type 0
 IsWritable (Create name domain s) = IsName name × IsDomain domain × IsShape s
 IsWritable (Dup name object) = IsName name × IsName object
-IsWritable (Free object) = IsName object
-IsWritable (Clear object) = IsName object
-IsWritable (Resize object s) = IsName object × IsShape s
-IsWritable (Build object dup tuples) =
-    IsName object × IfSome dup (λ op. IsDomain op.domain) × All IsTuple tuples × (are_alike tuples ≡ true)
-IsWritable (Set object place value) = IsName object × IsPlace place × IsValue value
-IsWritable (Remove object place) = IsName object × IsPlace place
-IsWritable (Get object place) = IsName object × IsPlace place
-IsWritable (Nvals object) = IsName object
-IsWritable (Print object) = IsName object
-IsWritable (Reduce object monoid) = IsName object × IsDomain monoid.domain
+IsWritable (On object act) = IsName object × IsWritableAct act
 IsWritable (Operate out operation) = IsOut out × IsOperation operation

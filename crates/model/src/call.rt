@@ -114,8 +114,43 @@ pub enum Operation<K> {
     OfTwo { computes: TwoInputs, a: K, b: K },
 }
 
-/// A call. `K` is how it names objects, and `N` how it names one that it makes: in a script both are
-/// words; in a session objects have numbers, and a new one has none yet.
+/// What is done to one object, or asked of it.
+#[derive(Drop)]
+pub enum Act {
+    /// Frees the object (`GrB_free`).
+    Free,
+    /// Removes all entries (`GrB_Matrix_clear`, `GrB_Vector_clear`).
+    Clear,
+    /// Gives the object another shape, in which the entries stay that fit it (`GrB_Matrix_resize`,
+    /// `GrB_Vector_resize`).
+    Resize(Shape),
+    /// Puts values at positions of an object without entries; those of one position are combined in the
+    /// order of the list (`GrB_Matrix_build`, `GrB_Vector_build`).
+    Build {
+        dup: Option<OpName>,
+        tuples: TupleList,
+    },
+    /// Sets an entry (`GrB_Matrix_setElement`, `GrB_Vector_setElement`).
+    Set {
+        place: Place,
+        value: i128,
+    },
+    /// Removes an entry, where there is one (`GrB_Matrix_removeElement`,
+    /// `GrB_Vector_removeElement`).
+    Remove(Place),
+    /// Asks for the value of an entry (`GrB_Matrix_extractElement`, `GrB_Vector_extractElement`).
+    Get(Place),
+    /// Asks for the number of entries (`GrB_Matrix_nvals`, `GrB_Vector_nvals`).
+    Nvals,
+    /// Asks for the object's canonical text.
+    Print,
+    /// Asks for the sum of all values (`GrB_reduce` to a scalar).
+    Reduce(MonoidName),
+}
+
+/// A call, by the objects that it names. `K` is how it names objects, and `N` how it names one that it
+/// makes: in a script both are words; in a session objects have numbers, and a new one has none yet.
+/// All that looks up, checks and renames objects has a case for each of these four.
 #[derive(Drop)]
 pub enum Call<K, N> {
     /// Makes an object without entries (`GrB_Matrix_new`, `GrB_Vector_new`).
@@ -130,56 +165,10 @@ pub enum Call<K, N> {
         name: N,
         object: K,
     },
-    /// Frees an object (`GrB_free`).
-    Free {
+    /// Does something to one object, or asks something of it.
+    On {
         object: K,
-    },
-    /// Removes all entries (`GrB_Matrix_clear`, `GrB_Vector_clear`).
-    Clear {
-        object: K,
-    },
-    /// Gives an object another shape, in which the entries stay that fit it (`GrB_Matrix_resize`,
-    /// `GrB_Vector_resize`).
-    Resize {
-        object: K,
-        shape: Shape,
-    },
-    /// Puts values at positions of an object without entries; those of one position are combined in the
-    /// order of the list (`GrB_Matrix_build`, `GrB_Vector_build`).
-    Build {
-        object: K,
-        dup: Option<OpName>,
-        tuples: TupleList,
-    },
-    /// Sets an entry (`GrB_Matrix_setElement`, `GrB_Vector_setElement`).
-    Set {
-        object: K,
-        place: Place,
-        value: i128,
-    },
-    /// Removes an entry, where there is one (`GrB_Matrix_removeElement`,
-    /// `GrB_Vector_removeElement`).
-    Remove {
-        object: K,
-        place: Place,
-    },
-    /// Asks for the value of an entry (`GrB_Matrix_extractElement`, `GrB_Vector_extractElement`).
-    Get {
-        object: K,
-        place: Place,
-    },
-    /// Asks for the number of entries (`GrB_Matrix_nvals`, `GrB_Vector_nvals`).
-    Nvals {
-        object: K,
-    },
-    /// Asks for the object's canonical text.
-    Print {
-        object: K,
-    },
-    /// Asks for the sum of all values (`GrB_reduce` to a scalar).
-    Reduce {
-        object: K,
-        monoid: MonoidName,
+        act: Act,
     },
     /// Computes an operation, and writes it into its output.
     Operate {

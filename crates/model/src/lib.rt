@@ -4,6 +4,7 @@
 
 mod call;
 mod entry;
+mod found;
 mod indices;
 mod limits;
 mod market;
@@ -15,8 +16,11 @@ mod status;
 mod table;
 mod tuples;
 
-pub use call::{Call, Desc, Form, OneInput, Operation, Out, Plan, Positions, Region, TwoInputs};
+pub use call::{
+    Act, Call, Desc, Form, OneInput, Operation, Out, Plan, Positions, Region, TwoInputs,
+};
 pub use entry::Entry;
+pub use found::{Lent, Lookup};
 pub use indices::IndexList;
 pub use limits::{
     GREATEST_DIMENSION, LONGEST_FILE_NAME, LONGEST_LINE, LONGEST_NAME, MOST_FILLED, MOST_OBJECTS,

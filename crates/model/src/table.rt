@@ -1,9 +1,14 @@
 //! The table of operations: what each asks of its output and its inputs, and what it computes.
 ghost use Rattle.std.specs.Prelude.{◌≡◌, true};
+ghost use Rattle.model.specs.Fault.{plan_in};
+ghost use Rattle.model.specs.Lent.{operation_lent};
+ghost use Rattle.model.specs.Object.{transposed_signature};
+ghost use Rattle.model.specs.Table.{asks_nothing, filled_by, transposed_if};
 ghost use Rattle.model.specs.Table.{are_factors, inner_size, offers_one, offers_two, plan_of_fill, plan_of_one};
 ghost use Rattle.model.specs.Table.{plan_of_two, product_shape};
 
-use crate::call::{Form, OneInput, Plan, Region, TwoInputs};
+use crate::call::{Desc, Form, OneInput, Plan, Region, TwoInputs};
+use crate::found::Lent;
 use crate::shape::{Shape, Signature};
 use algebra::compatible;
 
@@ -43,16 +48,8 @@ impl Form {
 
 impl Plan {
     /// The plan of what asks nothing, and computes what has a domain and a shape.
-    const fn undemanding(of: Signature) -> Plan
-        ensures { result ≡ record {
-          kinds = true;
-          compatible = true;
-          fits = true;
-          inside = true;
-          values = true;
-          shape = of.shape;
-          domain = of.domain;
-        } }
+    const fn asks_nothing(of: Signature) -> Plan
+        ensures { result ≡ asks_nothing of }
     {
         Plan {
             kinds: true,
@@ -76,7 +73,21 @@ impl Region {
             compatible: c.domain.is_built_in(),
             inside: self.lies_inside(c.shape),
             values: c.domain.word_of(value).is_some(),
-            ..Plan::undemanding(c)
+            ..Plan::asks_nothing(c)
+        }
+    }
+
+    /// What the table says of an input that is put at its positions in an output.
+    fn plan_of_assign(&self, c: Signature, a: Signature) -> Plan
+        ensures { result ≡ plan_of_one c (OneInput.Assign self.now) a }
+    {
+        Plan {
+            kinds: self.is_region_of(a.shape) && self.is_region_of(c.shape),
+            fits: a.shape.is_same(self.shape_in(c.shape)),
+            inside: self.lies_inside(c.shape),
+            values: self.has_no_repeat(),
+            shape: c.shape,
+            ..Plan::asks_nothing(a)
         }
     }
 }
@@ -104,39 +115,32 @@ impl OneInput {
                 compatible: function.takes(domain),
                 values: function.has_value(),
                 domain: function.answer(),
-                ..Plan::undemanding(a)
+                ..Plan::asks_nothing(a)
             },
             OneInput::Select { op, scalar } => Plan {
                 compatible: op.takes(domain),
                 values: op.scalar().word_of(*scalar).is_some(),
-                ..Plan::undemanding(a)
+                ..Plan::asks_nothing(a)
             },
             OneInput::ReduceRows(monoid) => Plan {
                 kinds: shape.is_matrix(),
                 compatible: compatible(domain, monoid.domain),
                 shape: Shape::One(shape.rows()),
                 domain: monoid.domain,
-                ..Plan::undemanding(a)
+                ..Plan::asks_nothing(a)
             },
             OneInput::Transpose => Plan {
                 kinds: shape.is_matrix(),
                 shape: shape.transposed(),
-                ..Plan::undemanding(a)
+                ..Plan::asks_nothing(a)
             },
             OneInput::Extract(region) => Plan {
                 kinds: region.is_region_of(shape),
                 inside: region.lies_inside(shape),
                 shape: region.shape_in(shape),
-                ..Plan::undemanding(a)
+                ..Plan::asks_nothing(a)
             },
-            OneInput::Assign(region) => Plan {
-                kinds: region.is_region_of(shape) && region.is_region_of(c.shape),
-                fits: shape.is_same(region.shape_in(c.shape)),
-                inside: region.lies_inside(c.shape),
-                values: region.has_no_repeat(),
-                shape: c.shape,
-                ..Plan::undemanding(a)
-            },
+            OneInput::Assign(region) => region.plan_of_assign(c, a),
         }
     }
 }
@@ -164,15 +168,56 @@ impl TwoInputs {
                 fits: form.inner_size(a.shape) == b.shape.rows(),
                 shape: form.product_shape(a.shape, b.shape),
                 domain: semiring.answer(),
-                ..Plan::undemanding(a)
+                ..Plan::asks_nothing(a)
             },
             TwoInputs::Combine { op, .. } => Plan {
                 kinds: a.shape.is_like(b.shape),
                 compatible: compatible(a.domain, op.domain) && compatible(b.domain, op.domain),
                 fits: a.shape.is_same(b.shape),
                 domain: op.answer(),
-                ..Plan::undemanding(a)
+                ..Plan::asks_nothing(a)
             },
         }
+    }
+}
+
+impl Lent<'_, Signature> {
+    /// What the table says of an output and the inputs, transposed as a descriptor says.
+    pub fn plan(self, c: Signature, desc: Desc) -> Plan
+        ensures { result ≡ plan_in c desc (operation_lent self.entry) }
+    {
+        match self {
+            Lent::Fill { value, region } => region.plan_of_fill(c, value),
+            Lent::OfOne { computes, a } => {
+                computes.plan(c, transposed_if(computes.is_transposed(desc), a))
+            }
+            Lent::OfTwo { computes, a, b } => {
+                let a = transposed_if(desc.transpose_first, a);
+                let b = transposed_if(desc.transpose_second, b);
+                computes.plan(a, b)
+            }
+        }
+    }
+
+    /// How many positions are filled with one value, of an output of a shape.
+    pub fn filled(self, shape: Shape) -> u128
+        ensures { result ≡ filled_by shape (operation_lent self.entry) }
+    {
+        match self {
+            Lent::Fill { region, .. } => region.positions_in(shape),
+            Lent::OfOne { .. } | Lent::OfTwo { .. } => 0,
+        }
+    }
+}
+
+fn transposed_if(flag: bool, signature: Signature) -> Signature
+    ensures { result ≡ transposed_if transposed_signature flag signature }
+{
+    if !flag {
+        return signature;
+    }
+    Signature {
+        domain: signature.domain,
+        shape: signature.shape.transposed(),
     }
 }

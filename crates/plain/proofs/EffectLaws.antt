@@ -1,45 +1,44 @@
 -- What accepted calls leave: one object that is made or changed, which lists what is inside its shape.
-use Rattle.std.proofs.Common.{◌≡◌, ◌∙◌, ℕ, refl, sym, ap, Bool, true, false, cond, ◌&&◌, [], ◌∷◌, Option, Some, None, MatchOption}
-use Rattle.std.specs.Prelude.{nat_lt}
+use Rattle.std.proofs.Common.{◌≡◌, ◌∙◌, ℕ, refl, sym, ap, [], ◌∷◌, Option, Some, None, MatchOption}
 use Rattle.std.specs.List.{All}
-use Rattle.std.specs.Option.{option_map, option_map_or}
+use Rattle.std.specs.Option.{option_map, option_map_or, unwrap_or}
 use Rattle.std.specs.Str.{bytes_eq}
 use Rattle.std.specs.String.{string_bytes}
 use Rattle.std.proofs.lemmas.List.Elements.{All-cons, All-nil}
 use Rattle.algebra.specs.Value.{word_of}
 use Rattle.model.specs.declared.call.Call.{Call}
-use Rattle.model.specs.declared.call.Call.TheVariants.{Build, Clear, Create, Dup, Free, Get, Nvals, Operate, Print, Reduce, Remove, Resize, Set}
+use Rattle.model.specs.declared.call.Act.TheVariants.{Build, Clear, Free, Remove, Resize, Set}
+use Rattle.model.specs.declared.call.Call.TheVariants.{Create, Dup, On, Operate}
 use Rattle.model.specs.declared.call.Operation.{Operation}
 use Rattle.model.specs.declared.call.Operation.TheVariants.{Fill, OfOne, OfTwo}
 use Rattle.model.specs.declared.shape.Signature.{Signature}
 use Rattle.model.specs.declared.status.Status.TheVariants as status
 use Rattle.model.specs.Builds.{are_inside}
 use Rattle.model.specs.Entries.{entries_of}
-use Rattle.model.specs.Fault.{fault_of, found_object}
+use Rattle.model.specs.Fault.{fault_of}
 use Rattle.model.specs.Grammar.{Name}
-use Rattle.model.specs.Object.{Content, IsWithin, Object, cols_of, is_inside, no_content, rows_of}
+use Rattle.model.specs.Object.{Content, Object, cols_of, is_inside, no_content, rows_of}
 use Rattle.model.specs.Regions.{cut_to}
 use Rattle.model.specs.Renamed.{inputs_of, renamed_operation, renamed_out}
-use Rattle.model.specs.Run.{Environment, effect, object_at, on_objects, seen, with_object}
+use Rattle.model.specs.Run.{Environment, effect, no_object, object_at, on_objects, seen, with_object}
 use Rattle.model.proofs.BuildLaws.{built-within}
-use Rattle.model.proofs.ObjectLaws.{objects_equal, removed-within, set-within}
+use Rattle.model.proofs.ObjectLaws.{removed-within, set-within}
+use Rattle.model.proofs.RegionLaws.{cut_to-within}
 use Rattle.model.proofs.ResultLaws.{KeepsInside, result-within}
-use Rattle.model.proofs.StepLaws.{accepted-operation, accepted-test}
+use Rattle.model.proofs.StepLaws.{accepted-act, accepted-operation}
 use Rattle.model.proofs.WriteBackLaws.{not_false}
 use Rattle.plain.specs.declared.environment.PlainEnvironment.{PlainEnvironment}
 use Rattle.plain.specs.declared.objects.PlainObject.{PlainObject}
+use Rattle.plain.specs.Acts.{content_left}
 use Rattle.plain.specs.Environments.{content_made, count_after, environment_of, find_in, known_as, made, with_name}
 use Rattle.plain.specs.Evaluated.{listed_word, object_of}
-use Rattle.plain.proofs.GridLaws.{listed-cut}
+use Rattle.plain.proofs.ObjectLaws.{object-listed, whole}
 
 -- ---- the objects of an environment keep inside their shapes
 
-kept_within : (inside : Bool) (v : Option ℕ) → inside ≡ false → cond inside v None ≡ None
-kept_within inside v outside = rw outside refl
-
-found_inside : (o : Option PlainObject) → KeepsInside (found_object (option_map object_of o))
+found_inside : (o : Option PlainObject) → KeepsInside (unwrap_or (option_map object_of o) no_object)
 found_inside None i j outside = refl
-found_inside (Some o) i j outside = kept_within (nat_lt i (rows_of o.shape) && nat_lt j (cols_of o.shape)) (listed_word o.entries.items i j) outside
+found_inside (Some o) i j outside = cut_to-within (rows_of o.shape) (cols_of o.shape) (listed_word o.entries.items) i j outside
 
 module _ (plain : PlainEnvironment) where
   abbrev pub env : Environment Name
@@ -57,13 +56,6 @@ module _ (plain : PlainEnvironment) where
 
   -- ---- what is made
 
-  uncut : (test : Bool) (v : Option ℕ) → (test ≡ false → v ≡ None) → v ≡ cond test v None
-  uncut true v none = refl
-  uncut false v none = none refl
-
-  whole : (rows cols : ℕ) (c : Content) → IsWithin rows cols c → (i j : ℕ) → c i j ≡ cut_to rows cols c i j
-  whole rows cols c inside i j = uncut (nat_lt i rows && nat_lt j cols) (c i j) (inside i j)
-
   -- the map of the object is what its shape leaves of the map that is evaluated
   abbrev IsCut : Call Name Name → Name × Object → Type 0
   IsCut call m = (i j : ℕ) → m.1.content i j ≡ cut_to (rows_of m.1.shape) (cols_of m.1.shape) (content_made (on_objects env call)) i j
@@ -73,32 +65,26 @@ module _ (plain : PlainEnvironment) where
   made-cut (Create name domain shape) accepted = whole (rows_of shape) (cols_of shape) no_content (λ i j outside. refl)
   made-cut (Dup name object) accepted =
       let o = object_at env object in whole (rows_of o.shape) (cols_of o.shape) o.content (inside object)
-  made-cut (Resize name shape) accepted = λ i j. refl
-  made-cut (Clear name) accepted =
+  made-cut (On name (Resize shape)) accepted = λ i j. refl
+  made-cut (On name Clear) accepted =
       let o = object_at env name in whole (rows_of o.shape) (cols_of o.shape) no_content (λ i j outside. refl)
-  made-cut (Build name dup tuples) accepted =
+  made-cut (On name (Build dup tuples)) accepted =
       let o = object_at env name in
-      let call : Call Name Name = Build name dup tuples in
-      whole (rows_of o.shape) (cols_of o.shape) (content_made (on_objects env call))
-      (built-within dup o.domain o.shape tuples (not_false (are_inside o.shape tuples) (accepted-test env call 9 status.IndexOutOfBounds refl refl accepted)))
-  made-cut (Set name place value) accepted =
+      whole (rows_of o.shape) (cols_of o.shape) (content_left (Build dup tuples) o)
+      (built-within dup o.domain o.shape tuples (not_false (are_inside o.shape tuples) (accepted-act env name (Build dup tuples) 9 status.IndexOutOfBounds refl refl accepted)))
+  made-cut (On name (Set place value)) accepted =
       let o = object_at env name in
-      let call : Call Name Name = Set name place value in
-      whole (rows_of o.shape) (cols_of o.shape) (content_made (on_objects env call))
-      (set-within o place (word_of o.domain value) (inside name) (not_false (is_inside place o.shape) (accepted-test env call 8 status.InvalidIndex refl refl accepted)))
-  made-cut (Remove name place) accepted =
+      whole (rows_of o.shape) (cols_of o.shape) (content_left (Set place value) o)
+      (set-within o place (word_of o.domain value) (inside name) (not_false (is_inside place o.shape) (accepted-act env name (Set place value) 8 status.InvalidIndex refl refl accepted)))
+  made-cut (On name (Remove place)) accepted =
       let o = object_at env name in
-      whole (rows_of o.shape) (cols_of o.shape) (content_made {N = Name} (on_objects env (Remove name place))) (removed-within o place (inside name))
+      whole (rows_of o.shape) (cols_of o.shape) (content_left (Remove place) o) (removed-within o place (inside name))
   made-cut (Operate out operation) accepted =
       let objects = renamed_out (object_at env) out in
       let inputs = renamed_operation (object_at env) operation in
       whole (rows_of objects.c.shape) (cols_of objects.c.shape) (content_made {N = Name} (on_objects env (Operate out operation)))
       (result-within objects inputs (accepted-operation env out operation accepted) (inside out.c) (inputs_inside operation))
-  made-cut (Free name) accepted = tt
-  made-cut (Get name place) accepted = tt
-  made-cut (Nvals name) accepted = tt
-  made-cut (Print name) accepted = tt
-  made-cut (Reduce name monoid) accepted = tt
+  made-cut _ accepted = tt
 
   named_object : (o : PlainObject) (c : Content) (m : Option (Name × Object))
       → MatchOption m Unit (λ m. (i j : ℕ) → m.1.content i j ≡ cut_to (rows_of m.1.shape) (cols_of m.1.shape) c i j)
@@ -107,9 +93,7 @@ module _ (plain : PlainEnvironment) where
   named_object o c None cut is lists = absurd (cc)
   named_object o c (Some m) cut is lists =
       let known : known_as (with_name o) ≡ known_as m = cc in
-      let same_shape : o.shape ≡ m.1.shape = ap (λ (k : Name × Signature). k.1.shape) known in
-      let same = objects_equal (object_of o) m.1 (ap (λ (k : Name × Signature). k.1.domain) known) same_shape
-      (λ i j. rw (lists, same_shape) (listed-cut (rows_of m.1.shape) (cols_of m.1.shape) c i j ∙ sym (cut i j))) in
+      let same = object-listed o m.1 c (ap (λ (k : Name × Signature). k.1) known) lists cut in
       let same_name : string_bytes o.name ≡ m.0 = ap (λ (k : Name × Signature). k.0) known in
       λ i. Some (same_name i, same i)
 
@@ -123,25 +107,14 @@ module _ (plain : PlainEnvironment) where
   -- ---- what is left
 
   -- a call that frees nothing leaves what it makes in the place of its name
-  effect-made : (call : Call Name Name) → ((name : Name) → call ≡ Free name → ⊥)
+  effect-made : (call : Call Name Name) → ((name : Name) → call ≡ On name Free → ⊥)
       → effect bytes_eq env call ≡ option_map_or (λ m. with_object bytes_eq env m.0 m.1 (count_after call env.count))
       (made env call) env
   unfolding effect
-  effect-made (Create name domain shape) stays = refl
-  effect-made (Dup name object) stays = refl
-  effect-made (Resize name shape) stays = refl
-  effect-made (Clear name) stays = refl
-  effect-made (Build name dup tuples) stays = refl
-  effect-made (Set name place value) stays = refl
-  effect-made (Remove name place) stays = refl
-  effect-made (Operate out operation) stays = refl
-  effect-made (Free name) stays = absurd (stays name refl)
-  effect-made (Get name place) stays = refl
-  effect-made (Nvals name) stays = refl
-  effect-made (Print name) stays = refl
-  effect-made (Reduce name monoid) stays = refl
+  effect-made (On name Free) stays = absurd (stays name refl)
+  effect-made _ stays = refl
 
-  pub effect-is : (call : Call Name Name) (m : Option (Name × Object)) → ((name : Name) → call ≡ Free name → ⊥)
+  pub effect-is : (call : Call Name Name) (m : Option (Name × Object)) → ((name : Name) → call ≡ On name Free → ⊥)
       → m ≡ made env call
       → option_map_or (λ m. with_object bytes_eq env m.0 m.1 (count_after call env.count)) m env ≡ effect bytes_eq env call
   effect-is call m stays is =

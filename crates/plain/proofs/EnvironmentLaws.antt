@@ -7,7 +7,8 @@ use Rattle.std.specs.String.{string_bytes}
 use Rattle.std.proofs.lemmas.Bool.{cases_Bool, true≢false}
 use Rattle.std.proofs.lemmas.List.Folds.{find-append}
 use Rattle.std.proofs.lemmas.Slice.Eq.{bytes_eq-Decides}
-use Rattle.model.specs.declared.call.Call.TheVariants.{Free}
+use Rattle.model.specs.declared.call.Act.TheVariants.{Free}
+use Rattle.model.specs.declared.call.Call.TheVariants.{On}
 use Rattle.model.specs.Grammar.{Name}
 use Rattle.model.specs.Run.{effect, with_object}
 use Rattle.model.proofs.EnvironmentLaws.{environments_equal}
@@ -39,6 +40,16 @@ other_name name other x elsewhere here = elim (cases_Bool (bytes_eq name other))
 
 -- ---- objects that are freed
 
+hidden : (test : Bool) (x : PlainObject) (r s : Option PlainObject) → r ≡ cond test None s
+    → r ≡ cond test None (cond test (Some x) s)
+hidden true x r s e = e
+hidden false x r s e = e
+
+kept : (first test : Bool) (x : PlainObject) (r s : Option PlainObject) → (first ≡ true → test ≡ false)
+    → r ≡ cond test None s → cond first (Some x) r ≡ cond test None (cond first (Some x) s)
+kept true test x r s apart e = rw (apart refl) refl
+kept false test x r s apart e = e
+
 -- the first object of another name among those that have not one name
 found_among : (name other : Name) (xs : List PlainObject)
     → find (has_name other)
@@ -47,43 +58,31 @@ found_among name other [] = elim (cases_Bool (bytes_eq name other)) [ inl same �
 found_among name other (x ∷ xs) = elim (cases_Bool (has_name name x)) [
   | inl here ↦
       let is : string_bytes x.name ≡ name = (bytes_eq-Decides (string_bytes x.name) name).0 here in
-      let chosen : (test : Bool) (r s : Option PlainObject) → r ≡ cond test None s → r ≡ cond test None (cond test (Some x) s) =
-      λ test. elim test as (λ test. (r s : Option PlainObject) → r ≡ cond test None s → r ≡ cond test None (cond test (Some x) s)) [ true ↦ λ r s e. e | false ↦ λ r s e. e ] in
-      rw here (chosen (bytes_eq name other) _ (find (has_name other) xs) (found_among name other xs)
+      rw here (hidden (bytes_eq name other) x _ (find (has_name other) xs) (found_among name other xs)
       ∙ ap (λ n. cond (bytes_eq name other) None (cond (bytes_eq n other) (Some x) (find (has_name other) xs))) (sym is))
   | inr elsewhere ↦
-      let chosen : (first test : Bool) (r s : Option PlainObject) → (first ≡ true → test ≡ false) → r ≡ cond test None s → cond first (Some x) r ≡ cond test None (cond first (Some x) s) =
-      λ first test. elim first as (λ first. (r s : Option PlainObject) → (first ≡ true → test ≡ false) → r ≡ cond test None s → cond first (Some x) r ≡ cond test None (cond first (Some x) s)) [
-        | true ↦ λ r s apart e. rw (apart refl) refl
-        | false ↦ λ r s apart e. e
-      ] in
-      rw elsewhere (chosen (has_name other x) (bytes_eq name other) _ (find (has_name other) xs) (other_name name other x elsewhere) (found_among name other xs))
+      rw elsewhere (kept (has_name other x) (bytes_eq name other) x _ (find (has_name other) xs) (other_name name other x elsewhere) (found_among name other xs))
 ]
 
-option_map-none : {A B : Type 0} (f : A → B) (test : Bool) (o : Option A)
-    → option_map f (cond test None o) ≡ cond test None (option_map f o)
-option_map-none f true o = refl
-option_map-none f false o = refl
+option_map-cond : {A B : Type 0} (f : A → B) (test : Bool) (x y : Option A)
+    → option_map f (cond test x y) ≡ cond test (option_map f x) (option_map f y)
+option_map-cond f true x y = refl
+option_map-cond f false x y = refl
 
 -- those of other names are left
 pub environment-freed : (old new : PlainEnvironment) (name : Name)
     → new.objects.items ≡ filter (λ o. not (has_name name o)) old.objects.items → new.live ≡ old.live - 1
-    → environment_of new ≡ effect bytes_eq (environment_of old) (Free name)
+    → environment_of new ≡ effect bytes_eq (environment_of old) (On name Free)
 unfolding effect
 environment-freed old new name left count =
-    environments_equal (environment_of new) (effect bytes_eq (environment_of old) (Free name))
+    environments_equal (environment_of new) (effect bytes_eq (environment_of old) (On name Free))
     (λ other.
     ap (λ (os : List PlainObject). option_map object_of (find_in os other)) left
     ∙ ap (option_map object_of) (found_among name other old.objects.items)
-    ∙ option_map-none object_of (bytes_eq name other) (find_in old.objects.items other))
+    ∙ option_map-cond object_of (bytes_eq name other) None (find_in old.objects.items other))
     count
 
 -- ---- objects that are put
-
-option_map-some : {A B : Type 0} (f : A → B) (test : Bool) (x : A) (o : Option A)
-    → option_map f (cond test (Some x) o) ≡ cond test (Some (f x)) (option_map f o)
-option_map-some f true x o = refl
-option_map-some f false x o = refl
 
 chosen_last : {X : Type 0} (test : Bool) (o : Option X) (y : X)
     → option_or (cond test None o) (cond test (Some y) None) ≡ cond test (Some y) o
@@ -105,7 +104,7 @@ environment-put old new o live left count =
     ∙ ap (option_map object_of) (find-append (has_name other) others (o ∷ [])
     ∙ ap (λ found. option_or found (cond (bytes_eq name other) (Some o) None)) (found_among name other old.objects.items)
     ∙ chosen_last (bytes_eq name other) (find_in old.objects.items other) o)
-    ∙ option_map-some object_of (bytes_eq name other) o (find_in old.objects.items other))
+    ∙ option_map-cond object_of (bytes_eq name other) (Some o) (find_in old.objects.items other))
     count
 
 -- ---- results

@@ -6,20 +6,22 @@ use Rattle.std.specs.Option.{option_map}
 use Rattle.std.specs.Str.{bytes_eq}
 use Rattle.std.specs.String.{string_bytes}
 use Rattle.model.specs.declared.call.Call.{Call}
-use Rattle.model.specs.declared.call.Call.TheVariants.{Create, Dup, Resize}
+use Rattle.model.specs.declared.call.Call.TheVariants.{Create, Dup, On, Operate}
 use Rattle.model.specs.declared.call.Operation.{Operation}
 use Rattle.model.specs.declared.call.Out.{Out}
 use Rattle.model.specs.declared.shape.Signature.{Signature}
 use Rattle.model.specs.declared.status.Status.{Status}
 use Rattle.model.specs.Fault.{fault_of, plan_in}
 use Rattle.model.specs.Grammar.{Name}
-use Rattle.model.specs.Object.{Content, Object, cast_content, empty_object, signature_of, transposed_object}
+use Rattle.model.specs.Object.{Content, Object, cast_content, empty_object, no_content, signature_of}
+use Rattle.model.specs.Object.{transposed_object}
 use Rattle.model.specs.Operations.{is_written_by, operation as computed}
-use Rattle.model.specs.Renamed.{output_of, renamed, renamed_operation, renamed_out}
-use Rattle.model.specs.Run.{Environment, effect, object_at, on_objects, resized, seen}
+use Rattle.model.specs.Renamed.{renamed, renamed_operation, renamed_out}
+use Rattle.model.specs.Run.{Environment, changed_by, effect, object_at, on_objects, seen}
 use Rattle.model.specs.Table.{is_offered, transposed}
 use Rattle.model.specs.Text.{Answer}
-use Rattle.model.specs.WriteBack.{landed, left_by}
+use Rattle.model.specs.WriteBack.{landed, result_of}
+use Rattle.plain.specs.Acts.{content_left}
 use Rattle.plain.specs.declared.answers.PlainAnswer.{PlainAnswer}
 use Rattle.plain.specs.declared.environment.PlainEnvironment.{PlainEnvironment}
 use Rattle.plain.specs.declared.objects.PlainObject.{PlainObject}
@@ -95,18 +97,22 @@ effect_in env call = effect bytes_eq (environment_of env) call
 
 -- the map of the object that a call makes or changes, in which the shape then leaves what is inside it
 abbrev pub content_made : {N : Type 0} → Call Object N → Content
+content_made (Create name domain shape) = no_content
 content_made (Dup name o) = o.content
-content_made (Resize o shape) = o.content
-content_made call = left_by call
+content_made (On o act) = content_left act o
+content_made (Operate out operation) = result_of out operation
 
 -- that object with its name, if there is one
 abbrev pub made : Environment Name → Call Name Name → Option (Name × Object)
 made env (Create name domain shape) = Some (name, empty_object domain shape)
 made env (Dup name object) = Some (name, object_at env object)
-made env (Resize name shape) = Some (name, resized (object_at env name) shape)
-made env call =
-    option_map (λ name. (name, record (object_at env name) { content = left_by (on_objects env call) }))
-    (output_of call)
+made env (On name act) = option_map (λ o. (name, o)) (changed_by act (object_at env name))
+made env (Operate out operation) = Some (
+  out.c,
+  record (object_at env out.c) {
+    content = result_of (renamed_out (object_at env) out) (renamed_operation (object_at env) operation);
+  },
+)
 
 -- an object with its name, and what is known of one
 abbrev pub with_name : PlainObject → Name × Object

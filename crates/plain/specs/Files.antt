@@ -1,13 +1,13 @@
 -- What the plain reader's lines, numbers and matrices stand for.
-use Rattle.std.specs.Prelude.{ℕ, ◌^◌, ◌-◌, ◌&&◌, Bool, not, if◌then◌else◌, List, [], ◌∷◌, codes}
-use Rattle.std.specs.Prelude.{map, min, Result, Ok, Err}
+use Rattle.std.specs.Prelude.{ℕ, ◌^◌, ◌&&◌, Bool, List, [], ◌∷◌, codes, map, min, Option, Result, Ok, Err}
 use Rattle.std.specs.Borrow.{Bor}
 use Rattle.std.specs.List.{list_any}
+use Rattle.std.specs.Option.{option_map}
+use Rattle.std.specs.Result.{result_err}
+use Rattle.algebra.specs.declared.domain.Domain.{Domain}
 use Rattle.model.specs.declared.market.Heading.{Heading}
-use Rattle.model.specs.declared.market.Mistake.{Mistake}
-use Rattle.model.specs.declared.market.Mistake.TheVariants as mistake
-use Rattle.model.specs.Grammar.{digits_value}
-use Rattle.model.specs.MatrixMarket.{Line, Matrix, ToldLine, are_digits, is_position, says}
+use Rattle.model.specs.declared.market.Misread.{Misread}
+use Rattle.model.specs.MatrixMarket.{Line, Matrix, ToldLine, entry_said, misread, says}
 use Rattle.plain.specs.declared.lines.PlainLine.{PlainLine}
 use Rattle.plain.specs.declared.market.PlainMatrix.{PlainMatrix}
 
@@ -31,27 +31,19 @@ capped n = min n (2 ^ 70)
 
 -- ---- parts of definitions
 
+-- what is wrong with an entry line, if anything is
+abbrev pub fault_in : Domain → Heading → ToldLine → Option Misread
+fault_in domain heading line =
+    option_map (λ wrong. misread wrong line) (result_err (entry_said domain heading line.words))
+
 -- the words that a banner may have after the second one
-abbrev pub is_format : List ℕ → Bool
-is_format word = list_any (λ text. says text word) (codes "coordinate" ∷ codes "array" ∷ [])
-
-abbrev pub is_field : List ℕ → Bool
-is_field word = list_any (λ text. says text word)
-    (codes "integer" ∷ codes "pattern" ∷ codes "real" ∷ codes "complex" ∷ [])
-
-abbrev pub is_symmetry : List ℕ → Bool
-is_symmetry word = list_any (λ text. says text word)
-    (codes "general" ∷ codes "symmetric" ∷ codes "skew-symmetric" ∷ codes "hermitian" ∷ [])
-
 unfoldable pub is_kind : List ℕ → List ℕ → List ℕ → Bool
-is_kind format field symmetry = is_format format && is_field field && is_symmetry symmetry
-
--- the position that two words of an entry line say, from 0, or what is wrong with them
-unfoldable pub position_said : Heading → List ℕ → List ℕ → Result (ℕ × ℕ) Mistake
-position_said h i j =
-    if not (are_digits i && are_digits j) then Err mistake.Entry
-    else if not (is_position h (digits_value i) (digits_value j)) then Err mistake.Index
-    else Ok (digits_value i - 1, digits_value j - 1)
+is_kind format field symmetry =
+    list_any (λ text. says text format) (codes "coordinate" ∷ codes "array" ∷ [])
+    && list_any (λ text. says text field)
+    (codes "integer" ∷ codes "pattern" ∷ codes "real" ∷ codes "complex" ∷ [])
+    && list_any (λ text. says text symmetry)
+    (codes "general" ∷ codes "symmetric" ∷ codes "skew-symmetric" ∷ codes "hermitian" ∷ [])
 
 -- ---- matrices
 

@@ -1,3 +1,4 @@
+pub mod Acts
 pub mod Environments
 pub mod Evaluated
 pub mod Files

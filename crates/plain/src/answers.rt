@@ -1,12 +1,11 @@
 //! The answers of calls.
-ghost use Rattle.std.specs.Prelude.{◌≡◌, IfOk, None};
+ghost use Rattle.std.specs.Prelude.{◌≡◌, [], IfOk, None};
 ghost use Rattle.model.specs.Run.{data_lines_of, on_objects};
-ghost use Rattle.plain.specs.Environments.{environment_of, fault_in, named};
+ghost use Rattle.plain.specs.Environments.{answer_of, environment_of, fault_in, named};
 ghost use Rattle.plain.specs.Evaluated.{lines_of};
 
+use crate::acts::act_lines;
 use crate::environment::PlainEnvironment;
-use crate::sums::sum_of_all;
-use crate::text::{canonical_lines, count_text, one_line, value_text};
 use model::{Call, Status};
 use std::alloc::{AllocError, Global};
 
@@ -16,6 +15,19 @@ pub struct PlainAnswer {
     pub number: u64,
     pub status: Status,
     pub data_lines: Vec<Vec<u8>>,
+}
+
+impl PlainAnswer {
+    /// An answer without data lines.
+    pub(crate) fn without_lines(alloc: Global, number: u64, status: Status) -> PlainAnswer
+        ensures { answer_of result ≡ record { number = number; status = status; data_lines = [] } }
+    {
+        PlainAnswer {
+            number,
+            status,
+            data_lines: Vec::new(alloc),
+        }
+    }
 }
 
 impl PlainEnvironment {
@@ -31,25 +43,7 @@ impl PlainEnvironment {
             lines_of lines ≡ data_lines_of (on_objects (environment_of self.now) (named call.now))) }
     {
         match call {
-            Call::Get { object, place } => {
-                let object = self.object(object);
-                match object.word(place.row(), place.col()) {
-                    Some(word) => one_line(
-                        alloc,
-                        value_text(alloc, object.signature().domain, word)?,
-                    ),
-                    None => Ok(Vec::new(alloc)),
-                }
-            }
-            Call::Nvals { object } => one_line(alloc, count_text(alloc, self.object(object))?),
-            Call::Print { object } => canonical_lines(alloc, self.object(object)),
-            Call::Reduce { object, monoid } => {
-                let Some(monoid) = monoid.resolve() else {
-                    unreachable!()
-                };
-                let sum = sum_of_all(monoid, self.object(object));
-                one_line(alloc, value_text(alloc, monoid.op.domain, sum)?)
-            }
+            Call::On { object, act } => act_lines(alloc, act, self.object(object)),
             _ => Ok(Vec::new(alloc)),
         }
     }

@@ -6,11 +6,11 @@ ghost use Rattle.model.specs.Run.{on_objects};
 ghost use Rattle.plain.specs.Environments.{content_made, count_after, effect_in, environment_of, fault_in, made};
 ghost use Rattle.plain.specs.Environments.{known_as, named, target_of, with_name};
 
-use crate::builds::built_at;
+use crate::acts::{known_left, word_left};
 use crate::environment::PlainEnvironment;
 use crate::grid::{Mapping, entries};
 use crate::objects::PlainObject;
-use model::{Call, Signature};
+use model::{Act, Call, Signature};
 use std::alloc::{AllocError, Global};
 
 /// The map of the object that an accepted call makes or changes.
@@ -36,37 +36,10 @@ impl PlainEnvironment {
         ensures { result ≡ content_made (on_objects (environment_of self.now) (named call.now)) row col }
     {
         match call {
-            Call::Dup { object, .. } | Call::Resize { object, .. } => {
-                self.object(object).word(row, col)
-            }
-            Call::Set {
-                object,
-                place,
-                value,
-            } => {
-                if row == place.row() && col == place.col() {
-                    Some(self.signature(object).domain.wrapped(*value))
-                } else {
-                    self.object(object).word(row, col)
-                }
-            }
-            Call::Remove { object, place } => {
-                if row == place.row() && col == place.col() {
-                    None
-                } else {
-                    self.object(object).word(row, col)
-                }
-            }
-            Call::Build {
-                object,
-                dup,
-                tuples,
-            } => {
-                let domain = self.signature(object).domain;
-                built_at(*dup, domain, tuples.as_slice(), row, col)
-            }
+            Call::Create { .. } => None,
+            Call::Dup { object, .. } => self.object(object).word(row, col),
+            Call::On { object, act } => word_left(act, self.object(object), row, col),
             Call::Operate { out, operation } => self.result_at(out, operation, row, col),
-            _ => None,
         }
     }
 
@@ -88,21 +61,11 @@ impl PlainEnvironment {
                 },
             )),
             Call::Dup { name, object } => Some((name, self.signature(object))),
-            Call::Resize { object, shape } => {
-                Some((
-                    object,
-                    Signature {
-                        domain: self.signature(object).domain,
-                        shape: *shape,
-                    },
-                ))
+            Call::On { object, act } => {
+                let left = known_left(act, self.signature(object))?;
+                Some((object, left))
             }
-            Call::Clear { object }
-            | Call::Build { object, .. }
-            | Call::Set { object, .. }
-            | Call::Remove { object, .. } => Some((object, self.signature(object))),
             Call::Operate { out, .. } => Some((out.c, self.signature(out.c))),
-            _ => None,
         }
     }
 
@@ -147,7 +110,7 @@ impl PlainEnvironment {
     /// Does an accepted call that frees no object. An error leaves the objects as they were.
     fn change(&mut self, alloc: Global, call: &Call<&str, &str>) -> Result<(), AllocError>
         requires accepted { fault_in self.old (named call.now) ≡ None }
-        requires stays { (name : Name) → named call.now ≡ Call.Free name → ⊥ }
+        requires stays { (name : Name) → named call.now ≡ Call.On name Act.Free → ⊥ }
         ensures { MatchResult result
             (λ _. environment_of self.new ≡ effect_in self.old (named call.now))
             (λ _. environment_of self.new ≡ environment_of self.old) }
@@ -166,7 +129,11 @@ impl PlainEnvironment {
             (λ _. environment_of self.new ≡ effect_in self.old (named call.now))
             (λ _. environment_of self.new ≡ environment_of self.old) }
     {
-        if let Call::Free { object } = call {
+        if let Call::On {
+            object,
+            act: Act::Free,
+        } = call
+        {
             self.free(object);
             return Ok(());
         }

@@ -14,7 +14,7 @@ use crate::answers::PlainAnswer;
 use crate::inputs::Input;
 use crate::objects::PlainObject;
 use algebra::Domain;
-use model::{Call, Shape, Signature, Status};
+use model::{Act, Call, Shape, Signature, Status};
 use std::alloc::{AllocError, Global};
 
 /// The objects of a run, and how many there are. Each call is done as the definition of `step` says, with
@@ -98,7 +98,7 @@ impl PlainEnvironment {
     /// Frees the object of a name.
     #[tactic(auto, unfolding(model::specs::Run::effect))]
     pub(crate) fn free(&mut self, name: &str)
-        ensures { environment_of self.new ≡ effect_in self.old (Call.Free name.now) }
+        ensures { environment_of self.new ≡ effect_in self.old (Call.On name.now Act.Free) }
     {
         take_off(&mut self.objects, name);
         self.live = self.live.saturating_sub(1);
@@ -120,11 +120,7 @@ impl PlainEnvironment {
         ensures refused { OnErr result (environment_of self.new ≡ environment_of self.old) }
     {
         if let Some(status) = self.fault(alloc, call)? {
-            return Ok(PlainAnswer {
-                number,
-                status,
-                data_lines: Vec::new(alloc),
-            });
+            return Ok(PlainAnswer::without_lines(alloc, number, status));
         }
         let data_lines = self.data_lines(alloc, call)?;
         self.apply(alloc, call)?;

@@ -1,8 +1,9 @@
 //! The heads of files: what the banner and the size line say.
 ghost use Rattle.std.specs.Prelude.{◌≡◌, IsTrue, length};
-ghost use Rattle.model.specs.MatrixMarket.{can_hold, field_of, has_fitting_shape, heading_of, is_banner, kind_of, says};
-ghost use Rattle.model.specs.MatrixMarket.{symmetry_of};
-ghost use Rattle.plain.specs.Files.{is_field, is_format, is_kind, is_symmetry, texts_in};
+ghost use Rattle.std.specs.List.{list_any};
+ghost use Rattle.model.specs.MatrixMarket.{can_hold, field_of, has_fitting_shape, heading_of, is_banner, kind_of};
+ghost use Rattle.model.specs.MatrixMarket.{says, symmetry_of};
+ghost use Rattle.plain.specs.Files.{is_kind, texts_in};
 
 use crate::numbers::{count, dimension};
 use algebra::Domain;
@@ -27,31 +28,19 @@ pub fn is_banner(words: &[&[u8]]) -> bool
 fn is_kind(format: &[u8], field: &[u8], symmetry: &[u8]) -> bool
     ensures { result ≡ is_kind format.now field.now symmetry.now }
 {
-    is_format(format) && is_field(field) && is_symmetry(symmetry)
+    says_any(&[b"coordinate", b"array"], format)
+        && says_any(&[b"integer", b"pattern", b"real", b"complex"], field)
+        && says_any(
+            &[b"general", b"symmetric", b"skew-symmetric", b"hermitian"],
+            symmetry,
+        )
 }
 
-fn is_format(word: &[u8]) -> bool
-    ensures { result ≡ is_format word.now }
+/// Whether a word is one of some texts, in lower or upper case.
+fn says_any(texts: &[&[u8]], word: &[u8]) -> bool
+    ensures { result ≡ list_any (λ text. says text.now word.now) texts.now }
 {
-    says(b"coordinate", word) || says(b"array", word)
-}
-
-fn is_field(word: &[u8]) -> bool
-    ensures { result ≡ is_field word.now }
-{
-    says(b"integer", word)
-        || says(b"pattern", word)
-        || says(b"real", word)
-        || says(b"complex", word)
-}
-
-fn is_symmetry(word: &[u8]) -> bool
-    ensures { result ≡ is_symmetry word.now }
-{
-    says(b"general", word)
-        || says(b"symmetric", word)
-        || says(b"skew-symmetric", word)
-        || says(b"hermitian", word)
+    texts.iter().any(|text| says(text, word))
 }
 
 /// Whether a word is a text, in lower or upper case.
@@ -72,11 +61,7 @@ pub fn kind_of(domain: Domain, words: &[&[u8]]) -> Option<(Field, Symmetry)>
     }
     let field = field_of(words[3])?;
     let symmetry = symmetry_of(words[4])?;
-    if can_hold(domain, field, symmetry) {
-        Some((field, symmetry))
-    } else {
-        None
-    }
+    can_hold(domain, field, symmetry).then_some((field, symmetry))
 }
 
 #[tactic(auto, unfolding(model::specs::MatrixMarket::field_of))]

@@ -80,6 +80,21 @@ impl Mapping for Input<'_> {
     }
 }
 
+/// An object whose values are read in a domain.
+#[derive(Clone, Copy)]
+pub struct InDomain<'a> {
+    pub object: Input<'a>,
+    pub domain: Domain,
+}
+
+impl Mapping for InDomain<'_> {
+    ghost content = { λ values. in_domain values.domain (input_of values.object) };
+
+    fn at(&self, row: u64, col: u64) -> Option<u64> {
+        self.object.word_in(self.domain, row, col)
+    }
+}
+
 /// The word of the first entry at a position.
 fn first_word(entries: &[Entry], row: u64, col: u64) -> Option<u64>
     ensures { result ≡ listed_word entries.now row col }

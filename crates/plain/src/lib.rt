@@ -3,6 +3,7 @@
 //! compared with it.
 #![tactic(auto)]
 
+mod acts;
 mod answers;
 mod builds;
 mod effects;

@@ -35,10 +35,13 @@ fn parts_of(alloc: Global, text: &[u8]) -> Result<Vec<&[u8]>, AllocError>
 fn without_empty_last<'a, 'b>(parts: &'b [&'a [u8]]) -> &'b [&'a [u8]]
     ensures { texts_in result.now ≡ without_empty_last (texts_in parts.now) }
 {
-    match parts {
-        [front @ .., last] if last.is_empty() => front,
-        _ => parts,
+    let Some((last, front)) = parts.split_last() else {
+        return parts;
+    };
+    if last.is_empty() {
+        return front;
     }
+    parts
 }
 
 /// Lines without one carriage return at their ends.
@@ -79,11 +82,11 @@ pub fn told<'a>(alloc: Global, lines: &[&'a [u8]]) -> Result<Vec<PlainLine<'a>>,
     ensures { IfOk result (λ told. lines_in told.items ≡ told_lines (map words_of (texts_in lines.now))) }
 {
     let mut told = Vec::new(alloc);
-    let mut left = lines.len() as u64;
-    for line in lines {
-        let words = words_of(alloc, line)?;
-        push_told(&mut told, left, words)?;
-        left -= 1;
+    let mut left = lines;
+    while !left.is_empty() {
+        let words = words_of(alloc, left[0])?;
+        push_told(&mut told, left.len() as u64, words)?;
+        left = &left[1..];
     }
     Ok(told)
 }

@@ -1,16 +1,15 @@
 //! The entry lines of files: what each says, and what is wrong with them.
 ghost use Rattle.std.specs.Prelude.{◌≡◌, ◌≤◌, ◌++◌, ◌∷◌, [], IfOk, OnOk, if◌then◌else◌, length, map, nat_lt};
 ghost use Rattle.std.specs.Prelude.{take};
-ghost use Rattle.std.specs.List.{filter_map};
-ghost use Rattle.std.specs.Option.{option_map};
-ghost use Rattle.std.specs.Result.{result_err};
+ghost use Rattle.std.specs.List.{cons_option, filter_map, flat_map};
+ghost use Rattle.std.specs.Result.{result_ok};
 ghost use Rattle.model.specs.Entries.{entry_at};
 ghost use Rattle.model.specs.MatrixMarket.{entries_said, entry_said, faults_of, is_position, misread, value_said};
 ghost use Rattle.model.specs.MatrixMarket.{with_mirror, words_for};
-ghost use Rattle.plain.specs.Files.{line_of, lines_in, position_said, texts_in, words_in};
+ghost use Rattle.plain.specs.Files.{fault_in, line_of, lines_in, texts_in, words_in};
 
 use crate::lines::PlainLine;
-use crate::numbers::{digits_of, value};
+use crate::numbers::{are_digits, digits_value, value};
 use algebra::Domain;
 use model::{Entry, Field, Heading, Misread, Mistake, Symmetry};
 use std::alloc::{AllocError, Global};
@@ -25,7 +24,7 @@ pub fn faults_of(
 ) -> Result<Vec<Misread>, AllocError>
     ensures { IfOk result (λ faults. faults.items ≡ faults_of domain heading (lines_in lines.now)) }
 {
-    let announced = lines.len().min(heading.entries as usize);
+    let announced = (heading.entries as usize).min(lines.len());
     let (front, others) = lines.split_at(announced);
     let mut faults = faults_in(alloc, domain, heading, front)?;
     push_first(&mut faults, others)?;
@@ -72,17 +71,20 @@ fn faults_in(
     heading: Heading,
     lines: &[PlainLine<'_>],
 ) -> Result<Vec<Misread>, AllocError>
-    ensures { IfOk result (λ faults. faults.items
-        ≡ filter_map (λ line. option_map (λ wrong. misread wrong line)
-        (result_err (entry_said domain heading line.words))) (lines_in lines.now)) }
+    ensures { IfOk result (λ faults. faults.items ≡ filter_map (fault_in domain heading) (lines_in lines.now)) }
 {
-    let mut faults = Vec::new(alloc);
-    for line in lines {
-        if let Err(mistake) = entry_said(domain, heading, line.words.as_slice()) {
-            faults.push(misread(mistake, line))?;
-        }
-    }
-    Ok(faults)
+    lines
+        .iter()
+        .filter_map(|line| fault_in(domain, heading, line))
+        .collect(alloc)
+}
+
+/// What is wrong with a line, if anything is.
+fn fault_in(domain: Domain, heading: Heading, line: &PlainLine<'_>) -> Option<Misread>
+    ensures { result ≡ fault_in domain heading (line_of line.now) }
+{
+    let mistake = entry_said(domain, heading, line.words.as_slice()).err()?;
+    Some(misread(mistake, line))
 }
 
 /// All entries that lines say, in their order.
@@ -96,11 +98,25 @@ pub fn entries_said(
 {
     let mut entries = Vec::new(alloc);
     for line in lines {
-        if let Ok(entry) = entry_said(domain, heading, line.words.as_slice()) {
-            push_with_mirror(&mut entries, heading.symmetry, entry)?;
-        }
+        let said = entry_said(domain, heading, line.words.as_slice());
+        push_said(&mut entries, heading.symmetry, said)?;
     }
     Ok(entries)
+}
+
+/// Appends the entry that a line says, if it says one, and the one that the file leaves out.
+fn push_said(
+    entries: &mut Vec<Entry>,
+    symmetry: Symmetry,
+    said: Result<Entry, Mistake>,
+) -> Result<(), AllocError>
+    ensures { OnOk result (entries.new.items ≡ entries.old.items
+        ++ flat_map (with_mirror symmetry) (cons_option (result_ok said) [])) }
+{
+    match said {
+        Ok(entry) => push_with_mirror(entries, symmetry, entry),
+        Err(_) => Ok(()),
+    }
 }
 
 /// The entry that the words of a line say, or what is wrong with the line.
@@ -108,35 +124,22 @@ pub fn entries_said(
 fn entry_said(domain: Domain, heading: Heading, words: &[&[u8]]) -> Result<Entry, Mistake>
     ensures { result ≡ entry_said domain heading (texts_in words.now) }
 {
-    if words.len() != words_for(heading.field) {
+    if words.len() != words_for(heading.field) || !are_digits(words[0]) || !are_digits(words[1]) {
         return Err(Mistake::Entry);
     }
-    let (row, col) = position_said(heading, words[0], words[1])?;
+    let i = digits_value(words[0]);
+    let j = digits_value(words[1]);
+    if !is_position(heading, i, j) {
+        return Err(Mistake::Index);
+    }
     let Some(value) = value_said(heading.field, words) else {
         return Err(Mistake::Value);
     };
     Ok(Entry {
-        row,
-        col,
+        row: (i - 1) as u64,
+        col: (j - 1) as u64,
         word: domain.wrapped(value),
     })
-}
-
-/// The position that two words say, or what is wrong with them.
-#[tactic(auto, unfolding(crate::specs::Files::position_said))]
-fn position_said(heading: Heading, row: &[u8], col: &[u8]) -> Result<(u64, u64), Mistake>
-    ensures { result ≡ position_said heading row.now col.now }
-{
-    let Some(i) = digits_of(row) else {
-        return Err(Mistake::Entry);
-    };
-    let Some(j) = digits_of(col) else {
-        return Err(Mistake::Entry);
-    };
-    if !is_position(heading, i, j) {
-        return Err(Mistake::Index);
-    }
-    Ok(((i - 1) as u64, (j - 1) as u64))
 }
 
 /// How many words an entry line has.

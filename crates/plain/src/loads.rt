@@ -1,21 +1,20 @@
 //! Matrices that are loaded of files.
-ghost use Rattle.std.specs.Prelude.{◌≡◌, ◌+◌, ◌==◌, ◌&&◌, IfOk, MatchResult, None, OnErr, OnOk, Some};
+ghost use Rattle.std.specs.Prelude.{◌≡◌, ◌==◌, ◌&&◌, IfOk, MatchResult, None, Ok, OnErr, OnOk, Some};
 ghost use Rattle.std.specs.Prelude.{false, if◌then◌else◌, is_some, nat_le, true};
 ghost use Rattle.std.specs.Option.{option_map};
-ghost use Rattle.std.specs.Str.{bytes_eq};
 ghost use Rattle.std.specs.String.{string_bytes};
 ghost use Rattle.algebra.specs.Value.{is_built_in};
 ghost use Rattle.model.specs.Builds.{gathered};
 ghost use Rattle.model.specs.Loads.{load_fault};
 ghost use Rattle.model.specs.MatrixMarket.{matrix_in, object_read, sum_in_file};
 ghost use Rattle.model.specs.Object.{IsObject};
-ghost use Rattle.model.specs.Run.{load, with_object};
+ghost use Rattle.model.specs.Run.{load};
 ghost use Rattle.plain.specs.Environments.{answer_of, environment_of};
 ghost use Rattle.plain.specs.Evaluated.{object_of};
 ghost use Rattle.plain.specs.Files.{matrix_of, matrix_of_plain};
 
 use crate::answers::PlainAnswer;
-use crate::builds::joined;
+use crate::builds::gathered_at;
 use crate::environment::PlainEnvironment;
 use crate::grid::{Mapping, entries};
 use crate::market::{PlainMatrix, read};
@@ -46,60 +45,38 @@ impl PlainEnvironment {
         ensures refused { OnErr result (environment_of self.new ≡ environment_of self.old) }
     {
         let found = read_file(alloc, domain, file)?;
-        if let Some(status) = self.load_fault(name, &found) {
-            return Ok(PlainAnswer {
-                number,
-                status,
-                data_lines: Vec::new(alloc),
-            });
+        match self.accepted(name, found) {
+            Err(status) => Ok(PlainAnswer::without_lines(alloc, number, status)),
+            Ok(matrix) => {
+                let object = object_read(alloc, name, domain, &matrix)?;
+                self.put(object, self.live + 1)?;
+                Ok(PlainAnswer::without_lines(alloc, number, Status::Ok))
+            }
         }
-        let Some(read) = found else { unreachable!() };
-        let Ok(matrix) = read else { unreachable!() };
-        self.put_matrix(alloc, name, domain, &matrix)?;
-        Ok(PlainAnswer {
-            number,
-            status: Status::Ok,
-            data_lines: Vec::new(alloc),
-        })
     }
 
-    /// The fault of loading what is read of a file, if it has one.
+    /// The matrix that is read of a file, or the fault of loading it.
     #[tactic(auto, unfolding(model::specs::Loads::load_fault))]
-    fn load_fault(&self, name: &str, found: &Option<Result<PlainMatrix, MmFault>>) -> Option<Status>
-        ensures { let env = environment_of self.now in
-            result ≡ load_fault env.count (is_some (env.find_object name.now)) (option_map matrix_of_plain found.now) }
+    fn accepted(
+        &self,
+        name: &str,
+        found: Option<Result<PlainMatrix, MmFault>>,
+    ) -> Result<PlainMatrix, Status>
+        ensures { let env = environment_of self.now in let file = option_map matrix_of_plain found in
+            let fault = load_fault env.count (is_some (env.find_object name.now)) file in
+            MatchResult result
+            (λ m. (fault ≡ None) × (file ≡ Some (Ok (matrix_of m))) × (nat_le MOST_OBJECTS self.now.live ≡ false))
+            (λ status. fault ≡ Some status) }
     {
         if self.find(name).is_some() {
-            return Some(Status::NameTaken);
+            return Err(Status::NameTaken);
         }
         match found {
-            None => Some(Status::NoFile),
-            Some(Err(_)) => Some(Status::BadFile),
-            Some(Ok(_)) if self.live >= MOST_OBJECTS => Some(Status::NotImplemented),
-            Some(Ok(_)) => None,
+            None => Err(Status::NoFile),
+            Some(Err(_)) => Err(Status::BadFile),
+            Some(Ok(_)) if self.live >= MOST_OBJECTS => Err(Status::NotImplemented),
+            Some(Ok(matrix)) => Ok(matrix),
         }
-    }
-
-    /// Makes an object of a matrix of a file. An error leaves the objects as they were.
-    fn put_matrix(
-        &mut self,
-        alloc: Global,
-        name: &str,
-        domain: Domain,
-        matrix: &PlainMatrix,
-    ) -> Result<(), AllocError>
-        requires built_in { is_built_in domain ≡ true }
-        requires object { IsObject (object_read domain (matrix_of matrix.now)) }
-        requires room { nat_le MOST_OBJECTS self.old.live ≡ false }
-        ensures { let old = environment_of self.old in MatchResult result
-            (λ _. environment_of self.new
-            ≡ with_object bytes_eq old name.now (object_read domain (matrix_of matrix.now)) (old.count + 1))
-            (λ _. environment_of self.new ≡ old) }
-    {
-        let object = object_read(alloc, name, domain, matrix)?;
-        self.objects.insert(0, object)?;
-        self.live += 1;
-        Ok(())
     }
 }
 
@@ -157,30 +134,7 @@ impl Mapping for Listed<'_> {
     ghost content = { λ listed. gathered (Some (sum_in_file listed.domain)) listed.entries.now };
 
     fn at(&self, row: u64, col: u64) -> Option<u64> {
-        sum_at(self.domain, self.entries, row, col)
-    }
-}
-
-/// The sum of what is listed for a position.
-fn sum_at(domain: Domain, entries: &[Entry], row: u64, col: u64) -> Option<u64>
-    requires { is_built_in domain ≡ true }
-    ensures { result ≡ gathered (Some (sum_in_file domain)) entries.now row col }
-{
-    let mut sum = None;
-    for entry in entries {
-        sum = joined(Some(sum_in_file(domain)), sum, word_for(*entry, row, col));
-    }
-    sum
-}
-
-/// The word of an entry, if it is for a position.
-const fn word_for(entry: Entry, row: u64, col: u64) -> Option<u64>
-    ensures { result ≡ (if (row == entry.row) && (col == entry.col) then Some entry.word else None) }
-{
-    if row == entry.row && col == entry.col {
-        Some(entry.word)
-    } else {
-        None
+        gathered_at(Some(sum_in_file(self.domain)), self.entries, row, col)
     }
 }
 

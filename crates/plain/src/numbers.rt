@@ -67,17 +67,14 @@ fn positive(word: &[u8]) -> Option<i128>
 }
 
 /// The number that a word of digits writes.
-pub fn digits_of(word: &[u8]) -> Option<u128>
+fn digits_of(word: &[u8]) -> Option<u128>
     ensures { result ≡ option_map capped (digits_of word.now) }
 {
-    if are_digits(word) {
-        Some(digits_value(word))
-    } else {
-        None
-    }
+    are_digits(word).then_some(digits_value(word))
 }
 
-fn are_digits(word: &[u8]) -> bool
+/// Whether a word is of digits, of any number.
+pub fn are_digits(word: &[u8]) -> bool
     ensures { result ≡ are_digits word.now }
 {
     !word.is_empty() && has_digits_only(word)
@@ -90,7 +87,7 @@ fn has_digits_only(word: &[u8]) -> bool
 }
 
 /// The number that digits write.
-fn digits_value(word: &[u8]) -> u128
+pub fn digits_value(word: &[u8]) -> u128
     ensures { result ≡ capped (digits_value word.now) }
 {
     let mut value = 0;

@@ -19,8 +19,8 @@ use crate::environment::PlainEnvironment;
 use crate::inputs::Input;
 use crate::products::product;
 use crate::regions::{extracted, is_listed, placed};
-use crate::sums::row_sum;
-use algebra::{FunctionName, IndexName, OpName};
+use crate::sums::summed;
+use algebra::{BinaryOp, FunctionName, IndexName, IndexOp, OpName, Semiring};
 use model::{Desc, OneInput, Operation, Plan, Positions, Region, Shape, Signature, TwoInputs};
 
 impl PlainEnvironment {
@@ -92,11 +92,7 @@ pub fn is_written<K>(shape: Shape, operation: &Operation<K>, row: u64, col: u64)
 fn filled(shape: Shape, region: &Region, word: u64, row: u64, col: u64) -> Option<u64>
     ensures { result ≡ filled (rows_of shape) (cols_of shape) (rows_in region.now) (cols_in region.now) word row col }
 {
-    if is_listed(shape, region, row, col) {
-        Some(word)
-    } else {
-        None
-    }
+    is_listed(shape, region, row, col).then_some(word)
 }
 
 /// What an operation computes of one input at a position, for an output of a shape.
@@ -107,12 +103,7 @@ fn one_at(shape: Shape, computes: &OneInput, a: Input, row: u64, col: u64) -> Op
     match computes {
         OneInput::Apply(function) => applied(*function, a, row, col),
         OneInput::Select { op, scalar } => selected(*op, *scalar, a, row, col),
-        OneInput::ReduceRows(monoid) => {
-            let Some(monoid) = monoid.resolve() else {
-                unreachable!()
-            };
-            row_sum(monoid, a, row, col)
-        }
+        OneInput::ReduceRows(monoid) => summed(*monoid, a, row, col),
         OneInput::Transpose => a.word(col, row),
         OneInput::Extract(region) => extracted(region, a, row, col),
         OneInput::Assign(region) => placed(shape, region, a, row, col),
@@ -126,9 +117,7 @@ fn two_at(computes: TwoInputs, a: Input, b: Input, row: u64, col: u64) -> Option
 {
     match computes {
         TwoInputs::Multiply { form, semiring } => {
-            let Some(semiring) = semiring.resolve() else {
-                unreachable!()
-            };
+            let semiring = Semiring::of(semiring.add, semiring.multiply, semiring.domain);
             product(form, semiring, a, b, row, col)
         }
         TwoInputs::Combine { positions, op } => combined(positions, op, a, b, row, col),
@@ -153,15 +142,10 @@ fn selected(op: IndexName, scalar: i128, a: Input, row: u64, col: u64) -> Option
     ensures { result ≡ selected op scalar (input_of a.entry) row col }
 {
     let word = a.word(row, col)?;
-    let Some(op) = op.resolve() else {
-        unreachable!()
-    };
+    let op = IndexOp::of(op.kind, op.domain);
     let s = op.scalar().wrapped(scalar);
-    if op.passes(a.cast_word(word, op.domain), row, col, s) {
-        Some(word)
-    } else {
-        None
-    }
+    op.passes(a.cast_word(word, op.domain), row, col, s)
+        .then_some(word)
 }
 
 /// What an operator gives for the words of two inputs at a position, or what one alone has.
@@ -169,9 +153,7 @@ fn combined(positions: Positions, op: OpName, a: Input, b: Input, row: u64, col:
     requires { offers op.kind op.domain ≡ true }
     ensures { result ≡ combined positions op (input_of a.entry) (input_of b.entry) row col }
 {
-    let Some(op) = op.resolve() else {
-        unreachable!()
-    };
+    let op = BinaryOp::of(op.kind, op.domain);
     match (a.word(row, col), b.word(row, col), positions) {
         (Some(x), Some(y), _) => {
             let x = a.cast_word(x, op.domain);

@@ -5,12 +5,35 @@ ghost use Rattle.model.specs.Object.{in_domain};
 ghost use Rattle.model.specs.Operations.{multiplied};
 ghost use Rattle.model.specs.Product.{product_of};
 ghost use Rattle.model.specs.Table.{inner_size};
-ghost use Rattle.plain.specs.Evaluated.{first_factor, input_of, place_in};
+ghost use Rattle.plain.specs.Evaluated.{input_of, place_in, terms_of};
 
+use crate::grid::Mapping;
 use crate::inputs::Input;
-use crate::sums::plus;
-use algebra::{Domain, Semiring};
+use crate::sums::row_sum;
+use algebra::Semiring;
 use model::Form;
+
+/// The terms that are summed for a column of a product: at each row and each index of the sum.
+#[derive(Clone, Copy)]
+struct Terms<'a> {
+    form: Form,
+    semiring: Semiring,
+    a: Input<'a>,
+    b: Input<'a>,
+    col: u64,
+}
+
+impl Mapping for Terms<'_> {
+    ghost content = { λ t. terms_of t.form (semiring_named t.semiring) (input_of t.a) (input_of t.b) t.col };
+
+    fn at(&self, row: u64, index: u64) -> Option<u64> {
+        let domain = self.semiring.multiply.domain;
+        let (row, col) = place_in(self.form, row, index);
+        let x = self.a.word_in(domain, row, col);
+        let y = self.b.word_in(domain, index, self.col);
+        times(self.semiring, x, y)
+    }
+}
 
 /// The sum of the products at a position, in the domain of the semiring's sums.
 pub fn product(
@@ -25,20 +48,19 @@ pub fn product(
         result ≡ multiplied form semiring (inner_size form (input_of a.entry).shape)
         (in_domain semiring.domain (input_of a.entry)) (in_domain semiring.domain (input_of b.entry)) row col }
 {
-    let domain = semiring.multiply.domain;
-    let terms = form.inner_size(a.shape());
     let (row, col) = place_in(form, row, col);
-    let mut sum = None;
-    for k in 0..terms {
-        let x = first_word(form, domain, a, row, k);
-        let y = b.word_in(domain, k, col);
-        sum = plus(semiring.add, sum, times(semiring, x, y));
-    }
-    sum
+    let terms = Terms {
+        form,
+        semiring,
+        a,
+        b,
+        col,
+    };
+    row_sum(semiring.add, &terms, row, form.inner_size(a.shape()))
 }
 
-/// The row and the column of a position, which are exchanged where the product is a row that is held as
-/// a column.
+/// The row and the column of a position, which are exchanged where what stands there is a row that is
+/// held as a column.
 const fn place_in(form: Form, row: u64, col: u64) -> (u64, u64)
     ensures { result ≡ place_in form row col }
 {
@@ -46,14 +68,6 @@ const fn place_in(form: Form, row: u64, col: u64) -> (u64, u64)
         Form::MatrixMatrix | Form::MatrixVector => (row, col),
         Form::VectorMatrix => (col, row),
     }
-}
-
-/// The word of the first factor, which as a vector is a row that is held as a column.
-fn first_word(form: Form, domain: Domain, a: Input, row: u64, col: u64) -> Option<u64>
-    ensures { result ≡ first_factor form (in_domain domain (input_of a.entry)) row col }
-{
-    let (row, col) = place_in(form, row, col);
-    a.word_in(domain, row, col)
 }
 
 /// A word times a word, where both are there.

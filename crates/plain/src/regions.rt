@@ -61,11 +61,11 @@ pub fn placed(shape: Shape, region: &Region, a: Input, row: u64, col: u64) -> Op
 }
 
 /// An index of a dimension, if it is one.
-const fn below(size: u64, index: u64) -> Option<u64>
+fn below(size: u64, index: u64) -> Option<u64>
     ensures place { result ≡ place_in size All index }
     ensures index { result ≡ index_at size All index }
 {
-    if index < size { Some(index) } else { None }
+    (index < size).then_some(index)
 }
 
 /// The index at a place of a list.

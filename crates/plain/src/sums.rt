@@ -1,59 +1,65 @@
-//! Sums of rows and of all values, one value after the other.
-ghost use Rattle.std.specs.Prelude.{◌≡◌, ◌++◌, ◌==◌, List, ℕ, None, if◌then◌else◌};
+//! Sums, one value after the other.
+ghost use Rattle.std.specs.Prelude.{◌≡◌, ◌==◌, IfOk, if◌then◌else◌, true};
 ghost use Rattle.algebra.specs.Monoids.{sum_of};
 ghost use Rattle.algebra.specs.OperatorNames.{monoid_named};
-ghost use Rattle.algebra.specs.Operators.{combines_by, eval_of};
+ghost use Rattle.algebra.specs.Operators.{combines_by, eval_of, offers};
 ghost use Rattle.model.specs.Object.{cols_of, in_domain};
 ghost use Rattle.model.specs.Reductions.{row_sums, row_words, sum_in};
 ghost use Rattle.plain.specs.Evaluated.{added, input_of};
 
-use crate::inputs::Input;
-use algebra::Monoid;
+use crate::grid::{Mapping, entries};
+use crate::inputs::{InDomain, Input};
+use algebra::{BinaryOp, Monoid, MonoidName};
+use std::alloc::{AllocError, Global};
 
 /// A sum and one more term, where they are there.
-pub const fn plus(monoid: Monoid, sum: Option<u64>, term: Option<u64>) -> Option<u64>
-    ensures { result ≡ added (eval_of (combines_by monoid.kind) monoid.op.domain) sum term }
+pub const fn added(op: BinaryOp, sum: Option<u64>, term: Option<u64>) -> Option<u64>
+    ensures { result ≡ added (eval_of op.kind op.domain) sum term }
 {
     match (sum, term) {
-        (_, None) => sum,
-        (None, Some(_)) => term,
-        (Some(sum), Some(term)) => Some(monoid.op.eval(sum, term)),
+        (None, _) => term,
+        (Some(_), None) => sum,
+        (Some(sum), Some(term)) => Some(op.eval(sum, term)),
     }
+}
+
+/// The sum of what a map has in the first columns of a row.
+pub fn row_sum<M: Mapping>(monoid: Monoid, mapping: &M, row: u64, cols: u64) -> Option<u64>
+    ensures { result ≡ sum_of monoid.kind monoid.op.domain (row_words cols (M.content mapping.now) row) }
+{
+    let mut sum = None;
+    for col in 0..cols {
+        sum = added(monoid.op, sum, mapping.at(row, col));
+    }
+    sum
 }
 
 /// The sum of the row of a position, in the one column that sums have.
-pub fn row_sum(monoid: Monoid, a: Input, row: u64, col: u64) -> Option<u64>
-    ensures { let domain = monoid.op.domain in
-        result ≡ row_sums (monoid_named monoid) (cols_of (input_of a.entry).shape) (in_domain domain (input_of a.entry))
-        row col }
+pub fn summed(name: MonoidName, a: Input, row: u64, col: u64) -> Option<u64>
+    requires { offers (combines_by name.kind) name.domain ≡ true }
+    ensures { let a = input_of a.entry in
+        result ≡ row_sums name (cols_of a.shape) (in_domain name.domain a) row col }
 {
-    if col == 0 {
-        with_row(monoid, None, a, row)
-    } else {
-        None
+    if col != 0 {
+        return None;
     }
-}
-
-/// A sum with the values of a row, where there are any.
-fn with_row(monoid: Monoid, sum: Option<u64>, a: Input, row: u64) -> Option<u64>
-    ensures { let domain = monoid.op.domain in (words : List ℕ) → sum ≡ sum_of monoid.kind domain words
-        → result ≡ sum_of monoid.kind domain (words
-        ++ row_words (cols_of (input_of a.entry).shape) (in_domain domain (input_of a.entry)) row) }
-{
-    let mut total = sum;
-    for col in 0..a.shape().cols() {
-        total = plus(monoid, total, a.word_in(monoid.op.domain, row, col));
-    }
-    total
+    let values = InDomain {
+        object: a,
+        domain: name.domain,
+    };
+    let monoid = Monoid::of(name.kind, name.domain);
+    row_sum(monoid, &values, row, a.shape().cols())
 }
 
 /// The sum of all values of an object; of none the identity.
-pub fn sum_of_all(monoid: Monoid, object: Input) -> u64
-    ensures { result ≡ sum_in (monoid_named monoid) (input_of object.entry) }
+pub fn sum_of_all(alloc: Global, monoid: Monoid, object: Input) -> Result<u64, AllocError>
+    ensures { IfOk result (λ sum. sum ≡ sum_in (monoid_named monoid) (input_of object.entry)) }
 {
-    let mut total = None;
-    for row in 0..object.shape().rows() {
-        total = with_row(monoid, total, object, row);
+    let domain = monoid.op.domain;
+    let entries = entries(alloc, &InDomain { object, domain }, object.shape())?;
+    let mut sum = None;
+    for entry in &entries {
+        sum = added(monoid.op, sum, Some(entry.word));
     }
-    total.unwrap_or(monoid.identity())
+    Ok(sum.unwrap_or(monoid.identity()))
 }

@@ -1,16 +1,14 @@
 //! Mask, accumulator and write-back, one position at a time.
 ghost use Rattle.std.specs.Prelude.{◌≡◌, true};
-ghost use Rattle.std.specs.Option.{option_map};
-ghost use Rattle.algebra.specs.Operators.{offers};
-ghost use Rattle.algebra.specs.Value.{cast_of};
-ghost use Rattle.model.specs.WriteBack.{accumulated, accumulated_by, has_position, mask_set, result_of};
+ghost use Rattle.model.specs.WriteBack.{accumulated_by, has_position, mask_set, result_of};
 ghost use Rattle.plain.specs.Environments.{are_operators, landed_in, operation_in, out_in};
 ghost use Rattle.plain.specs.Evaluated.{accumulator_offered, input_of};
 
 use crate::environment::PlainEnvironment;
 use crate::inputs::Input;
 use crate::operations::is_written;
-use algebra::{Domain, OpName, cast};
+use crate::sums::added;
+use algebra::{BinaryOp, Domain, OpName, cast};
 use model::{Desc, Operation, Out};
 
 impl PlainEnvironment {
@@ -54,7 +52,8 @@ impl PlainEnvironment {
         }
         let value = self.value_at(c, out.desc, operation, row, col);
         let domain = self.plan(c, out.desc, operation).domain;
-        accumulated_by(out.accum, old, in_domain(domain, c.domain, value))
+        let value = value.map(|word| cast(word, domain, c.domain));
+        accumulated_by(out.accum, old, value)
     }
 
     /// Whether a position is in the mask set.
@@ -66,16 +65,6 @@ impl PlainEnvironment {
             None => true,
         };
         is_in != out.desc.complement
-    }
-}
-
-/// A word of one domain in another, where it is there.
-const fn in_domain(from: Domain, to: Domain, word: Option<u64>) -> Option<u64>
-    ensures { result ≡ option_map (cast_of from to) word }
-{
-    match word {
-        Some(word) => Some(cast(word, from, to)),
-        None => None,
     }
 }
 
@@ -95,24 +84,7 @@ fn accumulated_by(accum: Option<OpName>, old: Option<u64>, new: Option<u64>) -> 
     ensures { result ≡ accumulated_by accum old new }
 {
     match accum {
-        Some(op) => accumulated(op, old, new),
+        Some(op) => added(BinaryOp::of(op.kind, op.domain), old, new),
         None => new,
-    }
-}
-
-/// An old value and a new one by an operator, or the only one of them.
-fn accumulated(op: OpName, old: Option<u64>, new: Option<u64>) -> Option<u64>
-    requires { offers op.kind op.domain ≡ true }
-    ensures { result ≡ accumulated op old new }
-{
-    match (old, new) {
-        (Some(old), Some(new)) => {
-            let Some(op) = op.resolve() else {
-                unreachable!()
-            };
-            Some(op.eval(old, new))
-        }
-        (Some(_), None) => old,
-        (None, _) => new,
     }
 }

@@ -1,7 +1,7 @@
 -- Objects that are made under a name, or not for want of memory.
 use Rattle.std.proofs.Common.{◌≡◌, ◌∙◌, ℕ, ◌<◌, ◌^◌, ◌+◌, ◌-◌, ◌==◌, Bool, true, false, cond, Option, Some, None, is_some, Result, Ok, Err, refl, sym, ap, arith, inl, inr}
 use Rattle.std.specs.Prelude.{OnErr, OnOk}
-use Rattle.std.specs.Option.{option_and_then}
+use Rattle.std.specs.Option.{option_and_then, unwrap_or}
 use Rattle.std.specs.Str.{bytes_eq}
 use Rattle.std.proofs.lemmas.Bool.{cases_Bool, eqb-true, true≢false}
 use Rattle.std.proofs.lemmas.Slice.Eq.{bytes_eq-Decides}
@@ -10,10 +10,10 @@ use Rattle.calls.specs.declared.obj.Obj.{Obj}
 use Rattle.model.specs.declared.call.Call.TheVariants.{Create, Dup}
 use Rattle.model.specs.declared.shape.Shape.{Shape}
 use Rattle.model.specs.declared.status.Status.TheVariants as status
-use Rattle.model.specs.Fault.{early_fault, fault_of, found_object}
+use Rattle.model.specs.Fault.{early_fault, fault_of}
 use Rattle.model.specs.Grammar.{Name}
 use Rattle.model.specs.Object.{Object, empty_object}
-use Rattle.model.specs.Run.{Environment, effect, object_at, seen, with_object, without_object}
+use Rattle.model.specs.Run.{Environment, effect, no_object, object_at, seen, with_object, without_object}
 use Rattle.model.proofs.EnvironmentLaws.{environments_equal}
 use Rattle.script.proofs.NameLaws.{AreDistinct, count-left, own_number, same_number}
 use Rattle.script.specs.Named.{through}
@@ -244,4 +244,4 @@ pub dup-effect : (number new : Name → Option Obj) (senv made : Environment Obj
 unfolding effect
 dup-effect number new senv made name from o q adds there unused stands is =
     ap (through new) is ∙ created number new senv name o (object_at senv q) (senv.count + 1) adds there unused
-    ∙ ap (λ (found : Option Obj). with_object bytes_eq (through number senv) name (found_object (option_and_then senv.find_object found)) (senv.count + 1)) (sym stands)
+    ∙ ap (λ (found : Option Obj). with_object bytes_eq (through number senv) name (unwrap_or (option_and_then senv.find_object found) no_object) (senv.count + 1)) (sym stands)

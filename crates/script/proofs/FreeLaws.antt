@@ -6,7 +6,8 @@ use Rattle.std.specs.Str.{bytes_eq}
 use Rattle.std.proofs.lemmas.Bool.{cases_Bool, eqb-true, true≢false}
 use Rattle.std.proofs.lemmas.Slice.Eq.{bytes_eq-Decides}
 use Rattle.calls.specs.declared.obj.Obj.{Obj}
-use Rattle.model.specs.declared.call.Call.TheVariants.{Free}
+use Rattle.model.specs.declared.call.Act.TheVariants.{Free}
+use Rattle.model.specs.declared.call.Call.TheVariants.{On}
 use Rattle.model.specs.declared.status.Status.{Status}
 use Rattle.model.specs.declared.status.Status.TheVariants as status
 use Rattle.model.specs.Fault.{early_fault, fault_of}
@@ -20,21 +21,21 @@ use Rattle.session.specs.Tables.{same_object}
 
 -- a name that stands for an object can be freed, and no other
 free_fault : (env : Environment Name) (name : Name)
-    → fault_of env.count (seen env (Free name)) ≡ cond (is_some (env.find_object name)) None (Some status.UninitializedObject)
+    → fault_of env.count (seen env (On name Free)) ≡ cond (is_some (env.find_object name)) None (Some status.UninitializedObject)
 unfolding early_fault
 free_fault env name =
-    elim (env.find_object name) as (λ found. fault_of env.count (Free found) ≡ cond (is_some found) None (Some status.UninitializedObject))
+    elim (env.find_object name) as (λ found. fault_of env.count (On found Free) ≡ cond (is_some found) None (Some status.UninitializedObject))
     [ None ↦ refl | Some o ↦ refl ]
 
 pub fault-unnamed : (number : Name → Option Obj) (senv : Environment Obj) (name : Name) → number name ≡ None
-    → fault_of senv.count (seen (through number senv) (Free name)) ≡ Some status.UninitializedObject
+    → fault_of senv.count (seen (through number senv) (On name Free)) ≡ Some status.UninitializedObject
 fault-unnamed number senv name none = free_fault (through number senv) name ∙ rw none refl
 
 pub free_ends : {T : Type 0} (result : Result T Status) (number : Name → Option Obj) (senv : Environment Obj)
     (name : Name) (o : Obj) → number name ≡ Some o
     → MatchResult result (λ x. is_some (senv.find_object o) ≡ true)
     (λ s. (s ≡ status.UninitializedObject) × (senv.find_object o ≡ None))
-    → Ends (fault_of senv.count (seen (through number senv) (Free name))) result
+    → Ends (fault_of senv.count (seen (through number senv) (On name Free))) result
 free_ends (Ok x) number senv name o is there = free_fault (through number senv) name ∙ rw (is, there) refl
 free_ends (Err s) number senv name o is absent =
     inr (free_fault (through number senv) name ∙ rw (is, absent.1) refl ∙ ap Some (sym absent.0))
@@ -82,7 +83,7 @@ module _ (number new : Name → Option Obj) (senv freed : Environment Obj) (name
       ])
       refl
 
-  pub freed-effect : through new freed ≡ effect bytes_eq (through number senv) (Free name)
+  pub freed-effect : through new freed ≡ effect bytes_eq (through number senv) (On name Free)
   unfolding effect
   freed-effect = freed-through
 

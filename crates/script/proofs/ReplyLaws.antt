@@ -1,30 +1,32 @@
 -- What calls on names leave and answer, by what the session does.
-use Rattle.std.proofs.Common.{◌≡◌, ◌∙◌, ◌<◌, ◌≤◌, ◌+◌, ◌-◌, ◌^◌, Bool, true, false, cond, Option, Some, None, is_some, Result, Ok, Err, arith, refl, sym, ap, inl, inr}
-use Rattle.std.specs.Prelude.{IfOk}
+use Rattle.std.proofs.Common.{◌≡◌, ◌∙◌, ◌<◌, ◌≤◌, ◌+◌, ◌-◌, ◌^◌, ℕ, List, Bool, true, false, cond, Option, Some, None, is_some, Result, Ok, Err, arith, refl, sym, ap, inl, inr}
+use Rattle.std.specs.Prelude.{IfOk, OnErr, OnOk}
 use Rattle.std.specs.Option.{option_map, option_map_or}
 use Rattle.std.specs.BTreeMap.{get_by_text}
 use Rattle.std.specs.Str.{bytes_eq}
 use Rattle.std.proofs.lemmas.Bool.{true≢false}
+use Rattle.std.proofs.lemmas.List.{append-nil}
 use Rattle.calls.specs.declared.obj.Obj.{Obj}
 use Rattle.model.specs.declared.call.Call.{Call}
-use Rattle.model.specs.declared.call.Call.TheVariants.{Create, Dup, Free, Clear, Resize, Build, Set, Remove, Get, Nvals, Print, Reduce, Operate}
+use Rattle.model.specs.declared.call.Act.TheVariants.{Free, Clear, Resize, Build, Set, Remove, Get, Nvals, Print, Reduce}
+use Rattle.model.specs.declared.call.Call.TheVariants.{Create, Dup, On, Operate}
 use Rattle.model.specs.declared.status.Status.{Status}
 use Rattle.model.specs.declared.status.Status.TheVariants as status
-use Rattle.model.specs.Fault.{are_there, fault_of}
+use Rattle.model.specs.Fault.{fault_of}
 use Rattle.model.specs.Grammar.{Name}
 use Rattle.model.specs.Object.{Object}
-use Rattle.model.specs.Renamed.{renamed}
-use Rattle.model.specs.Run.{with_object, Environment, data_lines_of, effect, object_at, on_objects, seen}
+use Rattle.model.specs.Renamed.{found, renamed}
+use Rattle.model.specs.Run.{Environment, data_lines_of, effect, object_at, on_objects, seen}
 use Rattle.model.specs.Text.{canonical_lines}
-use Rattle.model.proofs.RenamedLaws.{renamed_twice}
-use Rattle.script.proofs.NameLaws.{AreDistinct, data_renamed, effect-unmade, fault-along, fault-missing, left_renamed, names_renamed, on_objects-along, place-along, put_by, put_renamed, put_to, there_renamed}
+use Rattle.model.proofs.RenamedLaws.{found_fewer, renamed_twice}
+use Rattle.script.proofs.NameLaws.{AreDistinct, data_renamed, effect-unmade, fault-along, fault-missing, left_renamed, names_renamed, on_objects-along, place-along, put, put_by, put_renamed, put_to}
 use Rattle.script.specs.declared.environment.Environment.{Environment as Objects}
 use Rattle.script.specs.Named.{Asks, HasLines, environment_in, changes_names, number_in, reply_lines, through}
-use Rattle.script.specs.Replied.{IsReplied}
+use Rattle.script.specs.Replied.{IsAnswered, IsReplied}
 use Rattle.session.specs.declared.reply.Reply.{Reply}
 use Rattle.session.specs.declared.reply.Reply.TheVariants.{Done, Made, Value, Count, Text}
 use Rattle.session.specs.declared.sessions.Session.{Session}
-use Rattle.session.specs.Performed.{Answers, IsPerformed, environment_of, made_after, made_in, numbered}
+use Rattle.session.specs.Performed.{Answers, Ends, IsPerformed, environment_of, made_after, made_in, numbered}
 use Rattle.session.specs.Tables.{same_object}
 
 -- ---- the session's call
@@ -57,14 +59,14 @@ own_option : {K : Type 0} (o : Option K) → option_map (λ k. k) o ≡ o
 own_option None = refl
 own_option (Some k) = refl
 
-placed : (number : Name → Option Obj) (senv : Environment Obj) (object : Object) (found : Option Name)
+placed : (number : Name → Option Obj) (senv : Environment Obj) (new : Option Object) (found : Option Name)
     (made : Option Obj) → AreDistinct number → option_map Some made ≡ option_map number found
-    → through number (option_map_or (λ o. with_object same_object senv o object senv.count) made senv)
-    ≡ option_map_or (λ name. with_object bytes_eq (through number senv) name object senv.count) found (through number senv)
-placed number senv object None None distinct e = refl
-placed number senv object None (Some o) distinct e = absurd (cc)
-placed number senv object (Some name) None distinct e = absurd (cc)
-placed number senv object (Some name) (Some o) distinct e =
+    → through number (put same_object senv made new) ≡ put bytes_eq (through number senv) found new
+placed number senv new None None distinct e = refl
+placed number senv new None (Some o) distinct e = absurd (cc)
+placed number senv new (Some name) None distinct e = absurd (cc)
+placed number senv None (Some name) (Some o) distinct e = refl
+placed number senv (Some object) (Some name) (Some o) distinct e =
     let is : number name ≡ Some o = cc in place-along number senv name o object senv.count distinct is
 
 pub effect-along : (number : Name → Option Obj) (session : Session) (new : Environment Obj) (call : Call Name Name)
@@ -81,9 +83,9 @@ effect-along number session new call r known distinct e is =
     sym (put_renamed Some (λ n. n) r) ∙ ap put_to e ∙ put_renamed number (λ n. n) call in
     let own : put_to r' ≡ put_to r = put_renamed (λ (o : Obj). o) (λ (n : Name). record { 0 = session.next }) r ∙ own_option (put_to r) in
     ap (through number) (is ∙ effect-unmade same_object senv r' (known_along number session call r known e)
-    ∙ ap (λ (o : Option Obj). option_map_or (λ o. with_object same_object senv o (put_by (on_objects senv r')) senv.count) o senv) own)
+    ∙ ap (λ (o : Option Obj). put same_object senv o (put_by (on_objects senv r'))) own)
     ∙ placed number senv (put_by (on_objects senv r')) (put_to call) (put_to r) distinct outputs
-    ∙ ap (λ (x : Object). option_map_or (λ name. with_object bytes_eq env name x env.count) (put_to call) env) (sym left)
+    ∙ ap (λ (x : Option Object). put bytes_eq env (put_to call) x) (sym left)
     ∙ sym (effect-unmade bytes_eq env call known)
 
 -- an object that is there stays
@@ -91,11 +93,12 @@ stays_put : (test : Bool) (x : Object) (o : Option Object) → is_some o ≡ tru
 stays_put true x o h = refl
 stays_put false x o h = h
 
-stays_in : (senv : Environment Obj) (object : Object) (made : Option Obj) (q : Obj)
+stays_in : (senv : Environment Obj) (new : Option Object) (made : Option Obj) (q : Obj)
     → is_some (senv.find_object q) ≡ true
-    → is_some ((option_map_or (λ o. with_object same_object senv o object senv.count) made senv).find_object q) ≡ true
-stays_in senv object None q h = h
-stays_in senv object (Some o) q h = stays_put (same_object o q) object (senv.find_object q) h
+    → is_some ((put same_object senv made new).find_object q) ≡ true
+stays_in senv new None q h = h
+stays_in senv None (Some o) q h = h
+stays_in senv (Some object) (Some o) q h = stays_put (same_object o q) object (senv.find_object q) h
 
 pub stays : (senv new : Environment Obj) (call : Call Obj Obj) (q : Obj) → changes_names call ≡ false
     → new ≡ effect same_object senv call → is_some (senv.find_object q) ≡ true → is_some (new.find_object q) ≡ true
@@ -111,25 +114,25 @@ lines_answered : (senv new : Environment Obj) (call : Call Obj Obj) (reply : Rep
 unfolding data_lines_of effect
 lines_answered senv new (Create name domain shape) reply known is answers = absurd (true≢false known)
 lines_answered senv new (Dup name o) reply known is answers = absurd (true≢false known)
-lines_answered senv new (Free o) reply known is answers = absurd (true≢false known)
-lines_answered senv new (Clear o) Done known is answers = refl
-lines_answered senv new (Clear o) _ known is answers = absurd answers
-lines_answered senv new (Resize o shape) Done known is answers = refl
-lines_answered senv new (Resize o shape) _ known is answers = absurd answers
-lines_answered senv new (Build o dup tuples) Done known is answers = refl
-lines_answered senv new (Build o dup tuples) _ known is answers = absurd answers
-lines_answered senv new (Remove o p) Done known is answers = refl
-lines_answered senv new (Remove o p) _ known is answers = absurd answers
-lines_answered senv new (Set o p value) Done known is answers = refl
-lines_answered senv new (Set o p value) _ known is answers = absurd answers
-lines_answered senv new (Get o p) (Value value) known is (word, stored, same) = rw (same, stored) refl
-lines_answered senv new (Get o p) _ known is answers = absurd answers
-lines_answered senv new (Nvals o) (Count number) known is answers = rw answers refl
-lines_answered senv new (Nvals o) _ known is answers = absurd answers
-lines_answered senv new (Reduce o monoid) (Value value) known is answers = rw answers refl
-lines_answered senv new (Reduce o monoid) _ known is answers = absurd answers
-lines_answered senv new (Print o) (Text asked) known is answers = ap (λ (env : Environment Obj). canonical_lines (object_at env asked)) is ∙ rw answers.0 refl
-lines_answered senv new (Print o) _ known is answers = absurd answers
+lines_answered senv new (On o Free) reply known is answers = absurd (true≢false known)
+lines_answered senv new (On o Clear) Done known is answers = refl
+lines_answered senv new (On o Clear) _ known is answers = absurd answers
+lines_answered senv new (On o (Resize shape)) Done known is answers = refl
+lines_answered senv new (On o (Resize shape)) _ known is answers = absurd answers
+lines_answered senv new (On o (Build dup tuples)) Done known is answers = refl
+lines_answered senv new (On o (Build dup tuples)) _ known is answers = absurd answers
+lines_answered senv new (On o (Remove p)) Done known is answers = refl
+lines_answered senv new (On o (Remove p)) _ known is answers = absurd answers
+lines_answered senv new (On o (Set p value)) Done known is answers = refl
+lines_answered senv new (On o (Set p value)) _ known is answers = absurd answers
+lines_answered senv new (On o (Get p)) (Value value) known is (word, stored, same) = rw (same, stored) refl
+lines_answered senv new (On o (Get p)) _ known is answers = absurd answers
+lines_answered senv new (On o Nvals) (Count number) known is answers = rw answers refl
+lines_answered senv new (On o Nvals) _ known is answers = absurd answers
+lines_answered senv new (On o (Reduce monoid)) (Value value) known is answers = rw answers refl
+lines_answered senv new (On o (Reduce monoid)) _ known is answers = absurd answers
+lines_answered senv new (On o Print) (Text asked) known is answers = ap (λ (env : Environment Obj). canonical_lines (object_at env asked)) is ∙ rw answers.0 refl
+lines_answered senv new (On o Print) _ known is answers = absurd answers
 lines_answered senv new (Operate out operation) Done known is answers = refl
 lines_answered senv new (Operate out operation) _ known is answers = absurd answers
 
@@ -139,16 +142,16 @@ asks_answered senv new call Done known is answers = tt
 asks_answered senv new call (Made o) known is answers = tt
 asks_answered senv new call (Value value) known is answers = tt
 asks_answered senv new call (Count number) known is answers = tt
-asks_answered senv new (Print o) (Text asked) known is answers = stays senv new (Print o) asked known is (rw answers.0 answers.1)
+asks_answered senv new (On o Print) (Text asked) known is answers = stays senv new (On o Print) asked known is (rw answers.0 answers.1)
 asks_answered senv new _ (Text asked) known is answers = absurd answers
 
 reads_answered : (senv new : Environment Obj) (call : Call Obj Obj) (reply : Reply)
     → new ≡ effect same_object senv call → Answers senv call reply → HasLines reply → new ≡ senv
 unfolding effect
-reads_answered senv new (Get o p) reply is answers has = is
-reads_answered senv new (Nvals o) reply is answers has = is
-reads_answered senv new (Print o) reply is answers has = is
-reads_answered senv new (Reduce o monoid) reply is answers has = is
+reads_answered senv new (On o (Get p)) reply is answers has = is
+reads_answered senv new (On o Nvals) reply is answers has = is
+reads_answered senv new (On o Print) reply is answers has = is
+reads_answered senv new (On o (Reduce monoid)) reply is answers has = is
 reads_answered senv new _ (Done) is answers has = absurd has
 reads_answered senv new _ (Made o) is answers has = absurd has
 reads_answered senv new _ _ is answers has = absurd answers
@@ -159,16 +162,7 @@ made_after-most : {T : Type 0} (old : Session) (result : Result T Status) (call 
 made_after-most old (Err s) call = omega arith
 made_after-most old (Ok x) (Create name domain shape) = omega arith
 made_after-most old (Ok x) (Dup name o) = omega arith
-made_after-most old (Ok x) (Resize o shape) = omega arith
-made_after-most old (Ok x) (Build o dup tuples) = omega arith
-made_after-most old (Ok x) (Free o) = omega arith
-made_after-most old (Ok x) (Clear o) = omega arith
-made_after-most old (Ok x) (Set o p value) = omega arith
-made_after-most old (Ok x) (Remove o p) = omega arith
-made_after-most old (Ok x) (Get o p) = omega arith
-made_after-most old (Ok x) (Nvals o) = omega arith
-made_after-most old (Ok x) (Print o) = omega arith
-made_after-most old (Ok x) (Reduce o monoid) = omega arith
+made_after-most old (Ok x) (On o act) = omega arith
 made_after-most old (Ok x) (Operate out operation) = omega arith
 
 -- ---- together
@@ -234,6 +228,18 @@ refused old new call s fault same = record {
   reads = tt;
 }
 
+-- a call that frees an object answers no lines
+pub freed_answered : (old new : Objects) (name : Name) (text : List ℕ) (result : Result (Unit {0}) Status)
+    → Ends (fault_of (environment_in old).count (seen (environment_in old) (On name Free))) result
+    → OnOk result (environment_in new ≡ effect bytes_eq (environment_in old) (On name Free))
+    → OnErr result (environment_in new ≡ environment_in old) → made_in new.session ≤ made_in old.session + 1
+    → IsAnswered old new (On name Free) text text result
+unfolding data_lines_of
+freed_answered old new name text (Ok x) status effect kept made =
+    record { status = status; effect = effect; kept = kept; lines = sym (append-nil text); made = made }
+freed_answered old new name text (Err s) status effect kept made =
+    record { status = status; effect = effect; kept = kept; lines = tt; made = made }
+
 -- ---- calls whose names are held another way
 
 named_again : {X : Type 0} (now : X → Name) (number : Name → Option Obj) (call : Call X X) (r : Call Obj X)
@@ -269,10 +275,11 @@ known_named now number session call r known e =
     sym (ap changes_names (numbered_again now session r)) ∙ known_along number session (renamed now now call) (renamed (λ o. o) now r) (names_renamed now now call ∙ known) (named_again now number call r e)
 
 pub missing_named : {X : Type 0} (now : X → Name) (names : Objects) (call : Call X X) → changes_names call ≡ false
-    → are_there (renamed (λ x. number_in names (now x)) (λ x. x) call) ≡ false
+    → None ≡ found (renamed (λ x. number_in names (now x)) (λ x. x) call)
     → IsReplied names names (renamed now now call) (Err status.UninitializedObject)
 missing_named {X = X} now names call known missing =
     let number = number_in names in
-    let gone : are_there (renamed number (λ n. n) (renamed now now call)) ≡ false =
-    ap are_there (renamed_twice now number now (λ (n : Name). n) call) ∙ there_renamed (λ x. number (now x)) now call ∙ sym (there_renamed (λ x. number (now x)) (λ (x : X). x) call) ∙ missing in
+    let gone : found (renamed number (λ n. n) (renamed now now call)) ≡ None =
+    ap found (renamed_twice now number now (λ (n : Name). n) call)
+    ∙ found_fewer (λ x. number (now x)) (λ (o : Option Obj). o) refl (λ x. x) now call (sym missing) in
     refused names names (renamed now now call) status.UninitializedObject (fault-missing number (environment_of names.session) (renamed now now call) (names_renamed now now call ∙ known) gone) refl

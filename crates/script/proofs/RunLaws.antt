@@ -10,7 +10,7 @@ use Rattle.model.specs.MatrixMarket.{File}
 use Rattle.model.specs.Run.{out_of}
 use Rattle.model.specs.Runs.{State, first_state, IsRun, Ran, TellsOfNoWant}
 use Rattle.model.specs.Text.{Answer, answer_text}
-use Rattle.model.proofs.RunLaws.{ran}
+use Rattle.model.proofs.RunLaws.{ran-in_bytes}
 use Rattle.script.specs.Turns.{Says}
 
 -- some lines of the script are answered, and what is written is their answers' texts
@@ -54,7 +54,8 @@ unfolding IsRun
 ran-so_far sources script rest state number old new way =
     let whole = simp append-nil at (way.goes_on [] [] refl) in
     let done : take (length way.done) (readings_in sources script) ≡ way.done = ap (take (length way.done)) way.split ∙ take-append_seam way.done (readings_in sources rest) in
-    (length way.done, rw done (ran way.done old new way.answers whole way.written))
+    let ran : Ran way.done old new = record { answers = way.answers; run = whole; written = way.written } in
+    (length way.done, rw done ran)
 
 -- once nothing is left, all lines are answered
 pub ran-all : (sources : Sources) (script : List ℕ) (state : State) (number : ℕ) (old new : List ℕ)
@@ -63,10 +64,11 @@ unfolding IsRun lines_of readings_in readings_of
 ran-all sources script state number old new way =
     let whole = simp append-nil at (way.goes_on [] [] refl) in
     let all : readings_in sources script ≡ way.done = way.split ∙ append-nil way.done in
-    rw all (ran way.done old new way.answers whole way.written)
+    let ran : Ran way.done old new = record { answers = way.answers; run = whole; written = way.written } in
+    rw all ran
 
 -- the headline in bytes
 pub headline : (sources : Sources) (script old new : List ℕ) → Ran (readings_in sources script) old new
     → (text : List ℕ) → new ≡ old ++ text → TellsOfNoWant text → text ≡ out_of sources script
 unfolding out_of
-headline sources script old new ran text is none = ran.in_bytes text is none
+headline sources script old new ran text is none = ran-in_bytes (readings_in sources script) old new ran text is none

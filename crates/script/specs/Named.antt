@@ -4,8 +4,10 @@ use Rattle.std.specs.BTreeMap.{get_by_text}
 use Rattle.std.specs.Fmt.{signed_decimal}
 use Rattle.std.specs.Option.{option_and_then}
 use Rattle.calls.specs.declared.obj.Obj.{Obj}
+use Rattle.model.specs.declared.call.Act.{Act}
+use Rattle.model.specs.declared.call.Act.TheVariants.{Free}
 use Rattle.model.specs.declared.call.Call.{Call}
-use Rattle.model.specs.declared.call.Call.TheVariants.{Create, Dup, Free}
+use Rattle.model.specs.declared.call.Call.TheVariants.{Create, Dup, On, Operate}
 use Rattle.model.specs.Grammar.{Name}
 use Rattle.model.specs.Run.{Environment, object_at}
 use Rattle.model.specs.Runs.{State}
@@ -30,11 +32,15 @@ abbrev pub state_in : Objects → State
 state_in names = record { environment = environment_in names }
 
 -- the call gives a name to a new object, or takes one away
+abbrev pub is_free : Act → Bool
+is_free Free = true
+is_free _ = false
+
 abbrev pub changes_names : {K N : Type 0} → Call K N → Bool
 changes_names (Create name domain shape) = true
 changes_names (Dup name object) = true
-changes_names (Free object) = true
-changes_names _ = false
+changes_names (On object act) = is_free act
+changes_names (Operate out operation) = false
 
 -- the data lines of a reply
 abbrev pub reply_lines : Environment Obj → Reply → List (List ℕ)

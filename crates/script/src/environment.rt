@@ -15,7 +15,7 @@ ghost use Rattle.session.specs.Tables.{same_object};
 
 use crate::replies::write_reply;
 use algebra::Domain;
-use model::{Call, Shape, Status};
+use model::{Act, Call, Lookup, Shape, Status};
 use session::{Obj, Reply, Session};
 use std::alloc::Global;
 use std::collections::BTreeMap;
@@ -63,8 +63,19 @@ impl Environment {
                 shape,
             } => self.create(name, domain, shape),
             Call::Dup { name, object } => self.dup(name, object),
-            Call::Free { object } => self.free(object),
+            Call::On { object, act } => self.act(object, act, text),
             call => self.perform_known(call, text),
+        }
+    }
+
+    /// Does something to the object of a name, or writes what it answers.
+    fn act(&mut self, object: &str, act: Act, text: &mut Vec<u8>) -> Result<(), Status>
+        requires { made_in self.old.session < 2 ^ 64 - 1 }
+        ensures { IsAnswered self.old self.new (Call.On object.now act) text.old.items text.new.items result }
+    {
+        match act {
+            Act::Free => self.free(object),
+            act => self.perform_known(Call::On { object, act }, text),
         }
     }
 
@@ -86,7 +97,7 @@ impl Environment {
         requires known { changes_names call ≡ false }
         ensures { IsReplied self.old self.new (renamed (λ name. name.now) (λ name. name.now) call.entry) result }
     {
-        let Some(call) = self.resolved(call) else {
+        let Some(call) = call.found(self) else {
             return Err(Status::UninitializedObject);
         };
         self.session.perform(call)
@@ -121,10 +132,10 @@ impl Environment {
         ensures kept { OnErr result (environment_in self.new ≡ environment_in self.old) }
         ensures made { made_in self.new.session ≤ made_in self.old.session + 1 }
     {
-        if self.number(name).is_some() {
+        if self.find(name).is_some() {
             return Err(Status::NameTaken);
         }
-        let Some(object) = self.number(object) else {
+        let Some(object) = self.find(object) else {
             return Err(Status::UninitializedObject);
         };
         let name = String::from_str(self.alloc, name)?;
@@ -136,9 +147,9 @@ impl Environment {
     /// Frees the object of a name, which then stands for none.
     fn free(&mut self, name: &str) -> Result<(), Status>
         ensures status { Ends (fault_of (environment_in self.old).count
-            (seen (environment_in self.old) (Call.Free name.now))) result }
+            (seen (environment_in self.old) (Call.On name.now Act.Free))) result }
         ensures effect { OnOk result (environment_in self.new
-            ≡ effect bytes_eq (environment_in self.old) (Call.Free name.now)) }
+            ≡ effect bytes_eq (environment_in self.old) (Call.On name.now Act.Free)) }
         ensures kept { OnErr result (environment_in self.new ≡ environment_in self.old) }
         ensures made { made_in self.new.session ≤ made_in self.old.session + 1 }
     {

@@ -18,15 +18,15 @@ use Rattle.model.specs.Object.{Content, IsObject, Object, col_of, cols_of, is_in
 use Rattle.model.specs.Regions.{cut_to}
 use Rattle.model.specs.Run.{resized}
 use Rattle.model.proofs.BuildLaws.{built-is_object}
-use Rattle.model.proofs.ObjectLaws.{objects_equal, set-is_object}
+use Rattle.model.proofs.ObjectLaws.{entry-is_object, objects_equal, without-is_object}
 use Rattle.model.proofs.RegionLaws.{cut_to-within, cut_to-words}
 use Rattle.patch.specs.declared.edits.Edit.{Edit}
 use Rattle.patch.specs.declared.edits.Edit.TheVariants.{Set, Remove}
 use Rattle.patch.specs.Edits.{IsInside, edited, edited_once, place_of}
 use Rattle.session.proofs.SessionLaws.{BuildsOn}
 use Rattle.session.specs.declared.held.Held.{Held}
-use Rattle.session.specs.Waiting.{AreInside}
-use Rattle.session.specs.Objects.{object_of, stored_object, with_value, without_value}
+use Rattle.session.specs.Waiting.{AreInside, IsEditOf}
+use Rattle.session.specs.Objects.{edited_object, object_of, stored_object}
 use Rattle.store.specs.Stored.{content_of}
 
 -- ---- edits that wait
@@ -35,38 +35,43 @@ use Rattle.store.specs.Stored.{content_of}
 edited-pushed : (es : List Edit) (e : Edit) (c : Content) → edited (es ++ e ∷ []) c ≡ edited_once (edited es c) e
 edited-pushed es e c = fold-append edited_once c es (e ∷ [])
 
--- the object with a value set last
-pub set-last : (domain : Domain) (shape : Shape) (es : List Edit) (c : Content) (p : Place) (value : ℤ) (i j word : ℕ)
-    → i ≡ row_of p → j ≡ col_of p → word ≡ word_of domain value
-    → (let o : Object = record { domain = domain; shape = shape; content = edited es c } in
-    let new : Object = record { domain = domain; shape = shape; content = edited (es ++ Set i j word ∷ []) c } in new ≡ with_value o p value)
-set-last domain shape es c p value i j word row col named =
-    ap (λ (d : Content). let new : Object = record { domain = domain; shape = shape; content = d } in new) (edited-pushed es (Set i j word) c ∙ rw (row, col, named) refl)
+inside_by_place : (rows cols : ℕ) (e : Edit) → ((place_of e).0 < rows) × ((place_of e).1 < cols) → IsInside rows cols e
+inside_by_place rows cols (Set i j word) is = is
+inside_by_place rows cols (Remove i j) is = is
 
--- the object with an entry removed last
-pub removed-last : (domain : Domain) (shape : Shape) (es : List Edit) (c : Content) (p : Place) (i j : ℕ)
-    → i ≡ row_of p → j ≡ col_of p
-    → (let o : Object = record { domain = domain; shape = shape; content = edited es c } in
-    let new : Object = record { domain = domain; shape = shape; content = edited (es ++ Remove i j ∷ []) c } in new ≡ without_value o p)
-removed-last domain shape es c p i j row col =
-    ap (λ (d : Content). let new : Object = record { domain = domain; shape = shape; content = d } in new) (edited-pushed es (Remove i j) c ∙ rw (row, col) refl)
+place_by_inside : (rows cols : ℕ) (e : Edit) → IsInside rows cols e → ((place_of e).0 < rows) × ((place_of e).1 < cols)
+place_by_inside rows cols (Set i j word) is = is
+place_by_inside rows cols (Remove i j) is = is
 
--- what is held is an object also with one more edit, whether or not there was memory for it
+-- one more edit inside an object, whether or not there was memory for it
 pub pushed-inside : {T E : Type 0} (r : Result T E) (es new : List Edit) (rows cols : ℕ) (e : Edit)
     → OnOk r (new ≡ es ++ e ∷ []) → OnErr r (new ≡ es)
-    → (place_of e).0 < rows → (place_of e).1 < cols → AreInside rows cols es → AreInside rows cols new
-pushed-inside (Ok x) es new rows cols e pushed kept row col inside = subst (AreInside rows cols) (sym pushed) (All-push (λ f. ((place_of f).0 < rows) × ((place_of f).1 < cols)) es e inside (row, col))
-pushed-inside (Err x) es new rows cols e pushed kept row col inside = subst (AreInside rows cols) (sym kept) inside
+    → IsInside rows cols e → AreInside rows cols es → AreInside rows cols new
+pushed-inside (Ok x) es new rows cols e pushed kept here inside = subst (AreInside rows cols) (sym pushed) (All-push (λ f. ((place_of f).0 < rows) × ((place_of f).1 < cols)) es e inside (place_by_inside rows cols e here))
+pushed-inside (Err x) es new rows cols e pushed kept here inside = subst (AreInside rows cols) (sym kept) inside
 
-pub pushed-set : {T E : Type 0} (r : Result T E) (domain : Domain) (shape : Shape) (es new : List Edit) (c : Content)
-    (p : Place) (value : ℤ) (i j word : ℕ)
-    → OnOk r (new ≡ es ++ Set i j word ∷ []) → OnErr r (new ≡ es) → i ≡ row_of p → j ≡ col_of p
-    → word ≡ word_of domain value → is_inside p shape ≡ true → is_value_of domain value ≡ true
-    → (let o : Object = record { domain = domain; shape = shape; content = edited es c } in IsObject o) → let o : Object = record { domain = domain; shape = shape; content = edited new c } in IsObject o
-pushed-set (Ok x) domain shape es new c p value i j word pushed kept row col named inside valued is =
+-- an object after one edit inside it
+edited-is_object : (o : Object) (e : Edit) → IsObject o → IsInside (rows_of o.shape) (cols_of o.shape) e
+    → IsEditOf o.domain e → IsObject (edited_object o e)
+edited-is_object o (Set i j word) is inside small = entry-is_object o i j word is inside.0 inside.1 small
+edited-is_object o (Remove i j) is inside small = without-is_object o i j is
+
+-- ..which is done last
+pub edited-last : (domain : Domain) (shape : Shape) (es : List Edit) (c : Content) (e : Edit)
+    → (let o : Object = record { domain = domain; shape = shape; content = edited es c } in
+    let new : Object = record { domain = domain; shape = shape; content = edited (es ++ e ∷ []) c } in new ≡ edited_object o e)
+edited-last domain shape es c e =
+    ap (λ (d : Content). let new : Object = record { domain = domain; shape = shape; content = d } in new) (edited-pushed es e c)
+
+pub pushed-object : {T E : Type 0} (r : Result T E) (domain : Domain) (shape : Shape) (es new : List Edit) (c : Content)
+    (e : Edit) → OnOk r (new ≡ es ++ e ∷ []) → OnErr r (new ≡ es)
+    → IsInside (rows_of shape) (cols_of shape) e → IsEditOf domain e
+    → (let o : Object = record { domain = domain; shape = shape; content = edited es c } in IsObject o)
+    → let o : Object = record { domain = domain; shape = shape; content = edited new c } in IsObject o
+pushed-object (Ok x) domain shape es new c e pushed kept inside small is =
     let o : Object = record { domain = domain; shape = shape; content = edited es c } in
-    rw (pushed, set-last domain shape es c p value i j word row col named) (set-is_object o p value is inside)
-pushed-set (Err x) domain shape es new c p value i j word pushed kept row col named inside valued is = rw kept is
+    rw (pushed, edited-last domain shape es c e) (edited-is_object o e is inside small)
+pushed-object (Err x) domain shape es new c e pushed kept inside small is = rw kept is
 
 -- what is held is the same where its edits mean the same of its store
 pub same-meaning : (domain : Domain) (shape : Shape) (es fs : List Edit) (c d : Content)
@@ -77,14 +82,6 @@ same-meaning domain shape es fs c d same =
     let old : Object = record { domain = domain; shape = shape; content = edited fs d } in
     let new : Object = record { domain = domain; shape = shape; content = edited es c } in
     objects_equal new old refl refl same
-
-inside_by_place : (rows cols : ℕ) (e : Edit) → ((place_of e).0 < rows) × ((place_of e).1 < cols) → IsInside rows cols e
-inside_by_place rows cols (Set i j word) is = is
-inside_by_place rows cols (Remove i j) is = is
-
-place_by_inside : (rows cols : ℕ) (e : Edit) → IsInside rows cols e → ((place_of e).0 < rows) × ((place_of e).1 < cols)
-place_by_inside rows cols (Set i j word) is = is
-place_by_inside rows cols (Remove i j) is = is
 
 -- edits are inside where their positions are
 pub all_inside : (rows cols : ℕ) (es : List Edit) → AreInside rows cols es → All (IsInside rows cols) es

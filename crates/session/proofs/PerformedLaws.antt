@@ -2,14 +2,15 @@
 use Rattle.std.proofs.Common.{◌≡◌, ◌∙◌, ℕ, ◌+◌, Bool, true, false, cond, List, Option, Some, None, is_some, Result, Ok, Err, MatchResult, refl, sym, ap, inr}
 use Rattle.std.specs.Prelude.{OnErr, OnOk}
 use Rattle.std.specs.Prelude.{ℤ}
-use Rattle.std.specs.Option.{option_map, option_map_or}
+use Rattle.std.specs.Option.{option_and_then, option_map, option_map_or, unwrap_or}
 use Rattle.algebra.specs.declared.domain.Domain.{Domain}
 use Rattle.algebra.specs.declared.operator_names.MonoidName.{MonoidName}
 use Rattle.algebra.specs.declared.operator_names.OpName.{OpName}
 use Rattle.calls.specs.Checks.{known_call}
 use Rattle.calls.specs.declared.obj.Obj.{Obj}
 use Rattle.model.specs.declared.call.Call.{Call}
-use Rattle.model.specs.declared.call.Call.TheVariants.{Create, Dup, Free, Clear, Resize, Build, Set, Remove, Get, Nvals, Print, Reduce, Operate}
+use Rattle.model.specs.declared.call.Act.TheVariants.{Free, Clear, Resize, Build, Set, Remove, Get, Nvals, Print, Reduce}
+use Rattle.model.specs.declared.call.Call.TheVariants.{Create, Dup, On, Operate}
 use Rattle.model.specs.declared.call.Operation.{Operation}
 use Rattle.model.specs.declared.call.Out.{Out}
 use Rattle.model.specs.declared.shape.Place.{Place}
@@ -18,19 +19,21 @@ use Rattle.model.specs.declared.status.Status.{Status}
 use Rattle.model.specs.declared.status.Status.TheVariants as status
 use Rattle.model.specs.declared.tuples.Tuple.{Tuple}
 use Rattle.model.specs.Builds.{built}
-use Rattle.model.specs.Fault.{early_fault, found_object, has_entries, late_fault}
+use Rattle.model.specs.Fault.{early_fault, has_entries, late_fault}
 use Rattle.model.specs.Regions.{cut_to}
 use Rattle.model.specs.declared.shape.Signature.{Signature}
-use Rattle.model.specs.Object.{Content, Object, col_of, cols_of, empty_object, row_of, rows_of, signature_of}
+use Rattle.model.specs.Object.{Content, Object, col_of, cols_of, empty_object, row_of, rows_of, signature_of, with_entry, without_entry}
 use Rattle.model.proofs.RenamedLaws.{operation_twice, out_twice}
 use Rattle.model.specs.Renamed.{renamed_operation, renamed_out}
-use Rattle.model.specs.Run.{effect, object_at, with_content, with_object, without_object}
+use Rattle.model.specs.Run.{effect, no_object, object_at, with_content, with_object, without_object}
 use Rattle.model.specs.WriteBack.{result_of}
-use Rattle.session.specs.Objects.{with_value, without_value}
+use Rattle.patch.specs.declared.edits.Edit.TheVariants as edit
+use Rattle.algebra.specs.Value.{word_of}
+use Rattle.session.specs.Objects.{edited_object}
 use Rattle.session.specs.Performed.{IsPerformed, count_in, environment_of, fault_in, known_in, made_after, made_in, next_object}
 use Rattle.session.specs.declared.sessions.Session.{Session}
 use Rattle.session.specs.Tables.{same_object}
-use Rattle.session.proofs.SessionLaws.{free-fault, no_late}
+use Rattle.session.proofs.SessionLaws.{build-accepted, free-fault, no_late, no_late_act}
 
 -- an accepted call
 performed : {T : Type 0} (old new : Session) (call : Call Obj Obj) (x : T) → fault_in old call ≡ None
@@ -49,27 +52,38 @@ performed-create old new domain shape object x accepted left empty made =
     performed old new (Create (next_object old) domain shape) x (no_late (early_fault (count_in old) (Create false domain shape)) accepted)
     (left ∙ ap (λ (o : Object). with_object same_object (environment_of old) (next_object old) o ((environment_of old).count + 1)) empty) made
 
-pub performed-set : {T : Type 0} (old new : Session) (o : Obj) (p : Place) (value : ℤ) (x : T)
-    → early_fault (count_in old) (known_call {N = Obj} (known_in old) (Set o p value)) ≡ None
-    → environment_of new ≡ with_object same_object (environment_of old) o (with_value (object_at (environment_of old) o) p value) (environment_of old).count
-    → made_in new ≡ made_in old → IsPerformed old new (Set o p value) (Ok x)
+pub performed-set : {T : Type 0} (old new : Session) (o : Obj) (p : Place) (value : ℤ) (i j word : ℕ) (x : T)
+    → early_fault (count_in old) (known_call {N = Obj} (known_in old) (On o (Set p value))) ≡ None
+    → environment_of new ≡ with_object same_object (environment_of old) o
+    (edited_object (object_at (environment_of old) o) (edit.Set i j word)) (environment_of old).count
+    → i ≡ row_of p → j ≡ col_of p → word ≡ word_of (object_at (environment_of old) o).domain value
+    → made_in new ≡ made_in old → IsPerformed old new (On o (Set p value)) (Ok x)
 unfolding effect
-performed-set old new o p value x accepted left made = performed old new (Set o p value) x (no_late _ accepted) left made
+performed-set old new o p value i j word x accepted left row col named made =
+    let env = environment_of old in
+    let object = object_at env o in
+    performed old new (On o (Set p value)) x (no_late_act _ _ (Set p value) (λ x. refl) accepted)
+    (left ∙ (λ t. with_object same_object env o (record object { content = with_entry object.content (row t) (col t) (named t) }) env.count)) made
 
 pub performed-clear : {T : Type 0} (old new : Session) (o : Obj) (content : Content) (x : T)
-    → early_fault (count_in old) (known_call {N = Obj} (known_in old) (Clear o)) ≡ None
+    → early_fault (count_in old) (known_call {N = Obj} (known_in old) (On o Clear)) ≡ None
     → environment_of new ≡ with_content same_object (environment_of old) o content → ((i j : ℕ) → content i j ≡ None)
-    → made_in new ≡ made_in old → IsPerformed old new (Clear o) (Ok x)
+    → made_in new ≡ made_in old → IsPerformed old new (On o Clear) (Ok x)
 unfolding effect
 performed-clear old new o content x accepted left empty made =
-    performed old new (Clear o) x (no_late _ accepted) (left ∙ (λ t. with_content same_object (environment_of old) o (λ i j. empty i j t))) made
+    performed old new (On o Clear) x (no_late_act _ _ Clear (λ x. refl) accepted) (left ∙ (λ t. with_content same_object (environment_of old) o (λ i j. empty i j t))) made
 
-pub performed-remove : {T : Type 0} (old new : Session) (o : Obj) (p : Place) (x : T)
-    → early_fault (count_in old) (known_call {N = Obj} (known_in old) (Remove o p)) ≡ None
-    → environment_of new ≡ with_object same_object (environment_of old) o (without_value (object_at (environment_of old) o) p) (environment_of old).count
-    → made_in new ≡ made_in old → IsPerformed old new (Remove o p) (Ok x)
+pub performed-remove : {T : Type 0} (old new : Session) (o : Obj) (p : Place) (i j : ℕ) (x : T)
+    → early_fault (count_in old) (known_call {N = Obj} (known_in old) (On o (Remove p))) ≡ None
+    → environment_of new ≡ with_object same_object (environment_of old) o
+    (edited_object (object_at (environment_of old) o) (edit.Remove i j)) (environment_of old).count
+    → i ≡ row_of p → j ≡ col_of p → made_in new ≡ made_in old → IsPerformed old new (On o (Remove p)) (Ok x)
 unfolding effect
-performed-remove old new o p x accepted left made = performed old new (Remove o p) x (no_late _ accepted) left made
+performed-remove old new o p i j x accepted left row col made =
+    let env = environment_of old in
+    let object = object_at env o in
+    performed old new (On o (Remove p)) x (no_late_act _ _ (Remove p) (λ x. refl) accepted)
+    (left ∙ (λ t. with_object same_object env o (record object { content = without_entry object.content (row t) (col t) }) env.count)) made
 
 pub performed-dup : {T : Type 0} (old new : Session) (from : Obj) (object : Object) (x : T)
     → early_fault (count_in old) (Dup false (known_in old from)) ≡ None
@@ -83,50 +97,55 @@ performed-dup old new from object x accepted left same made =
     (left ∙ ap (λ (o : Object). with_object same_object (environment_of old) (next_object old) o ((environment_of old).count + 1)) same) made
 
 pub performed-resize : {T : Type 0} (old new : Session) (o : Obj) (shape : Shape) (content : Content) (x : T)
-    → early_fault (count_in old) (known_call {N = Obj} (known_in old) (Resize o shape)) ≡ None
+    → early_fault (count_in old) (known_call {N = Obj} (known_in old) (On o (Resize shape))) ≡ None
     → environment_of new ≡ with_object same_object (environment_of old) o (record (object_at (environment_of old) o) { shape = shape; content = content }) (environment_of old).count
     → ((i j : ℕ) → content i j ≡ cut_to (rows_of shape) (cols_of shape) (object_at (environment_of old) o).content i j)
-    → made_in new ≡ made_in old → IsPerformed old new (Resize o shape) (Ok x)
+    → made_in new ≡ made_in old → IsPerformed old new (On o (Resize shape)) (Ok x)
 unfolding effect
 performed-resize old new o shape content x accepted left cut made =
-    performed old new (Resize o shape) x (no_late _ accepted)
+    performed old new (On o (Resize shape)) x (no_late_act _ _ (Resize shape) (λ x. refl) accepted)
     (left ∙ (λ t. with_object same_object (environment_of old) o (record (object_at (environment_of old) o) { shape = shape; content = λ i j. cut i j t }) (environment_of old).count)) made
 
 -- a build of an object without entries has no fault that depends on values
-no_late_build : (early : Option Status) (o : Object) (dup : Option OpName) (tuples : List Tuple) → early ≡ None
-    → has_entries o ≡ false
-    → option_map_or Some early (late_fault {N = Obj} (Build o dup tuples)) ≡ None
-no_late_build early o dup tuples accepted empty = rw (accepted, empty) refl
+no_late_build : (early : Option Status) (o : Option Object) (dup : Option OpName) (tuples : List Tuple) → early ≡ None
+    → has_entries (unwrap_or o no_object) ≡ false
+    → option_map_or Some early (option_and_then (λ x. late_fault x (Build dup tuples)) o) ≡ None
+no_late_build early None dup tuples accepted empty = rw accepted refl
+no_late_build early (Some x) dup tuples accepted empty = rw (accepted, empty) refl
 
-late_build : (early : Option Status) (o : Object) (dup : Option OpName) (tuples : List Tuple) → early ≡ None
-    → has_entries o ≡ true
-    → option_map_or Some early (late_fault {N = Obj} (Build o dup tuples)) ≡ Some status.OutputNotEmpty
-late_build early o dup tuples accepted full = rw (accepted, full) refl
+late_build : (early : Option Status) (o : Option Object) (dup : Option OpName) (tuples : List Tuple) → early ≡ None
+    → is_some o ≡ true → has_entries (unwrap_or o no_object) ≡ true
+    → option_map_or Some early (option_and_then (λ x. late_fault x (Build dup tuples)) o) ≡ Some status.OutputNotEmpty
+late_build early None dup tuples accepted there full = absurd (cc)
+late_build early (Some x) dup tuples accepted there full = rw (accepted, full) refl
 
 pub performed-build : {T : Type 0} (old new : Session) (o : Obj) (dup : Option OpName) (tuples : List Tuple)
     (content : Content) (x : T)
-    → early_fault (count_in old) (known_call {N = Obj} (known_in old) (Build o dup tuples)) ≡ None
+    → early_fault (count_in old) (known_call {N = Obj} (known_in old) (On o (Build dup tuples))) ≡ None
     → has_entries (object_at (environment_of old) o) ≡ false
     → environment_of new ≡ with_content same_object (environment_of old) o content
     → ((i j : ℕ) → content i j ≡ built dup (object_at (environment_of old) o).domain tuples i j)
-    → made_in new ≡ made_in old → IsPerformed old new (Build o dup tuples) (Ok x)
+    → made_in new ≡ made_in old → IsPerformed old new (On o (Build dup tuples)) (Ok x)
 unfolding effect
 performed-build old new o dup tuples content x accepted empty left is made =
-    performed old new (Build o dup tuples) x (no_late_build _ (object_at (environment_of old) o) dup tuples accepted empty)
+    performed old new (On o (Build dup tuples)) x
+    (no_late_build _ ((environment_of old).find_object o) dup tuples accepted empty)
     (left ∙ (λ t. with_content same_object (environment_of old) o (λ i j. is i j t))) made
 
 -- ..and of one with entries has
 pub refused-build : {T : Type 0} (session new : Session) (o : Obj) (dup : Option OpName) (tuples : List Tuple)
-    → early_fault (count_in session) (known_call {N = Obj} (known_in session) (Build o dup tuples)) ≡ None
+    → early_fault (count_in session) (known_call {N = Obj} (known_in session) (On o (Build dup tuples))) ≡ None
     → has_entries (object_at (environment_of session) o) ≡ true → environment_of new ≡ environment_of session
     → made_in new ≡ made_in session
-    → IsPerformed {T = T} session new (Build o dup tuples) (Err status.OutputNotEmpty)
-refused-build session new o dup tuples accepted full kept made = record {
-  status = inr (late_build _ (object_at (environment_of session) o) dup tuples accepted full);
-  effect = tt;
-  kept = kept;
-  made = made;
-}
+    → IsPerformed {T = T} session new (On o (Build dup tuples)) (Err status.OutputNotEmpty)
+refused-build session new o dup tuples accepted full kept made =
+    let there = (build-accepted (count_in session) ((environment_of session).find_object o) dup tuples accepted).0 in
+    record {
+      status = inr (late_build _ ((environment_of session).find_object o) dup tuples accepted there full);
+      effect = tt;
+      kept = kept;
+      made = made;
+    }
 
 -- an object is freed where it is there, and else there is a fault
 pub performed-free : {T : Type 0} (old new : Session) (o : Obj) (r : Result T Status)
@@ -134,12 +153,12 @@ pub performed-free : {T : Type 0} (old new : Session) (o : Obj) (r : Result T St
     (λ s. (s ≡ status.UninitializedObject) × ((environment_of old).find_object o ≡ None))
     → OnOk r (environment_of new ≡ without_object same_object (environment_of old) o)
     → OnErr r (environment_of new ≡ environment_of old)
-    → made_in new ≡ made_in old → IsPerformed old new (Free o) r
+    → made_in new ≡ made_in old → IsPerformed old new (On o Free) r
 unfolding effect
 performed-free old new o (Ok x) there left kept made =
-    performed old new (Free o) x (no_late _ (free-fault (count_in old) ((environment_of old).find_object o) ∙ ap (λ (t : Bool). cond t None (Some status.UninitializedObject)) there)) left made
+    performed old new (On o Free) x (no_late_act _ _ Free (λ x. refl) (free-fault (count_in old) ((environment_of old).find_object o) ∙ ap (λ (t : Bool). cond t None (Some status.UninitializedObject)) there)) left made
 performed-free old new o (Err s) absent left kept made = record {
-  status = inr (ap (λ fault. option_map_or Some fault None)
+  status = inr (ap (λ fault. option_map_or Some fault (option_and_then (λ x. late_fault x Free) ((environment_of old).find_object o)))
       (free-fault (count_in old) ((environment_of old).find_object o)
       ∙ ap (λ (found : Option Object). cond (is_some found) None (Some status.UninitializedObject)) absent.1 ∙ ap Some (sym absent.0)));
   effect = tt;
@@ -149,27 +168,27 @@ performed-free old new o (Err s) absent left kept made = record {
 
 found_value : (early : Option Status) (o : Option Object) (x : Object) (p : Place) (word : ℕ) → early ≡ None
     → o ≡ Some x → x.content (row_of p) (col_of p) ≡ Some word
-    → option_map_or Some early (late_fault {N = Obj} (Get (found_object o) p)) ≡ None
+    → option_map_or Some early (option_and_then (λ x. late_fault x (Get p)) o) ≡ None
 found_value early o x p word accepted there stored = rw (accepted, there, stored) refl
 
 -- a call that only reads leaves all objects as they were
 pub performed-get : {T : Type 0} (old new : Session) (o : Obj) (p : Place) (object : Object) (word : ℕ) (x : T)
-    → early_fault (count_in old) (known_call {N = Obj} (known_in old) (Get o p)) ≡ None
+    → early_fault (count_in old) (known_call {N = Obj} (known_in old) (On o (Get p))) ≡ None
     → (environment_of old).find_object o ≡ Some object → object.content (row_of p) (col_of p) ≡ Some word
-    → environment_of new ≡ environment_of old → made_in new ≡ made_in old → IsPerformed old new (Get o p) (Ok x)
+    → environment_of new ≡ environment_of old → made_in new ≡ made_in old → IsPerformed old new (On o (Get p)) (Ok x)
 unfolding effect
 performed-get old new o p object word x accepted there stored kept made =
-    performed old new (Get o p) x (found_value _ ((environment_of old).find_object o) object p word accepted there stored) kept made
+    performed old new (On o (Get p)) x (found_value _ ((environment_of old).find_object o) object p word accepted there stored) kept made
 
 absent_value : (early : Option Status) (o : Option Object) (x : Object) (p : Place) → early ≡ None → o ≡ Some x
     → x.content (row_of p) (col_of p) ≡ None
-    → option_map_or Some early (late_fault {N = Obj} (Get (found_object o) p)) ≡ Some status.NoValue
+    → option_map_or Some early (option_and_then (λ x. late_fault x (Get p)) o) ≡ Some status.NoValue
 absent_value early o x p accepted there none = rw (accepted, there, none) refl
 
 pub refused-get : {T : Type 0} (old new : Session) (o : Obj) (p : Place) (object : Object)
-    → early_fault (count_in old) (known_call {N = Obj} (known_in old) (Get o p)) ≡ None
+    → early_fault (count_in old) (known_call {N = Obj} (known_in old) (On o (Get p))) ≡ None
     → (environment_of old).find_object o ≡ Some object → object.content (row_of p) (col_of p) ≡ None
-    → environment_of new ≡ environment_of old → made_in new ≡ made_in old → IsPerformed {T = T} old new (Get o p) (Err status.NoValue)
+    → environment_of new ≡ environment_of old → made_in new ≡ made_in old → IsPerformed {T = T} old new (On o (Get p)) (Err status.NoValue)
 refused-get old new o p object accepted there none kept made = record {
   status = inr (absent_value _ ((environment_of old).find_object o) object p accepted there none);
   effect = tt;
@@ -177,19 +196,19 @@ refused-get old new o p object accepted there none kept made = record {
   made = made;
 }
 
-pub performed-nvals : {T : Type 0} (old new : Session) (o : Obj) (x : T) → early_fault (count_in old) (known_call {N = Obj} (known_in old) (Nvals o)) ≡ None
-    → environment_of new ≡ environment_of old → made_in new ≡ made_in old → IsPerformed old new (Nvals o) (Ok x)
+pub performed-nvals : {T : Type 0} (old new : Session) (o : Obj) (x : T) → early_fault (count_in old) (known_call {N = Obj} (known_in old) (On o Nvals)) ≡ None
+    → environment_of new ≡ environment_of old → made_in new ≡ made_in old → IsPerformed old new (On o Nvals) (Ok x)
 unfolding effect
-performed-nvals old new o x accepted kept made = performed old new (Nvals o) x (no_late _ accepted) kept made
+performed-nvals old new o x accepted kept made = performed old new (On o Nvals) x (no_late_act _ _ Nvals (λ x. refl) accepted) kept made
 
-pub performed-print : {T : Type 0} (session : Session) (o : Obj) (x : T) → early_fault (count_in session) (known_call {N = Obj} (known_in session) (Print o)) ≡ None → IsPerformed session session (Print o) (Ok x)
+pub performed-print : {T : Type 0} (session : Session) (o : Obj) (x : T) → early_fault (count_in session) (known_call {N = Obj} (known_in session) (On o Print)) ≡ None → IsPerformed session session (On o Print) (Ok x)
 unfolding effect
-performed-print session o x accepted = performed session session (Print o) x (no_late _ accepted) refl refl
+performed-print session o x accepted = performed session session (On o Print) x (no_late_act _ _ Print (λ x. refl) accepted) refl refl
 
-pub performed-reduce : {T : Type 0} (old new : Session) (o : Obj) (monoid : MonoidName) (x : T) → early_fault (count_in old) (known_call {N = Obj} (known_in old) (Reduce o monoid)) ≡ None
-    → environment_of new ≡ environment_of old → made_in new ≡ made_in old → IsPerformed old new (Reduce o monoid) (Ok x)
+pub performed-reduce : {T : Type 0} (old new : Session) (o : Obj) (monoid : MonoidName) (x : T) → early_fault (count_in old) (known_call {N = Obj} (known_in old) (On o (Reduce monoid))) ≡ None
+    → environment_of new ≡ environment_of old → made_in new ≡ made_in old → IsPerformed old new (On o (Reduce monoid)) (Ok x)
 unfolding effect
-performed-reduce old new o monoid x accepted kept made = performed old new (Reduce o monoid) x (no_late _ accepted) kept made
+performed-reduce old new o monoid x accepted kept made = performed old new (On o (Reduce monoid)) x (no_late_act _ _ (Reduce monoid) (λ x. refl) accepted) kept made
 
 -- ---- operations
 

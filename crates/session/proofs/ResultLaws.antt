@@ -2,7 +2,7 @@
 use Rattle.std.proofs.Common.{◌≡◌, ◌∙◌, ℕ, true, Option, Some, None, is_some, Result, Ok, Err, refl, sym, ap}
 use Rattle.std.specs.Prelude.{IfOk}
 use Rattle.std.specs.List.{fold}
-use Rattle.std.specs.Option.{option_map}
+use Rattle.std.specs.Option.{option_map, unwrap_or}
 use Rattle.algebra.specs.declared.operator_names.MonoidName.{MonoidName}
 use Rattle.algebra.specs.Monoids.{identity_of}
 use Rattle.algebra.specs.Operators.{combines_by, eval_of, offers}
@@ -21,10 +21,9 @@ use Rattle.model.specs.declared.call.Operation.{Operation}
 use Rattle.model.specs.declared.call.Operation.TheVariants.{Fill, OfOne, OfTwo}
 use Rattle.model.specs.declared.call.Out.{Out}
 use Rattle.model.specs.declared.shape.Signature.{Signature}
-use Rattle.model.specs.Fault.{found_object}
 use Rattle.model.specs.Object.{AreWordsOf, Object, cols_of, rows_of, signature_of}
 use Rattle.model.specs.Reductions.{all_words, sum_in}
-use Rattle.model.specs.Run.{Environment, object_at}
+use Rattle.model.specs.Run.{Environment, no_object, object_at}
 use Rattle.model.proofs.ObjectLaws.{objects_equal}
 use Rattle.model.proofs.StoredLaws.{sum_in-stored}
 use Rattle.session.specs.Results.{IsEvaluated, IsLeft, IsStoreOf, taken_in}
@@ -37,7 +36,7 @@ each_role P old mask first second First = first
 each_role P old mask first second Second = second
 
 signature_known : (o : Option Object) (s : Signature) → option_map signature_of o ≡ Some s
-    → signature_of (found_object o) ≡ s
+    → signature_of (unwrap_or o no_object) ≡ s
 signature_known None s is = absurd (cc)
 signature_known (Some o) s is = cc
 

@@ -1,16 +1,18 @@
 -- What is known of accepted calls, and that the numbers of objects stay below the next one.
 use Rattle.std.proofs.Common.{◌≡◌, ◌∙◌, ℕ, ◌<◌, ◌≤◌, ◌==◌, ◌^◌, ◌-◌, ◌&&◌, ◌||◌, Bool, true, false, cond, not, List, Option, Some, None, is_some, Result, Ok, Err, refl, sym, ap, inl, inr, arith}
 use Rattle.std.specs.Prelude.{OnErr, OnOk, ℤ, nat_le}
-use Rattle.std.specs.Option.{option_map, option_map_or}
+use Rattle.std.specs.Option.{option_and_then, option_map, option_map_or, unwrap_or}
 use Rattle.std.proofs.lemmas.Bool.{and_parts, cases_Bool, eqb-true}
 use Rattle.algebra.specs.declared.domain.Domain.{Domain}
 use Rattle.algebra.specs.declared.operator_names.MonoidName.{MonoidName}
 use Rattle.algebra.specs.declared.operator_names.OpName.{OpName}
 use Rattle.algebra.specs.Operators.{answer_domain, combines_by, offers}
-use Rattle.algebra.specs.Value.{are_compatible, is_value_of, same_domain}
+use Rattle.algebra.specs.Value.{are_compatible, is_value_of, same_domain, word_of}
 use Rattle.calls.specs.Checks.{Decides}
 use Rattle.calls.specs.declared.obj.Obj.{Obj}
-use Rattle.model.specs.declared.call.Call.TheVariants.{Create, Dup, Free, Clear, Resize, Build, Set, Remove, Get, Nvals, Print, Reduce}
+use Rattle.model.specs.declared.call.Act.{Act}
+use Rattle.model.specs.declared.call.Act.TheVariants.{Free, Clear, Resize, Build, Set, Remove, Get, Nvals, Print, Reduce}
+use Rattle.model.specs.declared.call.Call.TheVariants.{Create, Dup, On}
 use Rattle.model.specs.declared.limits.TheConstants.{MOST_OBJECTS}
 use Rattle.model.specs.declared.shape.Place.{Place}
 use Rattle.model.specs.declared.shape.Shape.{Shape}
@@ -18,9 +20,9 @@ use Rattle.model.specs.declared.status.Status.{Status}
 use Rattle.model.specs.declared.status.Status.TheVariants as status
 use Rattle.model.specs.declared.tuples.Tuple.{Tuple}
 use Rattle.model.specs.Builds.{are_inside, are_of_kind, are_single, are_values_of}
-use Rattle.model.specs.Fault.{accumulates, are_dimensions, early_fault, found_object}
+use Rattle.model.specs.Fault.{accumulates, are_dimensions, early_fault, late_fault}
 use Rattle.model.specs.Object.{Object, is_inside, is_of_kind, signature_of}
-use Rattle.model.specs.Run.{Environment, with_object, without_object}
+use Rattle.model.specs.Run.{Environment, no_object, with_object, without_object}
 use Rattle.session.specs.Tables.{same_object}
 
 -- ---- accepted calls
@@ -29,10 +31,17 @@ pub no_late : {X : Type 0} (fault : Option X) → fault ≡ None → option_map_
 no_late None h = refl
 no_late (Some x) h = absurd (cc)
 
--- where no fault depends on a value, a check that refuses the call decides it
-pub decides_by : {T : Type 0} (fault : Option Status) (r : Result T Status) (s : Status) → r ≡ Err s → fault ≡ Some s
-    → Decides (option_map_or Some fault None) r
-decides_by fault r s is why = rw is (ap (λ f. option_map_or Some f None) why)
+-- ..of an act that no value refuses
+pub no_late_act : (fault : Option Status) (o : Option Object) (act : Act) → ((x : Object) → late_fault x act ≡ None)
+    → fault ≡ None → option_map_or Some fault (option_and_then (λ x. late_fault x act) o) ≡ None
+no_late_act None None act late h = refl
+no_late_act None (Some x) act late h = late x
+no_late_act (Some s) o act late h = absurd (cc)
+
+-- a check that refuses a call decides it
+pub decides_by : {T : Type 0} (fault late : Option Status) (r : Result T Status) (s : Status) → r ≡ Err s
+    → fault ≡ Some s → Decides (option_map_or Some fault late) r
+decides_by fault late r s is why = rw is (ap (λ f. option_map_or Some f late) why)
 
 three : (a b c : Bool) → cond (not a) (Some status.WrongKind)
     (cond (not b) (Some status.InvalidIndex) (cond (not c) (Some status.InvalidValue) None)) ≡ None
@@ -43,15 +52,22 @@ three true false c h = absurd (cc)
 three false b c h = absurd (cc)
 
 pub set-accepted : (count : ℕ) (o : Option Object) (p : Place) (value : ℤ)
-    → early_fault count (Set (option_map signature_of o) p value) ≡ None
-    → (is_some o ≡ true) × (is_inside p (found_object o).shape ≡ true) × (is_value_of (found_object o).domain value ≡ true)
+    → early_fault count (On (option_map signature_of o) (Set p value)) ≡ None
+    → (is_some o ≡ true) × (is_inside p (unwrap_or o no_object).shape ≡ true) × (is_value_of (unwrap_or o no_object).domain value ≡ true)
 unfolding early_fault
 set-accepted count None p value h = absurd (cc)
 set-accepted count (Some o) p value h =
     let both = three (is_of_kind p o.shape) (is_inside p o.shape) (is_value_of o.domain value) h in
     (refl, both.0, both.1)
 
-pub clear-accepted : (count : ℕ) (o : Option Object) → early_fault count (Clear (option_map signature_of o)) ≡ None
+-- the word of a value in the domain of an object that is there
+pub word-found : (found : Option Object) (value : ℤ) (word : ℕ) → is_some found ≡ true
+    → option_map (λ o. word_of o.domain value) (option_map signature_of found) ≡ Some word
+    → word ≡ word_of (unwrap_or found no_object).domain value
+word-found None value word there is = absurd (cc)
+word-found (Some o) value word there is = cc
+
+pub clear-accepted : (count : ℕ) (o : Option Object) → early_fault count (On (option_map signature_of o) Clear) ≡ None
     → is_some o ≡ true
 unfolding early_fault
 clear-accepted count None h = absurd (cc)
@@ -64,32 +80,32 @@ two true false h = absurd (cc)
 two false b h = absurd (cc)
 
 pub remove-accepted : (count : ℕ) (o : Option Object) (p : Place)
-    → early_fault count (Remove (option_map signature_of o) p) ≡ None
-    → (is_some o ≡ true) × (is_inside p (found_object o).shape ≡ true)
+    → early_fault count (On (option_map signature_of o) (Remove p)) ≡ None
+    → (is_some o ≡ true) × (is_inside p (unwrap_or o no_object).shape ≡ true)
 unfolding early_fault
 remove-accepted count None p h = absurd (cc)
 remove-accepted count (Some o) p h = (refl, two (is_of_kind p o.shape) (is_inside p o.shape) h)
 
 -- an object that is there can be freed, and no other
 pub free-fault : (count : ℕ) (o : Option Object)
-    → early_fault count (Free (option_map signature_of o)) ≡ cond (is_some o) None (Some status.UninitializedObject)
+    → early_fault count (On (option_map signature_of o) Free) ≡ cond (is_some o) None (Some status.UninitializedObject)
 unfolding early_fault
 free-fault count None = refl
 free-fault count (Some o) = refl
 
 pub get-accepted : (count : ℕ) (o : Option Object) (p : Place)
-    → early_fault count (Get (option_map signature_of o) p) ≡ None → is_some o ≡ true
+    → early_fault count (On (option_map signature_of o) (Get p)) ≡ None → is_some o ≡ true
 unfolding early_fault
 get-accepted count None p h = absurd (cc)
 get-accepted count (Some o) p h = refl
 
-pub nvals-accepted : (count : ℕ) (o : Option Object) → early_fault count (Nvals (option_map signature_of o)) ≡ None
+pub nvals-accepted : (count : ℕ) (o : Option Object) → early_fault count (On (option_map signature_of o) Nvals) ≡ None
     → is_some o ≡ true
 unfolding early_fault
 nvals-accepted count None h = absurd (cc)
 nvals-accepted count (Some o) h = refl
 
-pub print-accepted : (count : ℕ) (o : Option Object) → early_fault count (Print (option_map signature_of o)) ≡ None
+pub print-accepted : (count : ℕ) (o : Option Object) → early_fault count (On (option_map signature_of o) Print) ≡ None
     → is_some o ≡ true
 unfolding early_fault
 print-accepted count None h = absurd (cc)
@@ -104,8 +120,8 @@ summed true false h = absurd (cc)
 summed false compatible h = absurd (cc)
 
 pub reduce-accepted : (count : ℕ) (o : Option Object) (monoid : MonoidName)
-    → early_fault count (Reduce (option_map signature_of o) monoid) ≡ None
-    → (is_some o ≡ true) × (offers (combines_by monoid.kind) monoid.domain ≡ true) × (are_compatible (found_object o).domain monoid.domain ≡ true)
+    → early_fault count (On (option_map signature_of o) (Reduce monoid)) ≡ None
+    → (is_some o ≡ true) × (offers (combines_by monoid.kind) monoid.domain ≡ true) × (are_compatible (unwrap_or o no_object).domain monoid.domain ≡ true)
 unfolding early_fault
 reduce-accepted count None monoid h = absurd (cc)
 reduce-accepted count (Some o) monoid h =
@@ -129,7 +145,7 @@ resized true false h = absurd (cc)
 resized false allowed h = absurd (cc)
 
 pub resize-accepted : (count : ℕ) (o : Option Object) (shape : Shape)
-    → early_fault count (Resize (option_map signature_of o) shape) ≡ None → is_some o ≡ true
+    → early_fault count (On (option_map signature_of o) (Resize shape)) ≡ None → is_some o ≡ true
 unfolding early_fault
 resize-accepted count None shape h = absurd (cc)
 resize-accepted count (Some o) shape h = refl
@@ -150,8 +166,8 @@ pub record BuildsOn (o : Object) (dup : Option OpName) (tuples : List Tuple) : T
   pub values : are_values_of o.domain tuples ≡ true
 
 pub build-accepted : (count : ℕ) (o : Option Object) (dup : Option OpName) (tuples : List Tuple)
-    → early_fault count (Build (option_map signature_of o) dup tuples) ≡ None
-    → (is_some o ≡ true) × BuildsOn (found_object o) dup tuples
+    → early_fault count (On (option_map signature_of o) (Build dup tuples)) ≡ None
+    → (is_some o ≡ true) × BuildsOn (unwrap_or o no_object) dup tuples
 unfolding early_fault
 build-accepted count None dup tuples h = absurd (cc)
 build-accepted count (Some o) dup tuples h =

@@ -2,12 +2,11 @@
 use Rattle.std.proofs.Common.{◌≡◌, ◌∙◌, ℕ, ◌==◌, [], Bool, true, false, cond, Option, Some, IsSome, MatchOption, Result, Ok, Err, nat_cmp, nat_lt, inl, inr, refl, sym, subst, ap, arith}
 use Rattle.std.specs.Prelude.{OnOk}
 use Rattle.std.specs.BTreeMap.{BTreeMap, WritesThrough, get, get_by}
-use Rattle.std.specs.Option.{option_map}
+use Rattle.std.specs.Option.{option_map, unwrap_or}
 use Rattle.std.specs.Ordering.{is_eq}
 use Rattle.std.proofs.lemmas.Bool.{cases_Bool, eqb-true, le-ltb}
 use Rattle.calls.specs.declared.obj.Obj.{Obj}
-use Rattle.model.specs.Fault.{found_object}
-use Rattle.model.specs.Run.{object_at, with_object}
+use Rattle.model.specs.Run.{no_object, object_at, with_object}
 use Rattle.session.specs.declared.held.Held.{Held}
 use Rattle.session.specs.declared.table.Table.{Table}
 use Rattle.session.specs.Objects.{object_of}
@@ -50,7 +49,7 @@ environment_written m n o held w there written =
 -- the object of a number that is there
 pub object_there : (m : Table) (o : Obj) (held : Held) → Some held ≡ get_by (nat_cmp o.0) m.by_number
     → object_of held ≡ object_at (environment_in m) o
-object_there m o held there = ap (λ (g : Option Held). found_object (option_map object_of g)) there
+object_there m o held there = ap (λ (g : Option Held). unwrap_or (option_map object_of g) no_object) there
 
 -- where no edits wait on what was written, none wait on more objects than before
 pub stays_settled : {T E : Type 0} (r : Result T E) (m n : Table) (o : Obj) (held w : Held)

@@ -5,16 +5,17 @@ use Rattle.std.specs.Option.{option_map}
 use Rattle.algebra.specs.Value.{value_of}
 use Rattle.calls.specs.Checks.{known_call}
 use Rattle.calls.specs.declared.obj.Obj.{Obj}
+use Rattle.model.specs.declared.call.Act.{Act}
+use Rattle.model.specs.declared.call.Act.TheVariants.{Free, Clear, Resize, Build, Set, Remove, Get, Nvals, Print, Reduce}
 use Rattle.model.specs.declared.call.Call.{Call}
-use Rattle.model.specs.declared.call.Call.TheVariants.{Create, Dup, Free, Clear, Resize, Build, Set, Remove}
-use Rattle.model.specs.declared.call.Call.TheVariants.{Get, Nvals, Print, Reduce, Operate}
+use Rattle.model.specs.declared.call.Call.TheVariants.{Create, Dup, On, Operate}
 use Rattle.model.specs.declared.limits.TheConstants.{MOST_OBJECTS}
 use Rattle.model.specs.declared.status.Status.{Status}
 use Rattle.model.specs.declared.status.Status.TheVariants as status
 use Rattle.model.specs.Entries.{entries_of}
 use Rattle.model.specs.Fault.{fault_of}
 use Rattle.model.specs.declared.shape.Signature.{Signature}
-use Rattle.model.specs.Object.{signature_of, col_of, cols_of, row_of, rows_of}
+use Rattle.model.specs.Object.{Object, signature_of, col_of, cols_of, row_of, rows_of}
 use Rattle.model.specs.Reductions.{sum_in}
 use Rattle.model.specs.Renamed.{renamed}
 use Rattle.model.specs.Run as run
@@ -55,23 +56,26 @@ next_object session = record { 0 = session.next }
 abbrev pub numbered : {N : Type 0} → Session → Call Obj N → Call Obj Obj
 numbered session call = renamed (λ object. object) (λ name. next_object session) call
 
+-- what an act on an object answers
+abbrev pub AnswersOn : Object → Act → Reply → Type 0
+AnswersOn o (Get place) (Value value) =
+    (word : ℕ) × (o.content (row_of place) (col_of place) ≡ Some word) × (value ≡ value_of o.domain word)
+AnswersOn o Nvals (Count n) = n ≡ length (entries_of (rows_of o.shape) (cols_of o.shape) o.content)
+AnswersOn o (Reduce monoid) (Value value) = value ≡ value_of monoid.domain (sum_in monoid o)
+AnswersOn o Free Done = Unit {0}
+AnswersOn o Clear Done = Unit {0}
+AnswersOn o (Resize shape) Done = Unit {0}
+AnswersOn o (Build dup tuples) Done = Unit {0}
+AnswersOn o (Set place value) Done = Unit {0}
+AnswersOn o (Remove place) Done = Unit {0}
+AnswersOn o act reply = ⊥
+
 -- what a call answers
 abbrev pub Answers : Environment Obj → Call Obj Obj → Reply → Type 0
 Answers env (Create name domain shape) (Made object) = object ≡ name
 Answers env (Dup name object) (Made made) = made ≡ name
-Answers env (Resize object shape) Done = Unit {0}
-Answers env (Build object dup tuples) Done = Unit {0}
-Answers env (Free object) Done = Unit {0}
-Answers env (Clear object) Done = Unit {0}
-Answers env (Set object place value) Done = Unit {0}
-Answers env (Remove object place) Done = Unit {0}
-Answers env (Get object place) (Value value) =
-    let o = object_at env object in (word : ℕ) × (o.content (row_of place) (col_of place) ≡ Some word)
-    × (value ≡ value_of o.domain word)
-Answers env (Nvals object) (Count n) =
-    let o = object_at env object in n ≡ length (entries_of (rows_of o.shape) (cols_of o.shape) o.content)
-Answers env (Reduce object monoid) (Value value) = value ≡ value_of monoid.domain (sum_in monoid (object_at env object))
-Answers env (Print object) (Text asked) = (asked ≡ object) × (is_some (env.find_object object) ≡ true)
+Answers env (On object Print) (Text asked) = (asked ≡ object) × (is_some (env.find_object object) ≡ true)
+Answers env (On object act) reply = AnswersOn (object_at env object) act reply
 Answers env (Operate out operation) Done = Unit {0}
 Answers env call reply = ⊥
 

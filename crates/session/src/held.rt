@@ -1,13 +1,12 @@
 //! Objects as a session holds them.
-ghost use Rattle.std.specs.Prelude.{◌≡◌, [], IfOk, OnErr, OnOk, true};
-ghost use Rattle.algebra.specs.Value.{is_value_of};
-ghost use Rattle.model.specs.Object.{IsObject, cols_of, is_inside, rows_of};
-ghost use Rattle.patch.specs.Edits.{edited};
-ghost use Rattle.session.specs.Waiting.{AreInside};
+ghost use Rattle.std.specs.Prelude.{◌≡◌, [], IfOk, OnErr, OnOk};
+ghost use Rattle.model.specs.Object.{IsObject, cols_of, rows_of};
+ghost use Rattle.patch.specs.Edits.{IsInside, edited};
+ghost use Rattle.session.specs.Waiting.{AreInside, IsEditOf};
 ghost use Rattle.store.specs.Stored.{content_of};
 
 use algebra::Domain;
-use model::{NoMemory, Place, Shape};
+use model::{NoMemory, Shape};
 use patch::{Edit, settle};
 use std::alloc::Global;
 use store::Store;
@@ -33,7 +32,7 @@ pub struct Held {
 const MOST_EDITS: usize = 65_536;
 
 impl Held {
-    ghost use Rattle.session.specs.Objects.{object_of, stored_object, with_value, without_value};
+    ghost use Rattle.session.specs.Objects.{edited_object, object_of, stored_object};
 
     /// An object of a domain and a shape, with the entries of a store.
     pub(crate) fn new(alloc: Global, domain: Domain, shape: Shape, store: Store) -> Held
@@ -50,31 +49,15 @@ impl Held {
         }
     }
 
-    /// Has a value set at a place inside the object, behind the edits that wait. An error leaves the
-    /// object as it was.
-    pub(crate) fn set(&mut self, alloc: Global, place: Place, value: i128) -> Result<(), NoMemory>
-        requires inside { is_inside place self.old.shape ≡ true }
-        requires value { is_value_of self.old.domain value ≡ true }
-        ensures set { OnOk result (object_of self.new ≡ with_value (object_of self.old) place value) }
-        ensures kept { OnErr result (object_of self.new ≡ object_of self.old) }
-    {
-        let Some(word) = self.domain.word_of(value) else {
-            unreachable!()
-        };
-        self.make_room(alloc)?;
-        self.edits.push(Edit::Set(place.row(), place.col(), word))?;
-        Ok(())
-    }
-
-    /// Has the entry at a place inside the object removed, where there is one, behind the edits that
-    /// wait. An error leaves the object as it was.
-    pub(crate) fn remove(&mut self, alloc: Global, place: Place) -> Result<(), NoMemory>
-        requires { is_inside place self.old.shape ≡ true }
-        ensures removed { OnOk result (object_of self.new ≡ without_value (object_of self.old) place) }
+    /// Has an edit inside the object done, behind those that wait. An error leaves the object as it was.
+    pub(crate) fn edit(&mut self, alloc: Global, edit: Edit) -> Result<(), NoMemory>
+        requires inside { IsInside (rows_of self.old.shape) (cols_of self.old.shape) edit }
+        requires word { IsEditOf self.old.domain edit }
+        ensures edited { OnOk result (object_of self.new ≡ edited_object (object_of self.old) edit) }
         ensures kept { OnErr result (object_of self.new ≡ object_of self.old) }
     {
         self.make_room(alloc)?;
-        self.edits.push(Edit::Remove(place.row(), place.col()))?;
+        self.edits.push(edit)?;
         Ok(())
     }
 

@@ -8,7 +8,9 @@ mod reply;
 mod sessions;
 mod table;
 
-pub use calls::{Call, Desc, Obj, OneInput, Operation, Out, Place, Positions, Shape, TwoInputs};
+pub use calls::{
+    Act, Call, Desc, Obj, OneInput, Operation, Out, Place, Positions, Shape, TwoInputs,
+};
 pub use held::Held;
 pub use reply::Reply;
 pub use sessions::Session;

@@ -92,6 +92,49 @@ impl Session {
         self.of_one(out, OneInput::Apply(function), a)
     }
 
+    /// A binary operator of a plain value and each value (`GrB_apply`, bound first).
+    pub fn apply_first(
+        &mut self,
+        out: &Out<Obj>,
+        op: OpName,
+        value: i128,
+        a: Obj,
+    ) -> Result<(), Status>
+        ensures { IsPerformed self.old self.new
+            (Call.Operate out.now (Operation.OfOne (OneInput.Apply (FunctionName.First op value)) a)) result }
+    {
+        self.apply(out, FunctionName::First { op, value }, a)
+    }
+
+    /// A binary operator of each value and a plain value (`GrB_apply`, bound second).
+    pub fn apply_second(
+        &mut self,
+        out: &Out<Obj>,
+        op: OpName,
+        a: Obj,
+        value: i128,
+    ) -> Result<(), Status>
+        ensures { IsPerformed self.old self.new
+            (Call.Operate out.now (Operation.OfOne (OneInput.Apply (FunctionName.Second op value)) a)) result }
+    {
+        self.apply(out, FunctionName::Second { op, value }, a)
+    }
+
+    /// An index operator of each value, its position and a plain value (`GrB_apply` with
+    /// `GrB_IndexUnaryOp`).
+    pub fn apply_index(
+        &mut self,
+        out: &Out<Obj>,
+        op: IndexName,
+        a: Obj,
+        scalar: i128,
+    ) -> Result<(), Status>
+        ensures { IsPerformed self.old self.new
+            (Call.Operate out.now (Operation.OfOne (OneInput.Apply (FunctionName.Index op scalar)) a)) result }
+    {
+        self.apply(out, FunctionName::Index { op, scalar }, a)
+    }
+
     /// The entries for which an index operator's answer is true (`GrB_select`).
     pub fn select(
         &mut self,

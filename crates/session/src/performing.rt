@@ -3,7 +3,7 @@ ghost use Rattle.std.specs.Prelude.{◌≡◌, Err, IfOk, MatchResult, Ok};
 
 use crate::reply::Reply;
 use crate::sessions::Session;
-use calls::{Call, Obj};
+use calls::{Act, Call, Obj};
 use model::Status;
 
 impl Session {
@@ -17,28 +17,30 @@ impl Session {
         match call {
             Call::Create { domain, shape, .. } => Ok(Reply::Made(self.create(domain, shape)?)),
             Call::Dup { object, .. } => Ok(Reply::Made(self.dup(object)?)),
-            Call::Free { object } => done(self.free(object)),
-            Call::Clear { object } => done(self.clear(object)),
-            Call::Resize { object, shape } => done(self.resize(object, shape)),
-            Call::Build {
-                object,
-                dup,
-                tuples,
-            } => done(self.build(object, dup, tuples)),
-            Call::Set {
-                object,
-                place,
-                value,
-            } => done(self.set(object, place, value)),
-            Call::Remove { object, place } => done(self.remove(object, place)),
-            Call::Get { object, place } => Ok(Reply::Value(self.get(object, place)?)),
-            Call::Nvals { object } => Ok(Reply::Count(self.nvals(object)?)),
-            Call::Print { object } => {
+            Call::On { object, act } => self.act(object, act),
+            Call::Operate { out, operation } => done(self.operate(&out, operation)),
+        }
+    }
+
+    /// Does something to an object, or answers what is asked of it.
+    fn act(&mut self, object: Obj, act: Act) -> Result<Reply, Status>
+        ensures performed { IsPerformed self.old self.new (Call.On object act) result }
+        ensures answer { IfOk result (Answers (environment_of self.old) (Call.On object act)) }
+    {
+        match act {
+            Act::Free => done(self.free(object)),
+            Act::Clear => done(self.clear(object)),
+            Act::Resize(shape) => done(self.resize(object, shape)),
+            Act::Build { dup, tuples } => done(self.build(object, dup, tuples)),
+            Act::Set { place, value } => done(self.set(object, place, value)),
+            Act::Remove(place) => done(self.remove(object, place)),
+            Act::Get(place) => Ok(Reply::Value(self.get(object, place)?)),
+            Act::Nvals => Ok(Reply::Count(self.nvals(object)?)),
+            Act::Print => {
                 self.print(object)?;
                 Ok(Reply::Text(object))
             }
-            Call::Reduce { object, monoid } => Ok(Reply::Value(self.reduce(object, monoid)?)),
-            Call::Operate { out, operation } => done(self.operate(&out, operation)),
+            Act::Reduce(monoid) => Ok(Reply::Value(self.reduce(object, monoid)?)),
         }
     }
 }

@@ -17,12 +17,12 @@ use crate::reply::Reply;
 use crate::table::Table;
 use algebra::{BinaryOp, Domain, MonoidName, OpName};
 use calls::{
-    Call, Checked, Obj, Place, Shape, Shapes, TupleList, check, check_build, check_create,
+    Act, Call, Checked, Obj, Place, Shape, Shapes, TupleList, check, check_build, check_create,
     check_dup, check_place, check_reduce, check_resize, check_set, check_there,
 };
 use elementwise::reduce_all;
 use model::{MOST_OBJECTS, NoMemory, Status};
-use patch::{build, sum_entries};
+use patch::{Edit, build, sum_entries};
 use shapes::resize;
 use std::alloc::Global;
 use store::{Store, Tuples};
@@ -170,7 +170,7 @@ impl Session {
     /// Gives an object another shape, in which the entries stay that fit it (`GrB_Matrix_resize`,
     /// `GrB_Vector_resize`).
     pub fn resize(&mut self, object: Obj, shape: Shape) -> Result<(), Status>
-        ensures { IsPerformed self.old self.new (Call.Resize object shape) result }
+        ensures { IsPerformed self.old self.new (Call.On object (Act.Resize shape)) result }
     {
         check_resize(self, object, shape)?;
         self.settle(object)?;
@@ -188,7 +188,7 @@ impl Session {
         dup: Option<OpName>,
         tuples: TupleList,
     ) -> Result<(), Status>
-        ensures { IsPerformed self.old self.new (Call.Build object dup tuples) result }
+        ensures { IsPerformed self.old self.new (Call.On object (Act.Build dup tuples)) result }
     {
         check_build(self, object, dup, &tuples)?;
         self.settle(object)?;
@@ -203,8 +203,8 @@ impl Session {
 
     /// Removes all entries of an object (`GrB_Matrix_clear`, `GrB_Vector_clear`). It takes no memory.
     pub fn clear(&mut self, object: Obj) -> Result<(), Status>
-        ensures performed { IsPerformed self.old self.new (Call.Clear object) result }
-        ensures decided { Decides (fault_in self.old (Call.Clear object)) result }
+        ensures performed { IsPerformed self.old self.new (Call.On object Act.Clear) result }
+        ensures decided { Decides (fault_in self.old (Call.On object Act.Clear)) result }
     {
         check_there(self, object)?;
         let Some(held) = self.table.find(object) else {
@@ -218,26 +218,28 @@ impl Session {
 
     /// Removes an entry, where there is one (`GrB_Matrix_removeElement`, `GrB_Vector_removeElement`).
     pub fn remove(&mut self, object: Obj, place: Place) -> Result<(), Status>
-        ensures { IsPerformed self.old self.new (Call.Remove object place) result }
+        ensures { IsPerformed self.old self.new (Call.On object (Act.Remove place)) result }
     {
         check_place(self, object, place)?;
-        self.table.remove_entry(self.alloc, object, place)?;
+        let removal = Edit::Remove(place.row(), place.col());
+        self.table.edit(self.alloc, object, removal)?;
         Ok(())
     }
 
     /// Sets an entry (`GrB_Matrix_setElement`, `GrB_Vector_setElement`).
     pub fn set(&mut self, object: Obj, place: Place, value: i128) -> Result<(), Status>
-        ensures { IsPerformed self.old self.new (Call.Set object place value) result }
+        ensures { IsPerformed self.old self.new (Call.On object (Act.Set place value)) result }
     {
-        check_set(self, object, place, value)?;
-        self.table.set(self.alloc, object, place, value)?;
+        let word = check_set(self, object, place, value)?;
+        let setting = Edit::Set(place.row(), place.col(), word);
+        self.table.edit(self.alloc, object, setting)?;
         Ok(())
     }
 
     /// The value of an entry (`GrB_Matrix_extractElement`, `GrB_Vector_extractElement`).
     pub fn get(&mut self, object: Obj, place: Place) -> Result<i128, Status>
-        ensures performed { IsPerformed self.old self.new (Call.Get object place) result }
-        ensures value { IfOk result (λ value. Answers (environment_of self.old) (Call.Get object place)
+        ensures performed { IsPerformed self.old self.new (Call.On object (Act.Get place)) result }
+        ensures value { IfOk result (λ value. Answers (environment_of self.old) (Call.On object (Act.Get place))
             (Reply.Value value)) }
     {
         check_place(self, object, place)?;
@@ -251,8 +253,8 @@ impl Session {
 
     /// The number of entries (`GrB_Matrix_nvals`, `GrB_Vector_nvals`).
     pub fn nvals(&mut self, object: Obj) -> Result<u64, Status>
-        ensures performed { IsPerformed self.old self.new (Call.Nvals object) result }
-        ensures number { IfOk result (λ number. Answers (environment_of self.old) (Call.Nvals object)
+        ensures performed { IsPerformed self.old self.new (Call.On object Act.Nvals) result }
+        ensures number { IfOk result (λ number. Answers (environment_of self.old) (Call.On object Act.Nvals)
             (Reply.Count number)) }
     {
         check_there(self, object)?;
@@ -264,8 +266,8 @@ impl Session {
     /// Whether there is an object whose text can be asked for; its domain, shape and store are `held`'s. It takes no
     /// memory.
     pub fn print(&self, object: Obj) -> Result<(), Status>
-        ensures performed { IsPerformed self.now self.now (Call.Print object) result }
-        ensures decided { Decides (fault_in self.now (Call.Print object)) result }
+        ensures performed { IsPerformed self.now self.now (Call.On object Act.Print) result }
+        ensures decided { Decides (fault_in self.now (Call.On object Act.Print)) result }
         ensures there { OnOk result (is_some ((environment_of self.now).find_object object) ≡ true) }
     {
         check_there(self, object)?;
@@ -274,8 +276,8 @@ impl Session {
 
     /// The sum of all values of an object by a monoid, the identity where it has none (`GrB_reduce`).
     pub fn reduce(&mut self, object: Obj, monoid: MonoidName) -> Result<i128, Status>
-        ensures performed { IsPerformed self.old self.new (Call.Reduce object monoid) result }
-        ensures value { IfOk result (λ value. Answers (environment_of self.old) (Call.Reduce object monoid)
+        ensures performed { IsPerformed self.old self.new (Call.On object (Act.Reduce monoid)) result }
+        ensures value { IfOk result (λ value. Answers (environment_of self.old) (Call.On object (Act.Reduce monoid))
             (Reply.Value value)) }
     {
         check_reduce(self, object, monoid)?;
@@ -328,7 +330,7 @@ impl Session {
         ensures there { MatchResult result
             (λ _. is_some ((environment_of self.old).find_object object) ≡ true)
             (λ status. (status ≡ Status.UninitializedObject) × ((environment_of self.old).find_object object ≡ None)) }
-        ensures performed { IsPerformed self.old self.new (Call.Free object) result }
+        ensures performed { IsPerformed self.old self.new (Call.On object Act.Free) result }
         ensures left { OnOk result (environment_of self.new
             ≡ without_object same_object (environment_of self.old) object) }
         ensures kept { OnErr result (environment_of self.new ≡ environment_of self.old) }

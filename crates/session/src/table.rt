@@ -1,15 +1,17 @@
 //! The table of objects by number.
 ghost use Rattle.std.specs.Prelude.{◌≡◌, ◌+◌, IfSome, MatchOption, None, OnErr, OnOk, Some, if◌then◌else◌};
 ghost use Rattle.std.specs.Prelude.{is_some, true};
-ghost use Rattle.algebra.specs.Value.{is_value_of};
 ghost use Rattle.calls.specs.declared.obj.Obj.{Obj as Object};
-ghost use Rattle.model.specs.Object.{IsObject, cols_of, is_inside, rows_of};
+ghost use Rattle.model.specs.Object.{IsObject, cols_of, rows_of};
 ghost use Rattle.model.specs.Run.{no_objects, object_at, with_content, with_object, without_object};
+ghost use Rattle.patch.specs.Edits.{IsInside};
+ghost use Rattle.session.specs.Waiting.{IsEditOf};
 ghost use Rattle.store.specs.Stored.{content_of};
 
 use crate::held::Held;
 use calls::Obj;
-use model::{NoMemory, Place, Shape};
+use model::{NoMemory, Shape};
+use patch::Edit;
 use std::alloc::Global;
 use std::collections::BTreeMap;
 use store::Store;
@@ -21,7 +23,7 @@ pub struct Table {
 }
 
 impl Table {
-    ghost use Rattle.session.specs.Objects.{object_of, stored_object, with_value, without_value};
+    ghost use Rattle.session.specs.Objects.{edited_object, object_of, stored_object};
     ghost use Rattle.session.specs.Tables.{IsSettled, environment_in, same_object};
 
     /// No objects. It takes no memory.
@@ -107,42 +109,18 @@ impl Table {
         }
     }
 
-    /// Sets a value at a place inside an object.
-    pub(crate) fn set(
-        &mut self,
-        alloc: Global,
-        object: Obj,
-        place: Place,
-        value: i128,
-    ) -> Result<(), NoMemory>
-        requires inside { is_inside place (object_at (environment_in self.old) object).shape ≡ true }
-        requires value { is_value_of (object_at (environment_in self.old) object).domain value ≡ true }
-        ensures set { OnOk result (environment_in self.new ≡ with_object same_object (environment_in self.old) object
-            (with_value (object_at (environment_in self.old) object) place value) (environment_in self.old).count) }
-        ensures refused { OnErr result (environment_in self.new ≡ environment_in self.old) }
-    {
-        match self.by_number.get_mut(&object.0) {
-            Some(held) => held.set(alloc, place, value),
-            None => unreachable!(),
-        }
-    }
-
-    /// Removes the entry at a place inside an object, where there is one.
-    pub(crate) fn remove_entry(
-        &mut self,
-        alloc: Global,
-        object: Obj,
-        place: Place,
-    ) -> Result<(), NoMemory>
+    /// Has an edit inside an object done.
+    pub(crate) fn edit(&mut self, alloc: Global, object: Obj, edit: Edit) -> Result<(), NoMemory>
         requires there { is_some ((environment_in self.old).find_object object) ≡ true }
-        requires inside { is_inside place (object_at (environment_in self.old) object).shape ≡ true }
-        ensures removed { OnOk result (environment_in self.new ≡ with_object same_object (environment_in self.old)
-            object (without_value (object_at (environment_in self.old) object) place)
-            (environment_in self.old).count) }
+        requires inside { IsInside (rows_of (object_at (environment_in self.old) object).shape)
+            (cols_of (object_at (environment_in self.old) object).shape) edit }
+        requires word { IsEditOf (object_at (environment_in self.old) object).domain edit }
+        ensures edited { OnOk result (environment_in self.new ≡ with_object same_object (environment_in self.old) object
+            (edited_object (object_at (environment_in self.old) object) edit) (environment_in self.old).count) }
         ensures refused { OnErr result (environment_in self.new ≡ environment_in self.old) }
     {
         match self.by_number.get_mut(&object.0) {
-            Some(held) => held.remove(alloc, place),
+            Some(held) => held.edit(alloc, edit),
             None => unreachable!(),
         }
     }

@@ -4,10 +4,10 @@ use Rattle.std.specs.Prelude.{nat_lt}
 use Rattle.std.specs.List.{filter_map}
 use Rattle.model.specs.declared.market.Misread.{Misread}
 use Rattle.model.specs.declared.market.Mistake.TheVariants as mistake
-use Rattle.model.specs.MatrixMarket.{entry_said, misread}
+use Rattle.model.specs.MatrixMarket.{misread}
 use Rattle.plain.specs.declared.lines.PlainLine.{PlainLine}
-use Rattle.plain.specs.Files.{lines_in}
-use Rattle.plain.proofs.FileLaws.{faults_of-announced, mistake_in}
+use Rattle.plain.specs.Files.{fault_in, lines_in}
+use Rattle.plain.proofs.FileLaws.{faults_of-announced}
 use Rattle.plain.proofs.listed.faults_of.Goals as goal
 
 pub returns : goal.returns
@@ -15,7 +15,7 @@ returns c =
     let lines = c.args.lines.now in
     let h = c.args.heading in
     let few : List Misread = cond (nat_lt (length lines) h.entries) (record { left = 0; mistake = mistake.TooFew } ∷ []) [] in
-    let wrong : List PlainLine → List Misread = λ lines. filter_map (λ line. mistake_in line (entry_said c.args.domain h line.words)) (lines_in lines) in
+    let wrong : List PlainLine → List Misread = λ lines. filter_map (fault_in c.args.domain h) (lines_in lines) in
     let many : List PlainLine → List Misread = λ lines. map (misread mistake.TooMany) (take 1 (lines_in lines)) in
     c.in_ok-push_too_few.ensures
     ∙ ap (λ faults. faults ++ few) c.in_ok-push_first.ensures

@@ -2,12 +2,12 @@
 use Rattle.std.specs.Borrow.{Bor}
 use Rattle.model.specs.Grammar.{Name}
 use Rattle.plain.specs.Environments.{environment_of}
-use Rattle.plain.proofs.FaultLaws.{accepted-build, accepted-operators}
+use Rattle.plain.proofs.FaultLaws.{accepted-act_operators, accepted-operators}
 use Rattle.plain.proofs.environment.PlainEnvironment.made_at.Goals as goal
 
-pub built_at-requires : goal.built_at-requires
-built_at-requires c =
-    accepted-build (environment_of c.args.self.now) c.in-Build.object.now c.in-Build.dup c.in-Build.tuples (rw c.in-Build.is at c.requires)
+pub word_left-requires : goal.word_left-requires
+word_left-requires c =
+    accepted-act_operators (environment_of c.args.self.now) c.in-On.object.now c.in-On.act (rw c.in-On.is at c.requires)
 
 pub result_at-requires : goal.result_at-requires
 result_at-requires c =

@@ -1,8 +1,9 @@
 -- The object is there, since the call was accepted, and an empty store takes the place of its own.
 use Rattle.std.proofs.Common.{◌≡◌, ◌<◌, None, arith, refl, rules}
+use Rattle.model.specs.declared.call.Act.TheVariants.{Clear}
 use Rattle.session.specs.Performed.{count_in, environment_of}
 use Rattle.session.proofs.PerformedLaws.{performed-clear}
-use Rattle.session.proofs.SessionLaws.{below-put, clear-accepted, decides_by, no_late}
+use Rattle.session.proofs.SessionLaws.{below-put, clear-accepted, decides_by, no_late_act}
 use Rattle.session.proofs.sessions.Session.clear.Goals as goal
 
 pub unreachable-requires : goal.unreachable-requires
@@ -22,7 +23,7 @@ pub returns-clause-performed : goal.returns-clause-performed
 returns-clause-performed c = performed-clear c.args.self.now _ c.args.object _ _ c.in_ok-check_there.ensures.clear c.replace.ensures c.new-store.ensures.content refl
 
 pub returns-clause-decided : goal.returns-clause-decided
-returns-clause-decided c = no_late _ c.in_ok-check_there.ensures.clear
+returns-clause-decided c = no_late_act _ _ Clear (λ x. refl) c.in_ok-check_there.ensures.clear
 
 pub returns-in_err-check_there-clause-decided : goal.returns-in_err-check_there-clause-decided
-returns-in_err-check_there-clause-decided c = decides_by _ c.from_residual.result c.in_err-check_there.field-0.0 (search rules) c.in_err-check_there.ensures.clear
+returns-in_err-check_there-clause-decided c = decides_by _ _ c.from_residual.result c.in_err-check_there.field-0.0 (search rules) c.in_err-check_there.ensures.clear

@@ -1,7 +1,8 @@
 -- The object is there, and there is a number after the next one.
-use Rattle.std.proofs.Common.{◌≡◌, ◌∙◌, ◌+◌, ◌==◌, ◌^◌, ◌-◌, ℕ, Some, ap, is_some, sym}
-use Rattle.model.specs.Fault.{found_object}
-use Rattle.model.specs.Run.{with_object}
+use Rattle.std.proofs.Common.{◌≡◌, ◌∙◌, ◌+◌, ◌==◌, ◌^◌, ◌-◌, ℕ, Option, Some, ap, is_some, sym}
+use Rattle.std.specs.Option.{unwrap_or}
+use Rattle.model.specs.Object.{Object}
+use Rattle.model.specs.Run.{no_object, with_object}
 use Rattle.session.specs.Objects.{object_of}
 use Rattle.session.specs.Performed.{made_in, next_object}
 use Rattle.session.specs.Tables.{same_object}
@@ -34,7 +35,7 @@ returns-clause-performed c =
     ≡ with_object same_object (environment_of session) (next_object session) (object_of c.in_ok-copy.copy) ((environment_of session).count + 1) =
     λ t. let next : Obj = record { 0 = made t } in with_object same_object (kept t) next (object_of c.in_ok-copy.copy) ((kept t).count + 1) in
     performed-dup session _ c.args.object _ _ c.in_ok-check_dup.ensures (c.in_ok-object.ensures.put ∙ put)
-    (c.in_ok-copy.ensures ∙ ap found_object (sym found)) (c.in_ok-object.ensures.made ∙ ap (λ (n : ℕ). n + 1) made)
+    (c.in_ok-copy.ensures ∙ ap (λ (o : Option Object). unwrap_or o no_object) (sym found)) (c.in_ok-object.ensures.made ∙ ap (λ (n : ℕ). n + 1) made)
 
 pub returns-in_err-check_dup-clause-unused : goal.returns-in_err-check_dup-clause-unused
 returns-in_err-check_dup-clause-unused c = not_there (environment_of c.args.self.now) (next_object c.args.self.now) c.args.self.now.fresh

@@ -1,16 +1,16 @@
 -- The object and the monoid are there, since the call was accepted.
 use Rattle.std.proofs.Common.{◌≡◌, ◌∙◌, FitsSigned, Some, is_some, ap, rules, sym}
 use Rattle.std.specs.Int.{w128}
+use Rattle.std.specs.Option.{unwrap_or}
 use Rattle.std.proofs.lemmas.Bool.{true≢false}
 use Rattle.std.proofs.lemmas.Int.{to_z-of_z}
 use Rattle.algebra.specs.declared.operator_names.MonoidName.{MonoidName}
 use Rattle.algebra.specs.OperatorNames.{monoid_named}
 use Rattle.algebra.specs.Value.{value_of}
-use Rattle.model.specs.Fault.{found_object}
 use Rattle.model.specs.Object.{Object}
 use Rattle.model.specs.Reductions.{sum_in}
 use Rattle.calls.specs.declared.obj.Obj.{Obj}
-use Rattle.model.specs.Run.{Environment}
+use Rattle.model.specs.Run.{Environment, no_object}
 use Rattle.session.specs.Objects.{stored_object}
 use Rattle.session.specs.Performed.{count_in, environment_of}
 use Rattle.session.proofs.PerformedLaws.{performed-reduce}
@@ -46,7 +46,7 @@ returns-clause-value c =
     to_z-of_z w128 c.value_of.result fits ∙ c.value_of.ensures
     ∙ ap (value_of monoid.op.domain) (c.reduce_all-sum.ensures ∙ sum)
     ∙ ap (λ (name : MonoidName). value_of name.domain (sum_in name o)) named
-    ∙ ap (λ f. value_of c.args.monoid.domain (sum_in c.args.monoid (found_object f))) (sym found)
+    ∙ ap (λ f. value_of c.args.monoid.domain (sum_in c.args.monoid (unwrap_or f no_object))) (sym found)
 
 pub returns-clause-performed : goal.returns-clause-performed
 returns-clause-performed c = performed-reduce c.args.self.now c.settle.new.self c.args.object c.args.monoid _ c.in_ok-check_reduce.ensures c.settle.ensures.kept c.settle.ensures.made
