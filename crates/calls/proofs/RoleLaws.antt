@@ -1,151 +1,130 @@
--- Roles, and the objects that take them.
-use Rattle.std.proofs.Common.{◌≡◌, ◌∙◌, ℕ, refl, sym, ap, Option, Some, None, Result, Ok, Err, MatchResult}
-use Rattle.std.specs.Prelude.{IfOk}
-use Rattle.std.specs.Option.{option_map, unwrap_or}
-use Rattle.calls.specs.declared.recipe.Recipe.{Recipe}
+-- What an accepted operation means of its objects' maps is what the operation leaves.
+use Rattle.std.proofs.Common.{◌≡◌, ◌∙◌, ◌||◌, ℕ, Bool, true, false, if◌then◌else◌, is_some, Option, Some, None, refl, sym, ap, inl, inr}
+use Rattle.std.specs.Option.{option_map, option_map_or}
+use Rattle.std.proofs.lemmas.Bool.{cases_Bool}
 use Rattle.calls.specs.declared.role.Role.{Role}
 use Rattle.calls.specs.declared.role.Role.TheVariants.{Old, Mask, First, Second}
-use Rattle.calls.specs.Recipes.{IsRecipeOf, meaning}
-use Rattle.calls.specs.Roles.{operation_by_role, out_by_role, role_of, roles_of}
-use Rattle.calls.specs.Steps.{called}
+use Rattle.calls.specs.declared.recipe.Accepted.{Accepted}
+use Rattle.calls.specs.Recipes.{IsAcceptedOf, known_by_role, maps_of, meaning, object_with, operation_with, out_with}
+use Rattle.calls.specs.Roles.{role_of, roles_of}
+use Rattle.model.specs.declared.call.OneInput.TheVariants.{Apply, Select, ReduceRows, Transpose, Extract, Assign}
 use Rattle.model.specs.declared.call.Operation.{Operation}
 use Rattle.model.specs.declared.call.Operation.TheVariants.{Fill, OfOne, OfTwo}
 use Rattle.model.specs.declared.call.Out.{Out}
 use Rattle.model.specs.declared.shape.Signature.{Signature}
-use Rattle.model.specs.declared.status.Status.{Status}
-use Rattle.model.specs.Object.{Object}
-use Rattle.model.specs.Renamed.{found_operation, found_out, renamed_operation, renamed_out}
-use Rattle.model.proofs.RenamedLaws.{some_operation, some_out}
-use Rattle.model.specs.WriteBack.{result_of}
+use Rattle.model.specs.Object.{Content, Object, no_content, signature_of}
+use Rattle.model.specs.Renamed.{out_over, renamed_operation, renamed_out}
+use Rattle.model.specs.WriteBack.{reads_old, result_of, writes_region}
+use Rattle.model.proofs.OldLaws.{old-unread, with_old}
+use Rattle.model.proofs.RenamedLaws.{Agrees, operation_at, out_at, some_operation, some_out}
 
--- the objects that take the roles of an output are its own
-mask_by_role : {K : Type 0} (c : K) (mask : Option K) → option_map (λ role. unwrap_or mask c)
-    (option_map (λ m. Mask) mask) ≡ mask
-mask_by_role c None = refl
-mask_by_role c (Some m) = refl
+-- ---- what is read doesn't depend on how objects are named
 
-pub out_taken : {K : Type 0} (out : Out K) (operation : Operation K)
-    → renamed_out (role_of (roles_of out operation)) (out_by_role out) ≡ out
-out_taken {K = K} out (Fill value region) =
-    elim out.mask as (λ (mask : Option K). let o : Out K = record out { mask = mask } in renamed_out (role_of (roles_of o (Fill value region))) (out_by_role o) ≡ o)
-    [ None ↦ refl | Some m ↦ refl ]
-out_taken {K = K} out (OfOne computes a) =
-    elim out.mask as (λ (mask : Option K). let o : Out K = record out { mask = mask } in renamed_out (role_of (roles_of o (OfOne computes a))) (out_by_role o) ≡ o)
-    [ None ↦ refl | Some m ↦ refl ]
-out_taken {K = K} out (OfTwo computes a b) =
-    elim out.mask as (λ (mask : Option K). let o : Out K = record out { mask = mask } in renamed_out (role_of (roles_of o (OfTwo computes a b))) (out_by_role o) ≡ o)
-    [ None ↦ refl | Some m ↦ refl ]
+some_renamed : {K L : Type 0} (f : K → L) (mask : Option K) → is_some (option_map f mask) ≡ is_some mask
+some_renamed f None = refl
+some_renamed f (Some mask) = refl
 
-pub operation_taken : {K : Type 0} (out : Out K) (operation : Operation K)
-    → renamed_operation (role_of (roles_of out operation)) (operation_by_role operation) ≡ operation
-operation_taken out (Fill value region) = refl
-operation_taken out (OfOne computes a) = refl
-operation_taken out (OfTwo computes a b) = refl
+region_renamed : {K L : Type 0} (f : K → L) (operation : Operation K)
+    → writes_region (renamed_operation f operation) ≡ writes_region operation
+region_renamed f (Fill value region) = refl
+region_renamed f (OfOne (Apply function) a) = refl
+region_renamed f (OfOne (Select index scalar) a) = refl
+region_renamed f (OfOne (ReduceRows monoid) a) = refl
+region_renamed f (OfOne Transpose a) = refl
+region_renamed f (OfOne (Extract region) a) = refl
+region_renamed f (OfOne (Assign region) a) = refl
+region_renamed f (OfTwo computes a b) = refl
 
--- what is known of the object of a role, along a way from one kind of name to another
-taken_mask : {K L : Type 0} (f : K → L) (c : K) (mask : Option K)
-    → unwrap_or (option_map f mask) (f c) ≡ f (unwrap_or mask c)
-taken_mask f c None = refl
-taken_mask f c (Some m) = refl
+reads_renamed : {K L : Type 0} (f : K → L) (out : Out K) (operation : Operation K)
+    → reads_old (renamed_out f out) (renamed_operation f operation) ≡ reads_old out operation
+reads_renamed f out operation = λ t.
+    some_renamed f out.mask t || out.desc.complement || is_some out.accum || region_renamed f operation t
 
-role_renamed : {K L : Type 0} (f : K → L) (out : Out K) (operation : Operation K) (role : Role)
-    → role_of (roles_of (renamed_out f out) (renamed_operation f operation)) role ≡ f (role_of (roles_of out operation) role)
-role_renamed f out (Fill value region) Old = refl
-role_renamed f out (Fill value region) Mask = taken_mask f out.c out.mask
-role_renamed f out (Fill value region) First = refl
-role_renamed f out (Fill value region) Second = refl
-role_renamed f out (OfOne computes a) Old = refl
-role_renamed f out (OfOne computes a) Mask = taken_mask f out.c out.mask
-role_renamed f out (OfOne computes a) First = refl
-role_renamed f out (OfOne computes a) Second = refl
-role_renamed f out (OfTwo computes a b) Old = refl
-role_renamed f out (OfTwo computes a b) Mask = taken_mask f out.c out.mask
-role_renamed f out (OfTwo computes a b) First = refl
-role_renamed f out (OfTwo computes a b) Second = refl
+some_if : {K L : Type 0} (f : K → L) (test : Bool) (k : K)
+    → (if test then Some (f k) else None) ≡ option_map f (if test then Some k else None)
+some_if f true k = refl
+some_if f false k = refl
 
-pub role_known : {K L : Type 0} (known : K → Option L) (out : Out K) (operation : Operation K) (known_out : Out L)
-    (known_operation : Operation L)
-    → renamed_out Some known_out ≡ renamed_out known out
-    → renamed_operation Some known_operation ≡ renamed_operation known operation
-    → (role : Role)
-    → known (role_of (roles_of out operation) role) ≡ Some (role_of (roles_of known_out known_operation) role)
-role_known {L = L} known out operation known_out known_operation same_out same_operation role =
-    sym (role_renamed known out operation role)
-    ∙ sym (ap (λ (o : Out (Option L)). role_of (roles_of o (renamed_operation known operation)) role) same_out)
-    ∙ sym (ap (λ (o : Operation (Option L)). role_of (roles_of (renamed_out Some known_out) o) role) same_operation)
-    ∙ role_renamed Some known_out known_operation role
+-- the objects that have roles, along a way from one kind of name to another
+pub role-renamed : {K L : Type 0} (f : K → L) (out : Out K) (operation : Operation K) (role : Role)
+    → role_of (roles_of (renamed_out f out) (renamed_operation f operation)) role
+    ≡ option_map f (role_of (roles_of out operation) role)
+role-renamed f out operation Old =
+    ap (λ (test : Bool). if test then Some (f out.c) else None) (reads_renamed f out operation)
+    ∙ some_if f (reads_old out operation) out.c
+role-renamed f out operation Mask = refl
+role-renamed f out (Fill value region) First = refl
+role-renamed f out (OfOne computes a) First = refl
+role-renamed f out (OfTwo computes a b) First = refl
+role-renamed f out (Fill value region) Second = refl
+role-renamed f out (OfOne computes a) Second = refl
+role-renamed f out (OfTwo computes a b) Second = refl
 
--- ---- recipes
+-- ---- what is left
 
-mask_roles : {K L : Type 0} (f : K → L) (mask : Option K)
-    → option_map (λ m. Mask) (option_map f mask) ≡ option_map (λ m. Mask) mask
-mask_roles f None = refl
-mask_roles f (Some m) = refl
+module _ {K : Type 0} (object : K → Object) where
+  operation_own : (out : Out K) (operation : Operation K)
+      → operation_with (renamed_operation (λ k. signature_of (object k)) operation) (maps_of object out operation)
+      ≡ renamed_operation object operation
+  operation_own out (Fill value region) = refl
+  operation_own out (OfOne computes a) = refl
+  operation_own out (OfTwo computes a b) = refl
 
-out_by_role-renamed : {K L : Type 0} (f : K → L) (out : Out K) → out_by_role (renamed_out f out) ≡ out_by_role out
-out_by_role-renamed f out = ap (λ (mask : Option Role). let o : Out Role = record { c = Old; mask = mask; accum = out.accum; desc = out.desc } in o) (mask_roles f out.mask)
+  mask_own : (mask : Option K)
+      → option_map (λ known. object_with known (option_map_or (λ k. (object k).content) mask no_content))
+      (option_map (λ k. signature_of (object k)) mask) ≡ option_map object mask
+  mask_own None = refl
+  mask_own (Some mask) = refl
 
-operation_by_role-renamed : {K L : Type 0} (f : K → L) (operation : Operation K)
-    → operation_by_role (renamed_operation f operation) ≡ operation_by_role operation
-operation_by_role-renamed f (Fill value region) = refl
-operation_by_role-renamed f (OfOne computes a) = refl
-operation_by_role-renamed f (OfTwo computes a b) = refl
+  -- the output, with what it has where that is read
+  out_own : (out : Out K) (operation : Operation K) (old : Content) → maps_of object out operation Old ≡ old
+      → out_with (renamed_out (λ k. signature_of (object k)) out) (maps_of object out operation)
+      ≡ with_old (renamed_out object out) old
+  out_own out operation old is = λ t.
+      out_over (renamed_out object out) (object_with (signature_of (object out.c)) (is t)) (mask_own out.mask t)
 
--- the recipe of what is known of an operation's objects is the operation's
-pub recipe_along : {K : Type 0} (known : K → Option Signature) (out : Out K) (operation : Operation K)
-    (known_out : Out Signature) (known_operation : Operation Signature) (recipe : Recipe)
-    → renamed_out Some known_out ≡ renamed_out known out
-    → renamed_operation Some known_operation ≡ renamed_operation known operation
-    → IsRecipeOf Some known_out known_operation recipe → IsRecipeOf known out operation recipe
-recipe_along known out operation known_out known_operation recipe same_out same_operation is = record {
-  out_is = is.out_is ∙ sym (out_by_role-renamed Some known_out) ∙ ap (λ (o : Out (Option Signature)). out_by_role o) same_out ∙ out_by_role-renamed known out;
-  step_is = is.step_is ∙ sym (operation_by_role-renamed Some known_operation) ∙ ap (λ (o : Operation (Option Signature)). operation_by_role o) same_operation ∙ operation_by_role-renamed known operation;
-  signatures = λ role. role_known known out operation known_out known_operation same_out same_operation role ∙ is.signatures role;
-}
+  -- maps of objects that are all there
+  pub meaning-own : (out : Out K) (operation : Operation K) (i j : ℕ)
+      → meaning (renamed_out (λ k. signature_of (object k)) out)
+      (renamed_operation (λ k. signature_of (object k)) operation) (maps_of object out operation) i j
+      ≡ result_of (renamed_out object out) (renamed_operation object operation) i j
+  meaning-own out operation i j =
+      let left : (old : Content) → maps_of object out operation Old ≡ old
+      → meaning (renamed_out (λ k. signature_of (object k)) out) (renamed_operation (λ k. signature_of (object k)) operation)
+      (maps_of object out operation) i j
+      ≡ result_of (with_old (renamed_out object out) old) (renamed_operation object operation) i j =
+      λ old is t. result_of (out_own out operation old is t) (operation_own out operation t) i j in
+      elim (cases_Bool (reads_old out operation)) [
+        | inl read ↦ left (object out.c).content (rw read refl)
+        | inr unread ↦ left no_content (rw unread refl)
+            ∙ old-unread (renamed_out object out) (renamed_operation object operation) no_content (reads_renamed object out operation ∙ unread) i j
+      ]
 
--- ..also where there is a recipe only if there is no fault
-pub if_recipe : {K : Type 0} (result : Result Recipe Status) (fault : Option Status) (known : K → Option Signature)
-    (out : Out K) (operation : Operation K) (known_out : Out Signature) (known_operation : Operation Signature)
-    → Some known_out ≡ found_out (renamed_out known out)
-    → Some known_operation ≡ found_operation (renamed_operation known operation)
-    → MatchResult result (λ recipe. (fault ≡ None) × IsRecipeOf Some known_out known_operation recipe)
-    (λ status. fault ≡ Some status)
-    → IfOk result (IsRecipeOf known out operation)
-if_recipe (Ok recipe) fault known out operation known_out known_operation same_out same_operation is =
-    recipe_along known out operation known_out known_operation recipe (some_out (renamed_out known out) known_out same_out)
-    (some_operation (renamed_operation known operation) known_operation same_operation) is.1
-if_recipe (Err status) fault known out operation known_out known_operation same_out same_operation is = tt
+-- ---- accepted operations
 
--- ---- what recipes mean
+module _ {K : Type 0} (known : K → Option Signature) (out : Out K) (operation : Operation K) (accepted : Accepted)
+    (is : IsAcceptedOf known out operation accepted) where
+  -- what is known of the object of a role is what an accepted operation says of the role
+  pub roles-known : (role : Role) → option_map Some (known_by_role accepted.out accepted.operation role)
+      ≡ option_map known (role_of (roles_of out operation) role)
+  roles-known role =
+      let first = some_out (renamed_out known out) accepted.out (sym is.out_is) in
+      let second = some_operation (renamed_operation known operation) accepted.operation (sym is.operation_is) in
+      sym (role-renamed Some accepted.out accepted.operation role)
+      ∙ (λ t. role_of (roles_of (first t) (second t)) role)
+      ∙ role-renamed known out operation role
 
-out_along : {K M : Type 0} (g : K → M) (out : Out K) (operation : Operation K)
-    → renamed_out (λ role. g (role_of (roles_of out operation) role)) (out_by_role out) ≡ renamed_out g out
-out_along {K = K} g out (Fill value region) =
-    elim out.mask as (λ (mask : Option K). let o : Out K = record out { mask = mask } in renamed_out (λ role. g (role_of (roles_of o (Fill value region)) role)) (out_by_role o) ≡ renamed_out g o)
-    [ None ↦ refl | Some m ↦ refl ]
-out_along {K = K} g out (OfOne computes a) =
-    elim out.mask as (λ (mask : Option K). let o : Out K = record out { mask = mask } in renamed_out (λ role. g (role_of (roles_of o (OfOne computes a)) role)) (out_by_role o) ≡ renamed_out g o)
-    [ None ↦ refl | Some m ↦ refl ]
-out_along {K = K} g out (OfTwo computes a b) =
-    elim out.mask as (λ (mask : Option K). let o : Out K = record out { mask = mask } in renamed_out (λ role. g (role_of (roles_of o (OfTwo computes a b)) role)) (out_by_role o) ≡ renamed_out g o)
-    [ None ↦ refl | Some m ↦ refl ]
+  -- what it means of the maps of its objects is what the operation leaves
+  pub meaning-accepted : (object : K → Object) → Agrees known (λ k. signature_of (object k)) → (i j : ℕ)
+      → meaning accepted.out accepted.operation (maps_of object out operation) i j
+      ≡ result_of (renamed_out object out) (renamed_operation object operation) i j
+  meaning-accepted object agrees i j =
+      let at : K → Signature = λ k. signature_of (object k) in
+      let first = out_at known at agrees out accepted.out is.out_is in
+      let second = operation_at known at agrees operation accepted.operation is.operation_is in
+      (λ t. meaning (first t) (second t) (maps_of object out operation) i j) ∙ meaning-own object out operation i j
 
-operation_along : {K M : Type 0} (g : K → M) (out : Out K) (operation : Operation K)
-    → renamed_operation (λ role. g (role_of (roles_of out operation) role))
-    (operation_by_role operation) ≡ renamed_operation g operation
-operation_along g out (Fill value region) = refl
-operation_along g out (OfOne computes a) = refl
-operation_along g out (OfTwo computes a b) = refl
-
--- a recipe means of an operation's objects what the operation leaves
-pub meaning_along : {K : Type 0} (known : K → Option Signature) (out : Out K) (operation : Operation K)
-    (recipe : Recipe) (taken : Role → Object) (object : K → Object)
-    → IsRecipeOf known out operation recipe
-    → ((role : Role) → taken role ≡ object (role_of (roles_of out operation) role))
-    → (i j : ℕ) → meaning recipe taken i j ≡ result_of (renamed_out object out) (renamed_operation object operation) i j
-meaning_along known out operation recipe taken object is same i j =
-    ap (λ (o : Out Role). result_of (renamed_out taken o) (renamed_operation taken (called recipe.step)) i j) is.out_is
-    ∙ ap (λ (o : Operation Role). result_of (renamed_out taken (out_by_role out)) (renamed_operation taken o) i j) is.step_is
-    ∙ (λ t. result_of (renamed_out (λ role. same role t) (out_by_role out)) (renamed_operation (λ role. same role t) (operation_by_role operation)) i j)
-    ∙ ap (λ (o : Out Object). result_of o (renamed_operation (λ role. object (role_of (roles_of out operation) role)) (operation_by_role operation)) i j) (out_along object out operation)
-    ∙ ap (λ (o : Operation Object). result_of (renamed_out object out) o i j) (operation_along object out operation)
+  pub output-accepted : (object : K → Object) → Agrees known (λ k. signature_of (object k))
+      → accepted.out.c ≡ signature_of (object out.c)
+  output-accepted object agrees =
+      ap (λ (o : Out Signature). o.c) (out_at known (λ k. signature_of (object k)) agrees out accepted.out is.out_is)

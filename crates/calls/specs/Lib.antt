@@ -1,4 +1,5 @@
 pub mod Checks
 pub mod Recipes
 pub mod Roles
-pub mod Steps
+pub mod Straight
+pub mod Turned

@@ -2,46 +2,32 @@
 ghost use Rattle.std.specs.Prelude.{◌≡◌, IfOk, None, Some, false, if◌then◌else◌, nat_le};
 ghost use Rattle.std.specs.Option.{option_map};
 ghost use Rattle.algebra.specs.Value.{word_of};
-ghost use Rattle.calls.specs.Checks.{Decides, IsFoundOf, known_call};
-ghost use Rattle.calls.specs.Recipes.{IsRecipeOf};
+ghost use Rattle.calls.specs.Checks.{Decides, known_call};
 ghost use Rattle.model.specs.Fault.{early_fault};
 ghost use Rattle.model.specs.Renamed.{renamed_operation, renamed_out};
 
 use crate::obj::{Obj, Shapes, Signatures};
-use crate::operation::recipe_of;
-use crate::recipe::Recipe;
+use crate::operation::check_operation;
 use algebra::{Domain, MonoidName, OpName, compatible};
 use model::{
     Act, Call, Lookup, MOST_OBJECTS, Operation, Out, Place, Shape, Signature, Status, TupleList,
     accumulator_serves,
 };
 
-/// What was found of an accepted call.
-#[derive(Clone, Copy)]
-pub enum Checked<'a> {
-    /// Nothing, since it computes no operation.
-    Plain,
-    Operation(Recipe<'a>),
-}
-
 /// Checks a call by what is known of its objects, without their values. It takes no memory, and its
 /// time is that of some looks at what is known.
 ///
 /// An error is the first fault of the call in the order of the checks, but for those that depend on
 /// values.
-pub fn check<'a, N, S: Shapes>(call: &'a Call<Obj, N>, shapes: &S) -> Result<Checked<'a>, Status>
-    ensures fault { Decides (early_fault (S.count shapes.now) (known_call (S.known shapes.now) call.now)) result }
-    ensures found { IfOk result (IsFoundOf (S.known shapes.now) call.now) }
+pub fn check<N, S: Shapes>(call: &Call<Obj, N>, shapes: &S) -> Result<(), Status>
+    ensures { Decides (early_fault (S.count shapes.now) (known_call (S.known shapes.now) call.now)) result }
 {
     match call {
-        Call::Create { domain, shape, .. } => check_create(shapes, *domain, *shape)?,
-        Call::Dup { object, .. } => check_dup(shapes, *object)?,
-        Call::On { object, act } => check_act(shapes, *object, act)?,
-        Call::Operate { out, operation } => {
-            return Ok(Checked::Operation(check_operate(shapes, out, operation)?));
-        }
+        Call::Create { domain, shape, .. } => check_create(shapes, *domain, *shape),
+        Call::Dup { object, .. } => check_dup(shapes, *object),
+        Call::On { object, act } => check_act(shapes, *object, act),
+        Call::Operate { out, operation } => check_known(shapes, out, operation),
     }
-    Ok(Checked::Plain)
 }
 
 /// The checks of what is done to one object, but for those that depend on its entries.
@@ -122,8 +108,8 @@ pub fn check_build<S: Shapes>(
     dup: Option<OpName>,
     tuples: &TupleList,
 ) -> Result<(), Status>
-    ensures { Decides (early_fault (S.count shapes.now) (Call.On (S.known shapes.now object) (Act.Build dup tuples.now)))
-        result }
+    ensures { Decides (early_fault (S.count shapes.now)
+        (Call.On (S.known shapes.now object) (Act.Build dup tuples.now))) result }
 {
     let Some(Signature { shape, domain }) = Signatures(shapes).find(object) else {
         return Err(Status::UninitializedObject);
@@ -171,8 +157,10 @@ pub fn check_set<S: Shapes>(
 /// The checks of a place, at which an entry is removed or asked for, but for that of the entry.
 #[tactic(auto, unfolding(model::specs::Fault::early_fault))]
 pub fn check_place<S: Shapes>(shapes: &S, object: Obj, place: Place) -> Result<(), Status>
-    ensures remove { Decides (early_fault (S.count shapes.now) (Call.On (S.known shapes.now object) (Act.Remove place))) result }
-    ensures get { Decides (early_fault (S.count shapes.now) (Call.On (S.known shapes.now object) (Act.Get place))) result }
+    ensures remove { Decides (early_fault (S.count shapes.now)
+        (Call.On (S.known shapes.now object) (Act.Remove place))) result }
+    ensures get { Decides (early_fault (S.count shapes.now)
+        (Call.On (S.known shapes.now object) (Act.Get place))) result }
 {
     let Some(Signature { shape, .. }) = Signatures(shapes).find(object) else {
         return Err(Status::UninitializedObject);
@@ -203,7 +191,8 @@ pub fn check_there<S: Shapes>(shapes: &S, object: Obj) -> Result<(), Status>
 /// The checks of the sum of all values (`GrB_reduce`).
 #[tactic(auto, unfolding(model::specs::Fault::early_fault))]
 pub fn check_reduce<S: Shapes>(shapes: &S, object: Obj, monoid: MonoidName) -> Result<(), Status>
-    ensures { Decides (early_fault (S.count shapes.now) (Call.On (S.known shapes.now object) (Act.Reduce monoid))) result }
+    ensures { Decides (early_fault (S.count shapes.now)
+        (Call.On (S.known shapes.now object) (Act.Reduce monoid))) result }
 {
     let Some(Signature { domain, .. }) = Signatures(shapes).find(object) else {
         return Err(Status::UninitializedObject);
@@ -217,17 +206,16 @@ pub fn check_reduce<S: Shapes>(shapes: &S, object: Obj, monoid: MonoidName) -> R
     Ok(())
 }
 
-/// The recipe of an operation on objects by number.
+/// The checks of an operation on objects by number.
 #[tactic(auto, using(crate::proofs::Founds::founds))]
-fn check_operate<'a, S: Shapes>(
+fn check_known<S: Shapes>(
     shapes: &S,
     out: &Out<Obj>,
-    operation: &'a Operation<Obj>,
-) -> Result<Recipe<'a>, Status>
-    ensures fault { Decides (early_fault (S.count shapes.now)
+    operation: &Operation<Obj>,
+) -> Result<(), Status>
+    ensures { Decides (early_fault (S.count shapes.now)
         (Call.Operate (renamed_out (S.known shapes.now) out.now)
         (renamed_operation (S.known shapes.now) operation.now))) result }
-    ensures found { IfOk result (IsRecipeOf (S.known shapes.now) out.now operation.now) }
 {
     let signatures = Signatures(shapes);
     let Some(known_out) = out.found(&signatures) else {
@@ -236,5 +224,5 @@ fn check_operate<'a, S: Shapes>(
     let Some(known) = operation.lent(&signatures) else {
         return Err(Status::UninitializedObject);
     };
-    recipe_of(&known_out, known)
+    check_operation(&known_out, known)
 }

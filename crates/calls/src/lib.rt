@@ -6,10 +6,10 @@ mod obj;
 mod operation;
 mod recipe;
 mod role;
-mod step;
+mod turns;
 
 pub use checking::{
-    Checked, check, check_build, check_create, check_dup, check_place, check_reduce, check_resize,
+    check, check_build, check_create, check_dup, check_place, check_reduce, check_resize,
     check_set, check_there,
 };
 pub use model::{
@@ -17,6 +17,7 @@ pub use model::{
     Signature, Tuple, TupleList, TwoInputs,
 };
 pub use obj::{Obj, Shapes};
-pub use recipe::Recipe;
+pub use operation::check_operate;
+pub use recipe::{Accepted, Recipe};
 pub use role::{Role, Roles, by_role};
-pub use step::Step;
+pub use turns::Turns;

@@ -1,34 +1,59 @@
 //! The checks of operations.
-ghost use Rattle.std.specs.Prelude.{◌≡◌, MatchOption, MatchResult, None, Some, false, true};
+ghost use Rattle.std.specs.Prelude.{◌≡◌, None, Some, IfOk};
+ghost use Rattle.calls.specs.Checks.{Decides};
+ghost use Rattle.calls.specs.Recipes.{IsAcceptedOf};
+ghost use Rattle.model.specs.declared.call.Call.TheVariants.{Operate};
+ghost use Rattle.model.specs.Fault.{early_fault, is_implemented, operation_fault};
 ghost use Rattle.model.specs.Lent.{operation_lent};
-ghost use Rattle.calls.specs.Recipes.{IsRecipeOf};
-ghost use Rattle.calls.specs.Roles.{operation_by_role};
-ghost use Rattle.calls.specs.Steps.{called};
-ghost use Rattle.model.specs.Fault.{is_implemented, operation_fault};
+ghost use Rattle.model.specs.Renamed.{renamed_operation, renamed_out};
 
-use crate::recipe::Recipe;
-use crate::role::{known_by_role, out_by_role};
-use crate::step::{Step, resolved};
+use crate::obj::{Obj, Shapes, Signatures};
+use crate::recipe::Accepted;
 use algebra::compatible;
-use model::{Lent, MOST_FILLED, Out, Signature, Status};
+use model::{Lent, MOST_FILLED, Operation, Out, Signature, Status};
 
-/// An operation by roles, with its operators; its fault, if it has one.
+/// The checks of an operation on objects by number, and the operation on what is known of these. Its time is that of a
+/// look at each object and at each index; it takes no memory.
+///
+/// An error is the first fault in the order of the checks.
+#[tactic(auto, using(crate::proofs::Founds::founds))]
+pub fn check_operate<S: Shapes>(
+    shapes: &S,
+    out: &Out<Obj>,
+    operation: Operation<Obj>,
+) -> Result<Accepted, Status>
+    ensures fault { Decides (early_fault (S.count shapes.now)
+        (Operate (renamed_out (S.known shapes.now) out.now)
+        (renamed_operation (S.known shapes.now) operation))) result }
+    ensures found { IfOk result (IsAcceptedOf (S.known shapes.now) out.now operation) }
+{
+    let signatures = Signatures(shapes);
+    let Some(out) = out.found(&signatures) else {
+        return Err(Status::UninitializedObject);
+    };
+    let Some(operation) = operation.found(&signatures) else {
+        return Err(Status::UninitializedObject);
+    };
+    check_operation(&out, operation.as_lent())?;
+    Ok(Accepted { out, operation })
+}
+
+/// The checks of an operation on what is known of its objects.
 #[tactic(auto, unfolding(model::specs::Fault::operation_fault))]
-pub(crate) fn check_operation<'a>(
+pub(crate) fn check_operation(
     out: &Out<Signature>,
-    operation: Lent<'a, Signature>,
-) -> Result<Step<'a>, Status>
-    ensures { MatchResult result
-        (λ step. (operation_fault out.now (operation_lent operation.entry) ≡ None)
-        × (called step ≡ operation_by_role (operation_lent operation.entry)))
-        (λ status. operation_fault out.now (operation_lent operation.entry) ≡ Some status) }
+    operation: Lent<'_, Signature>,
+) -> Result<(), Status>
+    ensures { Decides (operation_fault out.now (operation_lent operation.entry)) result }
 {
     let c = out.c;
     let plan = operation.plan(c, out.desc);
     if !plan.kinds || !plan.shape.is_like(c.shape) || !out.mask_is_of_kind() {
         return Err(Status::WrongKind);
     }
-    let step = implemented(out, operation).ok_or(Status::NotImplemented)?;
+    if !is_implemented(out, operation) {
+        return Err(Status::NotImplemented);
+    }
     if !out.mask_serves() || !plan.compatible || !compatible(plan.domain, c.domain) {
         return Err(Status::DomainMismatch);
     }
@@ -41,37 +66,14 @@ pub(crate) fn check_operation<'a>(
     if !plan.values {
         return Err(Status::InvalidValue);
     }
-    Ok(step)
+    Ok(())
 }
 
-/// An operation by roles, where its operators and its accumulator are offered, and it fills no more
-/// positions than may be.
-fn implemented<'a>(out: &Out<Signature>, operation: Lent<'a, Signature>) -> Option<Step<'a>>
-    ensures { MatchOption result (is_implemented out.now (operation_lent operation.entry) ≡ false)
-        (λ step. (is_implemented out.now (operation_lent operation.entry) ≡ true)
-        × (called step ≡ operation_by_role (operation_lent operation.entry))) }
+/// Whether an operation's operators and its accumulator are offered, and it fills no more positions than may be.
+fn is_implemented(out: &Out<Signature>, operation: Lent<'_, Signature>) -> bool
+    ensures { result ≡ is_implemented out.now (operation_lent operation.entry) }
 {
-    let step = resolved(operation)?;
-    if operation.filled(out.c.shape) > MOST_FILLED as u128 || !out.accumulator_serves() {
-        return None;
-    }
-    Some(step)
-}
-
-/// The recipe of an operation, by what is known of its objects; its fault, if it has one.
-pub(crate) fn recipe_of<'a>(
-    out: &Out<Signature>,
-    operation: Lent<'a, Signature>,
-) -> Result<Recipe<'a>, Status>
-    ensures { MatchResult result
-        (λ recipe. (operation_fault out.now (operation_lent operation.entry) ≡ None)
-        × IsRecipeOf Some out.now (operation_lent operation.entry) recipe)
-        (λ status. operation_fault out.now (operation_lent operation.entry) ≡ Some status) }
-{
-    let step = check_operation(out, operation)?;
-    Ok(Recipe {
-        out: out_by_role(out),
-        step,
-        signatures: known_by_role(out, operation),
-    })
+    operation.is_offered()
+        && operation.filled(out.c.shape) <= MOST_FILLED as u128
+        && out.accumulator_serves()
 }

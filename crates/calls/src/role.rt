@@ -1,9 +1,9 @@
 //! The roles that an operation's objects have in it.
 ghost use Rattle.std.specs.Prelude.{◌≡◌};
-ghost use Rattle.calls.specs.Roles.{out_by_role, role_of, roles_of};
-ghost use Rattle.model.specs.Lent.{operation_lent};
+ghost use Rattle.calls.specs.Roles.{role_of, roles_of};
+ghost use Rattle.model.specs.WriteBack.{reads_old, writes_region};
 
-use model::{Lent, Operation, Out, Signature};
+use model::{OneInput, Operation, Out};
 
 /// Which of an operation's objects one is.
 #[derive(Clone, Copy)]
@@ -15,19 +15,18 @@ pub enum Role {
     Second,
 }
 
-/// One thing for each role. Where an operation has no object in a role, the role has the thing of
-/// another one, which is not looked at.
+/// What takes each role; None where nothing does.
 #[derive(Clone, Copy)]
 pub struct Roles<T> {
-    pub old: T,
-    pub mask: T,
-    pub first: T,
-    pub second: T,
+    pub old: Option<T>,
+    pub mask: Option<T>,
+    pub first: Option<T>,
+    pub second: Option<T>,
 }
 
 impl<T: Copy> Roles<T> {
     /// What has a role.
-    pub fn of(&self, role: Role) -> T
+    pub fn of(&self, role: Role) -> Option<T>
         ensures { result ≡ role_of self.now role }
     {
         match role {
@@ -39,59 +38,45 @@ impl<T: Copy> Roles<T> {
     }
 }
 
-/// The objects of an operation by their roles.
+/// The objects of an operation that are read, by their roles: the output is one where what it has is read.
 pub fn by_role<K: Copy>(out: &Out<K>, operation: &Operation<K>) -> Roles<K>
     ensures { result ≡ roles_of out.now operation.now }
 {
-    let old = out.c;
-    let mask = out.mask.unwrap_or(old);
     let (first, second) = match operation {
-        Operation::Fill { .. } => (old, old),
-        Operation::OfOne { a, .. } => (*a, *a),
-        Operation::OfTwo { a, b, .. } => (*a, *b),
+        Operation::Fill { .. } => (None, None),
+        Operation::OfOne { a, .. } => (Some(*a), None),
+        Operation::OfTwo { a, b, .. } => (Some(*a), Some(*b)),
+    };
+    let old = if reads_old(out, operation) {
+        Some(out.c)
+    } else {
+        None
     };
     Roles {
         old,
-        mask,
+        mask: out.mask,
         first,
         second,
     }
 }
 
-/// What is known of an operation's objects by their roles.
-pub(crate) fn known_by_role(
-    out: &Out<Signature>,
-    operation: Lent<'_, Signature>,
-) -> Roles<Signature>
-    ensures { result ≡ roles_of out.now (operation_lent operation.entry) }
+/// Whether an operation reads what its output has before it.
+fn reads_old<K>(out: &Out<K>, operation: &Operation<K>) -> bool
+    ensures { result ≡ reads_old out.now operation.now }
 {
-    let old = out.c;
-    let mask = out.mask.unwrap_or(old);
-    let (first, second) = match operation {
-        Lent::Fill { .. } => (old, old),
-        Lent::OfOne { a, .. } => (a, a),
-        Lent::OfTwo { a, b, .. } => (a, b),
-    };
-    Roles {
-        old,
-        mask,
-        first,
-        second,
-    }
+    out.mask.is_some() || out.desc.complement || out.accum.is_some() || writes_region(operation)
 }
 
-/// An output whose objects are roles.
-pub(crate) fn out_by_role<K>(out: &Out<K>) -> Out<Role>
-    ensures { result ≡ out_by_role out.now }
+/// Whether an operation writes some positions of its output alone.
+fn writes_region<K>(operation: &Operation<K>) -> bool
+    ensures { result ≡ writes_region operation.now }
 {
-    let mask = match out.mask {
-        Some(_) => Some(Role::Mask),
-        None => None,
-    };
-    Out {
-        c: Role::Old,
-        mask,
-        accum: out.accum,
-        desc: out.desc,
+    match operation {
+        Operation::Fill { .. } => true,
+        Operation::OfOne {
+            computes: OneInput::Assign(_),
+            ..
+        } => true,
+        _ => false,
     }
 }

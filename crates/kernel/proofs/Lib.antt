@@ -1,10 +1,8 @@
 pub mod Accepted
 pub mod Computed
 pub mod FactorLaws
-pub mod FlippedLaws
-pub mod FlippedRecipes
 pub mod MaskLaws
-pub mod Moved
+pub mod NameLaws
 pub mod Spread
-pub mod StraightLaws
-pub mod Wholes
+pub mod TakenLaws
+pub mod TurnedInputs

@@ -49,26 +49,37 @@ written-masked mask out t all i j same is =
     written-same mask out t all i j is
     ∙ ap (λ is_in. written_at out.accum out.desc.replace is_in (out.c.content i j) (all i j)) (sym same)
 
--- rows that agree with a map everywhere, where there is memory for them
-pub agrees-everywhere : {E : Type 0} (result : Result Block E) (mask : Mask) (first past cols cols' : ℕ)
-    (c d : Content) → cols ≡ cols' → ((i j : ℕ) → c i j ≡ d i j)
+-- rows of a map, where there is memory for them, are those of one that is the same
+pub if_rows : {E : Type 0} (result : Result Block E) (first past cols cols' : ℕ) (c d : Content) → cols ≡ cols'
+    → ((i j : ℕ) → c i j ≡ d i j)
     → IfOk result (λ block. block.first ≡ first) → IfOk result (λ block. block.past ≡ past)
     → IfOk result (λ block. block.cols ≡ cols)
     → IfOk result (λ block. (i j : ℕ) → first ≤ i → i < past → block_content block i j ≡ c i j)
-    → IfOk result (AgreesUnder mask first past cols' d)
-agrees-everywhere (Ok block) mask first past cols cols' c d same_cols same is_first is_past is_cols words = record {
+    → IfOk result (HasRows first past cols' d)
+if_rows (Ok block) first past cols cols' c d same_cols same is_first is_past is_cols words = record {
   first_is = is_first;
   past_is = is_past;
   cols_are = is_cols ∙ same_cols;
-  words = λ i j low high inside. words i j low high ∙ same i j;
+  words = λ i j low high. words i j low high ∙ same i j;
 }
-agrees-everywhere (Err e) mask first past cols cols' c d same_cols same is_first is_past is_cols words = tt
+if_rows (Err e) first past cols cols' c d same_cols same is_first is_past is_cols words = tt
 
--- ..in another domain
+-- they agree with the map at the positions that a mask lets through
+pub agrees-rows : (mask : Mask) (first past cols : ℕ) (c : Content) (block : Block) → HasRows first past cols c block
+    → AgreesUnder mask first past cols c block
+agrees-rows mask first past cols c block has = record {
+  first_is = has.first_is;
+  past_is = has.past_is;
+  cols_are = has.cols_are;
+  words = λ i j low high inside. has.words i j low high;
+}
+
+-- rows that agree with a map, in another domain
 pub agrees-cast : (mask : Mask) (first past cols : ℕ) (from to : Domain) (c : Content) (block result : Block)
     → AreWordsOf from c → AgreesUnder mask first past cols c block
     → result.first ≡ block.first → result.past ≡ block.past → result.cols ≡ block.cols
-    → ((i j : ℕ) → ((word : ℕ) → block_content block i j ≡ Some word → IsWordOf from word) → block_content result i j ≡ cast_content from to (block_content block) i j)
+    → ((i j : ℕ) → ((word : ℕ) → block_content block i j ≡ Some word → IsWordOf from word)
+    → block_content result i j ≡ cast_content from to (block_content block) i j)
     → AgreesUnder mask first past cols (cast_content from to c) result
 agrees-cast mask first past cols from to c block result words agrees is_first is_past is_cols content = record {
   first_is = is_first ∙ agrees.first_is;
@@ -96,26 +107,17 @@ landed-at false None old new = refl
 landed-at false (Some op) old new = accumulated-nothing op old
 
 pub landed-spread : (out : Out Object) (is_written : ℕ → ℕ → Bool) (values : Content) (i j : ℕ)
-    → masked out (landed out is_written values) i j ≡ written_all out (λ i j. spread_at (is_written i j) out.accum (out.c.content i j) (values i j)) i j
+    → masked out (landed out is_written values) i j
+    ≡ written_all out (λ i j. spread_at (is_written i j) out.accum (out.c.content i j) (values i j)) i j
 landed-spread out is_written values i j =
     ap (λ z. if mask_set out i j then z else if out.desc.replace then None else out.c.content i j) (landed-at (is_written i j) out.accum (out.c.content i j) (values i j))
 
--- rows of a map that is the same
-pub agrees-rows : (mask : Mask) (first past cols cols' : ℕ) (c d : Content) (block : Block) → cols ≡ cols'
-    → ((i j : ℕ) → c i j ≡ d i j)
-    → HasRows first past cols c block → AgreesUnder mask first past cols' d block
-agrees-rows mask first past cols cols' c d block same_cols same has = record {
-  first_is = has.first_is;
-  past_is = has.past_is;
-  cols_are = has.cols_are ∙ same_cols;
-  words = λ i j low high inside. has.words i j low high ∙ same i j;
-}
-
 -- rows of what is computed, and outside a region what is there
-pub agrees-over : (mask : Mask) (first past cols : ℕ) (is_written : ℕ → ℕ → Bool) (old c d : Content)
+agrees-over : (mask : Mask) (first past cols : ℕ) (is_written : ℕ → ℕ → Bool) (old c d : Content)
     (block new : Block) → AgreesUnder mask first past cols c block
     → new.first ≡ block.first → new.past ≡ block.past → new.cols ≡ block.cols
-    → ((i j : ℕ) → block.first ≤ i → i < block.past → block_content new i j ≡ (if is_written i j then block_content block i j else old i j))
+    → ((i j : ℕ) → block.first ≤ i → i < block.past
+    → block_content new i j ≡ (if is_written i j then block_content block i j else old i j))
     → ((i j : ℕ) → (if is_written i j then c i j else old i j) ≡ d i j)
     → AgreesUnder mask first past cols d new
 agrees-over mask first past cols is_written old c d block new agrees is_first is_past is_cols words same = record {
@@ -132,7 +134,8 @@ pub if_over : {E : Type 0} (result : Result Block E) (mask : Mask) (first past c
     (old c d : Content) (block : Block) → AgreesUnder mask first past cols c block
     → IfOk result (λ new. new.first ≡ block.first) → IfOk result (λ new. new.past ≡ block.past)
     → IfOk result (λ new. new.cols ≡ block.cols)
-    → IfOk result (λ new. (i j : ℕ) → block.first ≤ i → i < block.past → block_content new i j ≡ (if is_written i j then block_content block i j else old i j))
+    → IfOk result (λ new. (i j : ℕ) → block.first ≤ i → i < block.past
+    → block_content new i j ≡ (if is_written i j then block_content block i j else old i j))
     → ((i j : ℕ) → (if is_written i j then c i j else old i j) ≡ d i j)
     → IfOk result (AgreesUnder mask first past cols d)
 if_over (Ok new) mask first past cols is_written old c d block agrees is_first is_past is_cols words same =

@@ -1,7 +1,8 @@
+pub mod Accepts
 pub mod Blocks
-pub mod Evaluated
 pub mod Factors
-pub mod Flipped
+pub mod Inputs
 pub mod Regions
-pub mod Straight
-pub mod Transposed
+pub mod Spread
+pub mod Takes
+pub mod Tasks

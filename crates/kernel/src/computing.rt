@@ -1,63 +1,87 @@
-//! What the operation of a recipe computes, before it is written back.
+//! What a task's operation computes, before it is written back.
 ghost use Rattle.std.specs.Prelude.{◌≡◌, ℕ, ◌<◌, ◌≤◌, IfOk, Some, if◌then◌else◌, true};
 ghost use Rattle.std.specs.Option.{option_map};
 ghost use Rattle.algebra.specs.Value.{IsWordOf};
-ghost use Rattle.calls.specs.Roles.{role_of};
 ghost use Rattle.kernel.specs.Blocks.{AgreesUnder, HasShape};
-ghost use Rattle.kernel.specs.Evaluated.{AreStraight, computed, object_in, output_of, plan_in, spread};
+ghost use Rattle.kernel.specs.Inputs.{known_of};
 ghost use Rattle.kernel.specs.Regions.{region_of};
+ghost use Rattle.kernel.specs.Spread.{computed_in, spread};
+ghost use Rattle.kernel.specs.Tasks.{operation_of, out_of};
+ghost use Rattle.model.specs.declared.shape.Signature.{Signature as Known};
 ghost use Rattle.model.specs.Indices.{are_below};
+ghost use Rattle.model.specs.Lent.{operation_lent};
 ghost use Rattle.model.specs.Object.{cast_content, cols_of, rows_of};
 ghost use Rattle.model.specs.Regions.{cols_in, is_listed, rows_in};
+ghost use Rattle.model.specs.Renamed.{renamed_operation};
+ghost use Rattle.model.specs.Table.{plan_of, plan_of_one, plan_of_two};
 ghost use Rattle.store.specs.Stored.{block_content, content_of};
 
-use crate::moving::{extracted_rows, filled_rows, placed_rows, transposed_rows};
-use crate::product::multiplied_rows;
+use crate::input::Input;
+use crate::operating::operation_rows;
+use crate::task::Task;
 use algebra::Domain;
-use calls::{IndexList, Positions, Recipe, Region, Roles, Step};
-use elementwise::{apply_rows, intersect_rows, reduce_rows, select_rows, union_rows};
+use calls::{IndexList, OneInput, Region, Signature, TwoInputs};
 use masks::Mask;
-use model::NoMemory;
+use model::{Lent, NoMemory};
 use shapes::put_rows;
 use std::alloc::Global;
 use std::ops::Range;
 use store::{RowBlock, Store};
 
-/// The rows in a range of what is written back, in the output's domain: what a recipe's operation
-/// computes, and outside its region what is there. What stands at positions that a mask doesn't let
-/// through doesn't count: a product leaves it out.
+/// The rows in a range of what is written back, in the output's domain: what a task's operation computes,
+/// and outside its region what is there. What stands at positions that a mask doesn't let through doesn't
+/// count: a product leaves it out.
 pub(crate) fn computed_rows(
     alloc: Global,
-    recipe: &Recipe<'_>,
-    stores: &Roles<&Store>,
+    task: &Task<'_>,
     mask: Mask<'_>,
     range: Range<u64>,
 ) -> Result<RowBlock, NoMemory>
-    requires inputs { AreStraight recipe.now (λ role. (role_of stores.now role).now) }
     requires range { range.start ≤ range.end }
-    requires rows { range.end ≤ rows_of (output_of recipe.now).shape }
-    requires mask { HasShape (rows_of (output_of recipe.now).shape) (cols_of (output_of recipe.now).shape) mask }
-    ensures { IfOk result (AgreesUnder mask.entry range.start range.end (cols_of (output_of recipe.now).shape)
-        (spread recipe.now (object_in recipe.now (λ role. (role_of stores.now role).now)))) }
+    requires rows { range.end ≤ rows_of task.now.out.c.signature.shape }
+    requires mask { HasShape (rows_of task.now.out.c.signature.shape) (cols_of task.now.out.c.signature.shape) mask }
+    ensures { IfOk result (AgreesUnder mask.entry range.start range.end (cols_of task.now.out.c.signature.shape)
+        (spread (out_of task.now) (operation_of task.now))) }
 {
-    let block = step_rows(alloc, recipe, stores, mask, range)?;
-    let to = recipe.signatures.of(recipe.out.c).domain;
-    let block = block_in_domain(block, answer_of(recipe), to);
-    if recipe.out.accum.is_some() {
+    let block = cast_rows(alloc, task, mask, range)?;
+    if task.out.accum.is_some() {
         return Ok(block);
     }
-    match region_of(recipe.step) {
-        Some(region) => over_old(alloc, stores.of(recipe.out.c), block, region),
+    match region_of(task.operation) {
+        Some(region) => over_old(alloc, task.out.c.store, block, region),
         None => Ok(block),
     }
 }
 
-/// The region of the output that a step writes, where it doesn't write all.
-fn region_of(step: Step<'_>) -> Option<&Region>
-    ensures { option_map (λ region. region.now) result ≡ region_of step.entry }
+/// The rows in a range of what a task's operation computes, in the output's domain.
+fn cast_rows(
+    alloc: Global,
+    task: &Task<'_>,
+    mask: Mask<'_>,
+    range: Range<u64>,
+) -> Result<RowBlock, NoMemory>
+    requires range { range.start ≤ range.end }
+    requires rows { range.end ≤ rows_of task.now.out.c.signature.shape }
+    requires mask { HasShape (rows_of task.now.out.c.signature.shape) (cols_of task.now.out.c.signature.shape) mask }
+    ensures { IfOk result (AgreesUnder mask.entry range.start range.end (cols_of task.now.out.c.signature.shape)
+        (computed_in (out_of task.now) (operation_of task.now))) }
 {
-    match step {
-        Step::Fill { region, .. } | Step::Assign(region) => Some(region),
+    let c = task.out.c.signature;
+    let block = operation_rows(alloc, c, task.operation, mask, range)?;
+    let from = answer_of(c, task.operation);
+    Ok(block_in_domain(block, from, c.domain))
+}
+
+/// The region of the output that an operation writes, where it doesn't write all.
+fn region_of<'a>(operation: Lent<'a, Input<'_>>) -> Option<&'a Region>
+    ensures { option_map (λ region. region.now) result ≡ region_of (operation_lent operation.entry) }
+{
+    match operation {
+        Lent::Fill { region, .. } => Some(region),
+        Lent::OfOne {
+            computes: OneInput::Assign(region),
+            ..
+        } => Some(region),
         _ => None,
     }
 }
@@ -88,59 +112,38 @@ fn over_old(
     }
 }
 
-/// The rows in a range of what a recipe's operation computes, in the domain of its answers. Words are
-/// taken as they are stored, since an operator looks at the values that they stand for.
-fn step_rows(
-    alloc: Global,
-    recipe: &Recipe<'_>,
-    stores: &Roles<&Store>,
-    mask: Mask<'_>,
-    range: Range<u64>,
-) -> Result<RowBlock, NoMemory>
-    requires inputs { AreStraight recipe.now (λ role. (role_of stores.now role).now) }
-    requires range { range.start ≤ range.end }
-    requires rows { range.end ≤ rows_of (output_of recipe.now).shape }
-    requires mask { HasShape (rows_of (output_of recipe.now).shape) (cols_of (output_of recipe.now).shape) mask }
-    ensures { IfOk result (AgreesUnder mask.entry range.start range.end (cols_of (output_of recipe.now).shape)
-        (computed recipe.now (object_in recipe.now (λ role. (role_of stores.now role).now)))) }
+/// The domain of what an operation computes, of an output.
+fn answer_of(c: Signature, operation: Lent<'_, Input<'_>>) -> Domain
+    ensures { result ≡ (plan_of c (renamed_operation known_of (operation_lent operation.entry))).domain }
 {
-    let (a, b) = (stores.first, stores.second);
-    let c = recipe.signatures.of(recipe.out.c);
-    match recipe.step {
-        Step::Fill { value, region } => {
-            filled_rows(alloc, c.shape, region, c.domain.wrapped(value), range)
-        }
-        Step::Multiply { form, semiring } => multiplied_rows(
-            alloc, form, semiring, a, b, mask, range,
-        ),
-        Step::Combine { positions, op } => match positions {
-            Positions::Union => union_rows(alloc, a, b, op, range),
-            Positions::Intersection => intersect_rows(alloc, a, b, op, range),
-        },
-        Step::Apply(function) => apply_rows(alloc, a, function, range),
-        Step::Select { op, scalar } => {
-            let s = op.scalar().wrapped(scalar);
-            select_rows(alloc, a, op, s, range)
-        }
-        Step::ReduceRows(monoid) => reduce_rows(alloc, a, monoid, range),
-        Step::Transpose => transposed_rows(alloc, a, range),
-        Step::Extract(region) => extracted_rows(alloc, a, region, range),
-        Step::Assign(region) => placed_rows(alloc, c.shape, a, region, range),
+    match operation {
+        Lent::Fill { .. } => c.domain,
+        Lent::OfOne { computes, a } => answer_of_one(computes, a.signature),
+        Lent::OfTwo { computes, .. } => answer_of_two(computes),
     }
 }
 
-/// The domain of the answers of a recipe's operation.
-fn answer_of(recipe: &Recipe<'_>) -> Domain
-    ensures { result ≡ (plan_in recipe.now).domain }
+/// The domain of what is computed of one input.
+fn answer_of_one(computes: &OneInput, a: Signature) -> Domain
+    ensures { (c : Known) → (plan_of_one c computes.now a).domain ≡ result }
 {
-    match recipe.step {
-        Step::Multiply { semiring, .. } => semiring.add.op.domain,
-        Step::Combine { op, .. } => op.answer(),
-        Step::Apply(function) => function.answer(),
-        Step::Select { .. } => recipe.signatures.first.domain,
-        Step::ReduceRows(monoid) => monoid.op.domain,
-        Step::Fill { .. } => recipe.signatures.of(recipe.out.c).domain,
-        Step::Transpose | Step::Extract(_) | Step::Assign(_) => recipe.signatures.first.domain,
+    match computes {
+        OneInput::Apply(function) => function.answer(),
+        OneInput::ReduceRows(monoid) => monoid.domain,
+        OneInput::Select { .. }
+        | OneInput::Transpose
+        | OneInput::Extract(_)
+        | OneInput::Assign(_) => a.domain,
+    }
+}
+
+/// The domain of what is computed of two inputs.
+fn answer_of_two(computes: TwoInputs) -> Domain
+    ensures { (a b : Known) → (plan_of_two computes a b).domain ≡ result }
+{
+    match computes {
+        TwoInputs::Multiply { semiring, .. } => semiring.answer(),
+        TwoInputs::Combine { op, .. } => op.answer(),
     }
 }
 

@@ -1,12 +1,16 @@
-//! What recipes give: blocks of rows of an operation's result, and the store that they join to.
+//! What recipes give: blocks of rows of what their operations leave, and the store that they join to.
 #![tactic(auto)]
 
 mod computing;
-mod flipping;
+mod elements;
+mod evaluation;
+mod input;
 mod moving;
+mod operating;
 mod output;
 mod piece;
 mod product;
-mod transposing;
+mod task;
 
+pub use evaluation::evaluate;
 pub use piece::{eval_piece, join};

@@ -47,7 +47,7 @@ mask_at {X = X} known at agrees (Some k) found is = go (known k) refl is where
   go None eq is = absurd (cc)
   go (Some x) eq is = let same : found ≡ Some x = cc in same ∙ ap Some (agrees k x eq)
 
-out_at : {K X : Type 0} (known : K → Option X) (at : K → X) → Agrees known at → (out : Out K) (found : Out X)
+pub out_at : {K X : Type 0} (known : K → Option X) (at : K → X) → Agrees known at → (out : Out K) (found : Out X)
     → found_out (renamed_out known out) ≡ Some found → found ≡ renamed_out at out
 out_at {X = X} known at agrees out found is =
     go (known out.c) refl (found_mask (option_map known out.mask)) refl is where
@@ -59,7 +59,7 @@ out_at {X = X} known at agrees out found is =
           let same : found ≡ out_over out c mask = cc in
           same ∙ (λ i. out_over out (agrees out.c c eq i) (mask_at known at agrees out.mask mask masked i))
 
-operation_at : {K X : Type 0} (known : K → Option X) (at : K → X) → Agrees known at → (op : Operation K)
+pub operation_at : {K X : Type 0} (known : K → Option X) (at : K → X) → Agrees known at → (op : Operation K)
     (found : Operation X) → found_operation (renamed_operation known op) ≡ Some found → found ≡ renamed_operation at op
 operation_at known at agrees (Fill value region) found is = cc
 operation_at {X = X} known at agrees (OfOne computes a) found is = go (known a) refl is where

@@ -96,7 +96,25 @@ impl<K: Copy> Operation<K> {
         }
     }
 
-    /// The same, with the lists lent.
+    /// Itself, with the lists lent.
+    pub fn as_lent(&self) -> Lent<'_, K>
+        ensures { operation_lent result ≡ self.now }
+    {
+        match self {
+            Operation::Fill { value, region } => Lent::Fill {
+                value: *value,
+                region,
+            },
+            Operation::OfOne { computes, a } => Lent::OfOne { computes, a: *a },
+            Operation::OfTwo { computes, a, b } => Lent::OfTwo {
+                computes: *computes,
+                a: *a,
+                b: *b,
+            },
+        }
+    }
+
+    /// The operation on what its names stand for, with the lists lent; None where one stands for nothing.
     pub fn lent<L: Lookup<K>>(&self, names: &L) -> Option<Lent<'_, L::Found>>
         ensures { option_map operation_lent result ≡ found_operation (renamed_operation (L.found names.now) self.now) }
     {

@@ -3,7 +3,7 @@ ghost use Rattle.std.specs.Prelude.{◌≡◌, true};
 ghost use Rattle.model.specs.Fault.{plan_in};
 ghost use Rattle.model.specs.Lent.{operation_lent};
 ghost use Rattle.model.specs.Object.{transposed_signature};
-ghost use Rattle.model.specs.Table.{asks_nothing, filled_by, transposed_if};
+ghost use Rattle.model.specs.Table.{asks_nothing, filled_by, is_offered, transposed_if};
 ghost use Rattle.model.specs.Table.{are_factors, inner_size, offers_one, offers_two, plan_of_fill, plan_of_one};
 ghost use Rattle.model.specs.Table.{plan_of_two, product_shape};
 
@@ -182,6 +182,17 @@ impl TwoInputs {
 }
 
 impl Lent<'_, Signature> {
+    /// Whether the operators that it names are offered.
+    pub fn is_offered(self) -> bool
+        ensures { result ≡ is_offered (operation_lent self.entry) }
+    {
+        match self {
+            Lent::Fill { .. } => true,
+            Lent::OfOne { computes, .. } => computes.is_offered(),
+            Lent::OfTwo { computes, .. } => computes.is_offered(),
+        }
+    }
+
     /// What the table says of an output and the inputs, transposed as a descriptor says.
     pub fn plan(self, c: Signature, desc: Desc) -> Plan
         ensures { result ≡ plan_in c desc (operation_lent self.entry) }
@@ -189,11 +200,11 @@ impl Lent<'_, Signature> {
         match self {
             Lent::Fill { value, region } => region.plan_of_fill(c, value),
             Lent::OfOne { computes, a } => {
-                computes.plan(c, transposed_if(computes.is_transposed(desc), a))
+                computes.plan(c, a.transposed_if(computes.is_transposed(desc)))
             }
             Lent::OfTwo { computes, a, b } => {
-                let a = transposed_if(desc.transpose_first, a);
-                let b = transposed_if(desc.transpose_second, b);
+                let a = a.transposed_if(desc.transpose_first);
+                let b = b.transposed_if(desc.transpose_second);
                 computes.plan(a, b)
             }
         }
@@ -210,14 +221,17 @@ impl Lent<'_, Signature> {
     }
 }
 
-fn transposed_if(flag: bool, signature: Signature) -> Signature
-    ensures { result ≡ transposed_if transposed_signature flag signature }
-{
-    if !flag {
-        return signature;
-    }
-    Signature {
-        domain: signature.domain,
-        shape: signature.shape.transposed(),
+impl Signature {
+    /// Itself, or that of the transpose where a flag asks for it.
+    pub fn transposed_if(self, flag: bool) -> Signature
+        ensures { result ≡ transposed_if transposed_signature flag self }
+    {
+        if !flag {
+            return self;
+        }
+        Signature {
+            domain: self.domain,
+            shape: self.shape.transposed(),
+        }
     }
 }

@@ -1,20 +1,18 @@
 -- Objects in which a value was set, or from which one was removed.
-use Rattle.std.proofs.Common.{◌≡◌, ◌∙◌, ℕ, ◌==◌, not, arith, ◌∷◌, ◌++◌, [], false, true, List, length, Option, Result, Ok, Err, refl, sym, subst, ap}
-use Rattle.std.specs.Prelude.{ℤ, ◌<◌, OnErr, OnOk}
+use Rattle.std.proofs.Common.{◌≡◌, ℕ, ◌==◌, not, arith, ◌∷◌, ◌++◌, [], false, true, List, length, Option, Result, Ok, Err, refl, sym, subst, ap}
+use Rattle.std.specs.Prelude.{◌<◌, OnErr, OnOk}
 use Rattle.std.specs.List.{All}
 use Rattle.std.proofs.lemmas.Bool.{ne_eqb}
 use Rattle.std.proofs.lemmas.List.Elements.{All-push, All-weaker}
 use Rattle.std.proofs.lemmas.List.Sums.{fold-append}
 use Rattle.algebra.specs.declared.domain.Domain.{Domain}
-use Rattle.algebra.specs.Value.{is_value_of, word_of}
-use Rattle.model.specs.declared.shape.Place.{Place}
 use Rattle.model.specs.declared.shape.Shape.{Shape}
 use Rattle.algebra.specs.declared.operator_names.OpName.{OpName}
 use Rattle.model.specs.declared.tuples.Tuple.{Tuple}
 use Rattle.model.specs.Builds.{built}
 use Rattle.model.specs.Entries.{entries_of}
 use Rattle.model.specs.Fault.{has_entries}
-use Rattle.model.specs.Object.{Content, IsObject, Object, col_of, cols_of, is_inside, row_of, rows_of}
+use Rattle.model.specs.Object.{Content, IsObject, Object, cols_of, rows_of}
 use Rattle.model.specs.Regions.{cut_to}
 use Rattle.model.specs.Run.{resized}
 use Rattle.model.proofs.BuildLaws.{built-is_object}

@@ -1,32 +1,32 @@
--- Recipes on the objects of a session.
-use Rattle.std.proofs.Common.{◌≡◌, ◌∙◌, ℕ, true, Option, Some, None, is_some, Result, Ok, Err, refl, sym, ap}
+-- Accepted operations on the objects of a session.
+use Rattle.std.proofs.Common.{◌≡◌, ◌∙◌, ℕ, Bor, true, Option, Some, None, is_some, Result, Ok, Err, refl, sym, ap, subst}
 use Rattle.std.specs.Prelude.{IfOk}
 use Rattle.std.specs.List.{fold}
-use Rattle.std.specs.Option.{option_map, unwrap_or}
+use Rattle.std.specs.Option.{option_map, option_map_or, unwrap_or}
 use Rattle.algebra.specs.declared.operator_names.MonoidName.{MonoidName}
 use Rattle.algebra.specs.Monoids.{identity_of}
 use Rattle.algebra.specs.Operators.{combines_by, eval_of, offers}
 use Rattle.algebra.specs.Value.{are_compatible}
 use Rattle.calls.specs.declared.obj.Obj.{Obj}
-use Rattle.calls.specs.declared.recipe.Recipe.{Recipe}
+use Rattle.calls.specs.declared.recipe.Accepted.{Accepted}
 use Rattle.calls.specs.declared.role.Role.{Role}
 use Rattle.calls.specs.declared.role.Role.TheVariants.{Old, Mask, First, Second}
 use Rattle.calls.specs.declared.role.Roles.{Roles}
-use Rattle.calls.specs.Recipes.{IsRecipeOf, meaning}
-use Rattle.calls.specs.Roles.{out_by_role, role_of, roles_of}
-use Rattle.calls.proofs.RoleLaws.{meaning_along}
-use Rattle.kernel.specs.Evaluated.{AreInputs, object_in, output_of}
-use Rattle.kernel.proofs.Accepted.{recipe-leaves}
+use Rattle.calls.specs.Recipes.{IsAcceptedOf, meaning, object_with}
+use Rattle.calls.specs.Roles.{role_of, roles_of}
+use Rattle.calls.proofs.RoleLaws.{meaning-accepted, output-accepted}
+use Rattle.kernel.specs.Takes.{Takes, lent_in, map_in, maps_in}
 use Rattle.model.specs.declared.call.Operation.{Operation}
-use Rattle.model.specs.declared.call.Operation.TheVariants.{Fill, OfOne, OfTwo}
 use Rattle.model.specs.declared.call.Out.{Out}
 use Rattle.model.specs.declared.shape.Signature.{Signature}
-use Rattle.model.specs.Object.{AreWordsOf, Object, cols_of, rows_of, signature_of}
+use Rattle.model.specs.Object.{AreWordsOf, IsObject, Object, cols_of, no_content, rows_of, signature_of}
 use Rattle.model.specs.Reductions.{all_words, sum_in}
+use Rattle.model.specs.Renamed.{renamed_out}
 use Rattle.model.specs.Run.{Environment, no_object, object_at}
 use Rattle.model.proofs.ObjectLaws.{objects_equal}
+use Rattle.model.proofs.RenamedLaws.{Agrees, some_out}
 use Rattle.model.proofs.StoredLaws.{sum_in-stored}
-use Rattle.session.specs.Results.{IsEvaluated, IsLeft, IsStoreOf, taken_in}
+use Rattle.session.specs.Results.{AreThere, IsEvaluated, IsLeft, IsLentFor, maps_at}
 use Rattle.store.specs.Stored.{Stored, content_of}
 
 pub each_role : (P : Role → Type 0) → P Old → P Mask → P First → P Second → (role : Role) → P role
@@ -44,70 +44,84 @@ pub known_there : (o : Option Object) (s : Signature) → option_map signature_o
 known_there None s is = absurd (cc)
 known_there (Some o) s is = refl
 
--- the object that takes a role
-pub object_taken : (env : Environment Obj) (recipe : Recipe) (objects : Roles Obj) (stored : Role → Stored)
-    → ((role : Role) → option_map signature_of (env.find_object (role_of objects role)) ≡ Some (role_of recipe.signatures role))
-    → ((role : Role) → IsStoreOf env (role_of objects role) (stored role)) → (role : Role)
-    → object_in recipe stored role ≡ taken_in env objects role
-object_taken env recipe objects stored known stores role =
-    let same = signature_known (env.find_object (role_of objects role)) (role_of recipe.signatures role) (known role) in
-    objects_equal (object_in recipe stored role) (taken_in env objects role) (ap (λ (s : Signature). s.domain) (sym same)) (ap (λ (s : Signature). s.shape) (sym same))
-    (λ i j. sym ((stores role).content i j))
+module _ (env : Environment Obj) where
+  abbrev pub known : Obj → Option Signature
+  known object = option_map signature_of (env.find_object object)
 
-pub inputs_taken : (env : Environment Obj) (recipe : Recipe) (objects : Roles Obj) (stored : Role → Stored)
-    → ((role : Role) → option_map signature_of (env.find_object (role_of objects role)) ≡ Some (role_of recipe.signatures role))
-    → ((role : Role) → IsStoreOf env (role_of objects role) (stored role)) → AreInputs recipe stored
-inputs_taken env recipe objects stored known stores =
-    let same : (role : Role) → object_in recipe stored role ≡ taken_in env objects role = object_taken env recipe objects stored known stores in
-    record {
-      rows = λ role. (stores role).rows ∙ ap (λ (o : Object). rows_of o.shape) (sym (same role));
-      cols = λ role. (stores role).cols ∙ ap (λ (o : Object). cols_of o.shape) (sym (same role));
-      objects = λ role. rw (same role) (stores role).is_object;
-    }
+  -- what is known of an object is its own
+  known_own : Agrees known (λ object. signature_of (object_at env object))
+  known_own object s is = sym (signature_known (env.find_object object) s is)
 
--- what a recipe's stores join to
-pub evaluated : (env : Environment Obj) (recipe : Recipe) (objects : Roles Obj) (stored : Role → Stored)
-    (joined : Stored)
-    → ((role : Role) → option_map signature_of (env.find_object (role_of objects role)) ≡ Some (role_of recipe.signatures role))
-    → ((role : Role) → IsStoreOf env (role_of objects role) (stored role))
-    → joined.rows ≡ rows_of (output_of recipe).shape → joined.cols ≡ cols_of (output_of recipe).shape
-    → ((i j : ℕ) → content_of joined i j ≡ meaning recipe (object_in recipe stored) i j)
-    → IsEvaluated env recipe objects joined
-evaluated env recipe objects stored joined known stores rows cols content =
-    let same : (role : Role) → object_in recipe stored role ≡ taken_in env objects role = object_taken env recipe objects stored known stores in
-    let out = same recipe.out.c in
-    let left : Object = record (object_in recipe stored recipe.out.c) { content = meaning recipe (object_in recipe stored) } in
-    let put : Object = record (taken_in env objects recipe.out.c) { content = content_of joined } in
-    let is_left : put ≡ left = objects_equal put left (ap (λ (o : Object). o.domain) (sym out)) (ap (λ (o : Object). o.shape) (sym out)) content in
-    record {
-      rows = rows ∙ ap (λ (o : Object). rows_of o.shape) out;
-      cols = cols ∙ ap (λ (o : Object). cols_of o.shape) out;
-      content = λ i j. content i j ∙ (λ t. meaning recipe (λ role. same role t) i j);
-      is_object = rw is_left (recipe-leaves recipe stored (inputs_taken env recipe objects stored known stores));
-    }
+  -- the object of a role of which something is known is there
+  pub there-known : (s : Option Signature) (object : Option Obj) → option_map Some s ≡ option_map known object
+      → AreThere env object
+  there-known None (Some object) is = absurd (cc)
+  there-known s None is = tt
+  there-known (Some s) (Some object) is =
+      let same : known object ≡ Some s = cc in known_there (env.find_object object) s same
 
--- the output of an operation takes the role of the recipe's output
-output_taken : (out : Out Obj) (operation : Operation Obj) (recipe : Recipe) → recipe.out ≡ out_by_role out
-    → role_of (roles_of out operation) recipe.out.c ≡ out.c
-output_taken out (Fill value region) recipe is = ap (λ (o : Out Role). role_of (roles_of out (Fill value region)) o.c) is
-output_taken out (OfOne computes a) recipe is = ap (λ (o : Out Role). role_of (roles_of out (OfOne computes a)) o.c) is
-output_taken out (OfTwo computes a b) recipe is = ap (λ (o : Out Role). role_of (roles_of out (OfTwo computes a b)) o.c) is
+  -- ..and its store takes the role
+  pub takes-lent : (s : Option Signature) (object : Option Obj) (stored : Option Stored)
+      → option_map Some s ≡ option_map known object → IsLentFor env object stored → Takes s stored
+  takes-lent None None None is lent = tt
+  takes-lent (Some s) (Some object) (Some stored) is lent =
+      let found : known object ≡ Some s = cc in
+      let same : signature_of (object_at env object) ≡ s = signature_known (env.find_object object) s found in
+      let own : object_at env object ≡ object_with s (content_of stored) =
+      objects_equal (object_at env object) (object_with s (content_of stored)) (ap (λ (s : Signature). s.domain) same) (ap (λ (s : Signature). s.shape) same) lent.content in
+      record {
+        rows = lent.rows ∙ ap (λ (s : Signature). rows_of s.shape) same;
+        cols = lent.cols ∙ ap (λ (s : Signature). cols_of s.shape) same;
+        is_object = subst IsObject own lent.is_object;
+      }
+  takes-lent None (Some object) stored is lent = absurd (cc)
+  takes-lent (Some s) None stored is lent = absurd (cc)
+  takes-lent s (Some object) None is lent = absurd (lent)
+  takes-lent s None (Some stored) is lent = absurd (lent)
 
--- what an operation's recipe gives is what the operation leaves
-pub left_by_operation : (env : Environment Obj) (out : Out Obj) (operation : Operation Obj) (recipe : Recipe)
-    (stored : Stored)
-    → IsRecipeOf (λ object. option_map signature_of (env.find_object object)) out operation recipe
-    → IsEvaluated env recipe (roles_of out operation) stored → IsLeft env out operation stored
-left_by_operation env out operation recipe stored is given =
-    let c = output_taken out operation recipe is.out_is in
-    record {
-      there = rw c at (known_there (env.find_object (role_of (roles_of out operation) recipe.out.c)) (role_of recipe.signatures recipe.out.c) (is.signatures recipe.out.c));
-      rows = given.rows ∙ ap (λ (o : Obj). rows_of (object_at env o).shape) c;
-      cols = given.cols ∙ ap (λ (o : Obj). cols_of (object_at env o).shape) c;
-      content = λ i j. given.content i j
-          ∙ meaning_along (λ object. option_map signature_of (env.find_object object)) out operation recipe (taken_in env (roles_of out operation)) (object_at env) is (λ role. refl) i j;
-      is_object = rw c at given.is_object;
-    }
+  map_lent : (object : Option Obj) (stored : Option Stored) → IsLentFor env object stored
+      → map_in stored ≡ option_map_or (λ object. (object_at env object).content) object no_content
+  map_lent None None lent = refl
+  map_lent (Some object) (Some stored) lent = λ t i j. sym (lent.content i j) t
+  map_lent (Some object) None lent = absurd (lent)
+  map_lent None (Some stored) lent = absurd (lent)
+
+  -- what is evaluated of the stores is so of the objects
+  maps-lent : (objects : Roles Obj) (stores : Roles (Bor Stored))
+      → ((role : Role) → IsLentFor env (role_of objects role) (lent_in stores role))
+      → maps_in stores ≡ maps_at env objects
+  maps-lent objects stores lent = λ t role. map_lent (role_of objects role) (lent_in stores role) (lent role) t
+
+  pub if-evaluated : {E : Type 0} (result : Result Stored E) (accepted : Accepted) (objects : Roles Obj)
+      (stores : Roles (Bor Stored)) → ((role : Role) → IsLentFor env (role_of objects role) (lent_in stores role))
+      → IfOk result (λ stored. stored.rows ≡ rows_of accepted.out.c.shape)
+      → IfOk result (λ stored. stored.cols ≡ cols_of accepted.out.c.shape)
+      → IfOk result (λ stored. (i j : ℕ)
+      → content_of stored i j ≡ meaning accepted.out accepted.operation (maps_in stores) i j)
+      → IfOk result (λ stored. IsObject (object_with accepted.out.c (content_of stored)))
+      → IfOk result (IsEvaluated env accepted objects)
+  if-evaluated (Ok stored) accepted objects stores lent rows cols content object = record {
+    rows = rows;
+    cols = cols;
+    content = λ i j. content i j ∙ (λ t. meaning accepted.out accepted.operation (maps-lent objects stores lent t) i j);
+    is_object = object;
+  }
+  if-evaluated (Err e) accepted objects stores lent rows cols content object = tt
+
+  -- ..and is what the operation leaves
+  pub left-evaluated : (out : Out Obj) (operation : Operation Obj) (accepted : Accepted) (stored : Stored)
+      → IsAcceptedOf known out operation accepted → IsEvaluated env accepted (roles_of out operation) stored
+      → IsLeft env out operation stored
+  left-evaluated out operation accepted stored is given =
+      let c = output-accepted known out operation accepted is (object_at env) known_own in
+      let first = some_out (renamed_out known out) accepted.out (sym is.out_is) in
+      record {
+        there = known_there (env.find_object out.c) accepted.out.c (sym (ap (λ (o : Out (Option Signature)). o.c) first));
+        rows = given.rows ∙ ap (λ (s : Signature). rows_of s.shape) c;
+        cols = given.cols ∙ ap (λ (s : Signature). cols_of s.shape) c;
+        content = λ i j. given.content i j ∙ meaning-accepted known out operation accepted is (object_at env) known_own i j;
+        is_object = rw c at given.is_object;
+      }
 
 pub if_ok_three : {T E : Type 0} (r : Result T E) (P Q R S : T → Type 0) → ((x : T) → P x → Q x → R x → S x) → IfOk r P
     → IfOk r Q → IfOk r R → IfOk r S

@@ -1,7 +1,7 @@
 -- How calls on a session end, and what they answer and leave.
 use Rattle.std.specs.Prelude.{ℕ, ◌+◌, ◌-◌, ◌^◌, ◌==◌, ◌≡◌, ◌⊎◌, if◌then◌else◌, length, None, OnErr, OnOk, Option}
 use Rattle.std.specs.Prelude.{Some, Result, Ok, Err, is_some, true}
-use Rattle.std.specs.Option.{option_map}
+use Rattle.std.specs.Option.{IfSome, option_map}
 use Rattle.algebra.specs.Value.{value_of}
 use Rattle.calls.specs.Checks.{known_call}
 use Rattle.calls.specs.declared.obj.Obj.{Obj}
@@ -35,6 +35,10 @@ known_in session object = option_map signature_of ((environment_of session).find
 -- no edits wait on an object, if it is there
 abbrev pub IsSettledIn : Session → Obj → Type 0
 IsSettledIn session object = IsSettled session.table object
+
+-- ..on the object of a role, if one has it
+abbrev pub AreSettled : Session → Option Obj → Type 0
+AreSettled session object = IfSome object (IsSettledIn session)
 
 -- how many objects were ever made
 abbrev pub made_in : Session → ℕ

@@ -1,23 +1,28 @@
 //! Operations on the objects of a session.
 ghost use Rattle.std.specs.Prelude.{◌≡◌, IfOk, OnOk, Some, is_some, true};
 ghost use Rattle.model.specs.Renamed.{renamed_operation, renamed_out};
-ghost use Rattle.calls.specs.Roles.{role_of};
+ghost use Rattle.std.specs.Prelude.{Option};
+ghost use Rattle.std.specs.Option.{option_map};
+ghost use Rattle.calls.specs.declared.obj.Obj.{Obj as AnyObj};
 ghost use Rattle.calls.specs.declared.role.Role.{Role as AnyRole};
+ghost use Rattle.calls.specs.Recipes.{known_by_role};
+ghost use Rattle.calls.specs.Roles.{role_of};
+ghost use Rattle.model.specs.declared.call.Call.TheVariants.{Operate};
 ghost use Rattle.model.specs.Fault.{early_fault};
-ghost use Rattle.session.specs.Results.{IsEvaluated, IsLeft, IsStoreOf};
+ghost use Rattle.session.specs.Results.{AreThere, IsEvaluated, IsLeft, IsLentFor};
 
 use crate::sessions::Session;
 use algebra::{FunctionName, IndexName, MonoidName, OpName, SemiringName};
 use calls::{
-    Call, Checked, Form, Obj, OneInput, Operation, Out, Positions, Recipe, Region, Roles,
-    TwoInputs, by_role,
+    Accepted, Form, Obj, OneInput, Operation, Out, Positions, Region, Roles, TwoInputs, by_role,
+    check_operate,
 };
-use kernel::{eval_piece, join};
+use kernel::evaluate;
 use model::{NoMemory, Status};
 use store::Store;
 
 impl Session {
-    ghost use Rattle.session.specs.Performed.{Ends, IsPerformed, IsSettledIn, count_in, environment_of};
+    ghost use Rattle.session.specs.Performed.{AreSettled, Ends, IsPerformed, count_in, environment_of};
     ghost use Rattle.session.specs.Performed.{known_in, made_in};
 
     /// Multiplies two matrices over a semiring into a third (`GrB_mxm`).
@@ -28,7 +33,7 @@ impl Session {
         a: Obj,
         b: Obj,
     ) -> Result<(), Status>
-        ensures { IsPerformed self.old self.new (Call.Operate out.now
+        ensures { IsPerformed self.old self.new (Operate out.now
             (Operation.OfTwo (TwoInputs.Multiply Form.MatrixMatrix semiring) a b)) result }
     {
         let form = Form::MatrixMatrix;
@@ -43,7 +48,7 @@ impl Session {
         a: Obj,
         u: Obj,
     ) -> Result<(), Status>
-        ensures { IsPerformed self.old self.new (Call.Operate out.now
+        ensures { IsPerformed self.old self.new (Operate out.now
             (Operation.OfTwo (TwoInputs.Multiply Form.MatrixVector semiring) a u)) result }
     {
         let form = Form::MatrixVector;
@@ -58,7 +63,7 @@ impl Session {
         u: Obj,
         a: Obj,
     ) -> Result<(), Status>
-        ensures { IsPerformed self.old self.new (Call.Operate out.now
+        ensures { IsPerformed self.old self.new (Operate out.now
             (Operation.OfTwo (TwoInputs.Multiply Form.VectorMatrix semiring) u a)) result }
     {
         let form = Form::VectorMatrix;
@@ -68,7 +73,7 @@ impl Session {
     /// An operator's answers where either of two inputs has a value, of one alone its own value
     /// (`GrB_eWiseAdd`).
     pub fn ewise_add(&mut self, out: &Out<Obj>, op: OpName, a: Obj, b: Obj) -> Result<(), Status>
-        ensures { IsPerformed self.old self.new (Call.Operate out.now
+        ensures { IsPerformed self.old self.new (Operate out.now
             (Operation.OfTwo (TwoInputs.Combine Positions.Union op) a b)) result }
     {
         let positions = Positions::Union;
@@ -77,7 +82,7 @@ impl Session {
 
     /// An operator's answers where two inputs have a value (`GrB_eWiseMult`).
     pub fn ewise_mult(&mut self, out: &Out<Obj>, op: OpName, a: Obj, b: Obj) -> Result<(), Status>
-        ensures { IsPerformed self.old self.new (Call.Operate out.now
+        ensures { IsPerformed self.old self.new (Operate out.now
             (Operation.OfTwo (TwoInputs.Combine Positions.Intersection op) a b)) result }
     {
         let positions = Positions::Intersection;
@@ -87,7 +92,7 @@ impl Session {
     /// A function of each value (`GrB_apply`).
     pub fn apply(&mut self, out: &Out<Obj>, function: FunctionName, a: Obj) -> Result<(), Status>
         ensures { IsPerformed self.old self.new
-            (Call.Operate out.now (Operation.OfOne (OneInput.Apply function) a)) result }
+            (Operate out.now (Operation.OfOne (OneInput.Apply function) a)) result }
     {
         self.of_one(out, OneInput::Apply(function), a)
     }
@@ -101,7 +106,7 @@ impl Session {
         a: Obj,
     ) -> Result<(), Status>
         ensures { IsPerformed self.old self.new
-            (Call.Operate out.now (Operation.OfOne (OneInput.Apply (FunctionName.First op value)) a)) result }
+            (Operate out.now (Operation.OfOne (OneInput.Apply (FunctionName.First op value)) a)) result }
     {
         self.apply(out, FunctionName::First { op, value }, a)
     }
@@ -115,7 +120,7 @@ impl Session {
         value: i128,
     ) -> Result<(), Status>
         ensures { IsPerformed self.old self.new
-            (Call.Operate out.now (Operation.OfOne (OneInput.Apply (FunctionName.Second op value)) a)) result }
+            (Operate out.now (Operation.OfOne (OneInput.Apply (FunctionName.Second op value)) a)) result }
     {
         self.apply(out, FunctionName::Second { op, value }, a)
     }
@@ -130,7 +135,7 @@ impl Session {
         scalar: i128,
     ) -> Result<(), Status>
         ensures { IsPerformed self.old self.new
-            (Call.Operate out.now (Operation.OfOne (OneInput.Apply (FunctionName.Index op scalar)) a)) result }
+            (Operate out.now (Operation.OfOne (OneInput.Apply (FunctionName.Index op scalar)) a)) result }
     {
         self.apply(out, FunctionName::Index { op, scalar }, a)
     }
@@ -144,7 +149,7 @@ impl Session {
         scalar: i128,
     ) -> Result<(), Status>
         ensures { IsPerformed self.old self.new
-            (Call.Operate out.now (Operation.OfOne (OneInput.Select op scalar) a)) result }
+            (Operate out.now (Operation.OfOne (OneInput.Select op scalar) a)) result }
     {
         self.of_one(out, OneInput::Select { op, scalar }, a)
     }
@@ -152,7 +157,7 @@ impl Session {
     /// The sum of each row of a matrix, into a vector (`GrB_reduce`).
     pub fn reduce_rows(&mut self, out: &Out<Obj>, monoid: MonoidName, a: Obj) -> Result<(), Status>
         ensures { IsPerformed self.old self.new
-            (Call.Operate out.now (Operation.OfOne (OneInput.ReduceRows monoid) a)) result }
+            (Operate out.now (Operation.OfOne (OneInput.ReduceRows monoid) a)) result }
     {
         self.of_one(out, OneInput::ReduceRows(monoid), a)
     }
@@ -160,7 +165,7 @@ impl Session {
     /// Transposes a matrix (`GrB_transpose`).
     pub fn transpose(&mut self, out: &Out<Obj>, a: Obj) -> Result<(), Status>
         ensures { IsPerformed self.old self.new
-            (Call.Operate out.now (Operation.OfOne OneInput.Transpose a)) result }
+            (Operate out.now (Operation.OfOne OneInput.Transpose a)) result }
     {
         self.of_one(out, OneInput::Transpose, a)
     }
@@ -168,7 +173,7 @@ impl Session {
     /// The entries at lists of rows and columns, in the order of the lists (`GrB_extract`).
     pub fn extract(&mut self, out: &Out<Obj>, a: Obj, region: Region) -> Result<(), Status>
         ensures { IsPerformed self.old self.new
-            (Call.Operate out.now (Operation.OfOne (OneInput.Extract region) a)) result }
+            (Operate out.now (Operation.OfOne (OneInput.Extract region) a)) result }
     {
         self.of_one(out, OneInput::Extract(region), a)
     }
@@ -176,7 +181,7 @@ impl Session {
     /// Puts entries at lists of rows and columns of the output (`GrB_assign`).
     pub fn assign(&mut self, out: &Out<Obj>, a: Obj, region: Region) -> Result<(), Status>
         ensures { IsPerformed self.old self.new
-            (Call.Operate out.now (Operation.OfOne (OneInput.Assign region) a)) result }
+            (Operate out.now (Operation.OfOne (OneInput.Assign region) a)) result }
     {
         self.of_one(out, OneInput::Assign(region), a)
     }
@@ -185,21 +190,21 @@ impl Session {
     /// constant).
     pub fn fill(&mut self, out: &Out<Obj>, value: i128, region: Region) -> Result<(), Status>
         ensures { IsPerformed self.old self.new
-            (Call.Operate out.now (Operation.Fill value region)) result }
+            (Operate out.now (Operation.Fill value region)) result }
     {
         self.operate(out, Operation::Fill { value, region })
     }
 
     /// Computes an operation on one input.
     fn of_one(&mut self, out: &Out<Obj>, computes: OneInput, a: Obj) -> Result<(), Status>
-        ensures { IsPerformed self.old self.new (Call.Operate out.now (Operation.OfOne computes a)) result }
+        ensures { IsPerformed self.old self.new (Operate out.now (Operation.OfOne computes a)) result }
     {
         self.operate(out, Operation::OfOne { computes, a })
     }
 
     /// Computes an operation on two inputs.
     fn of_two(&mut self, out: &Out<Obj>, computes: TwoInputs, a: Obj, b: Obj) -> Result<(), Status>
-        ensures { IsPerformed self.old self.new (Call.Operate out.now (Operation.OfTwo computes a b)) result }
+        ensures { IsPerformed self.old self.new (Operate out.now (Operation.OfTwo computes a b)) result }
     {
         self.operate(out, Operation::OfTwo { computes, a, b })
     }
@@ -207,7 +212,7 @@ impl Session {
     /// Computes an operation, and writes it into its output. The same object may be output, mask and
     /// input: all inputs are as they were before the call.
     pub fn operate(&mut self, out: &Out<Obj>, operation: Operation<Obj>) -> Result<(), Status>
-        ensures { IsPerformed self.old self.new (Call.Operate out.now operation) result }
+        ensures { IsPerformed self.old self.new (Operate out.now operation) result }
     {
         let store = self.result(out, operation)?;
         self.table.replace(out.c, store);
@@ -217,61 +222,68 @@ impl Session {
     /// What an operation leaves in its output.
     fn result(&mut self, out: &Out<Obj>, operation: Operation<Obj>) -> Result<Store, Status>
         ensures status { Ends (early_fault (count_in self.old)
-            (Call.Operate (renamed_out (known_in self.old) out.now)
+            (Operate (renamed_out (known_in self.old) out.now)
             (renamed_operation (known_in self.old) operation))) result }
         ensures left { IfOk result (IsLeft (environment_of self.old) out.now operation) }
         ensures kept { environment_of self.new ≡ environment_of self.old }
         ensures made { made_in self.new ≡ made_in self.old }
     {
         let objects = by_role(out, &operation);
-        let call = Call::Operate {
-            out: *out,
-            operation,
-        };
-        let Checked::Operation(recipe) = self.checked(&call)? else {
-            unreachable!()
-        };
+        let accepted = check_operate(self, out, operation)?;
         self.settle_all(&objects)?;
-        let store = self.evaluated(&recipe, &objects)?;
+        let store = self.evaluated(accepted, &objects)?;
         Ok(store)
     }
 
-    /// Does the edits that wait on objects. An error leaves them as they were.
+    /// Does the edits that wait on objects that have roles. An error leaves them as they were.
     fn settle_all(&mut self, objects: &Roles<Obj>) -> Result<(), NoMemory>
         ensures kept { environment_of self.new ≡ environment_of self.old }
         ensures made { made_in self.new ≡ made_in self.old }
-        ensures settled { OnOk result ((role : AnyRole) → IsSettledIn self.new (role_of objects.now role)) }
+        ensures settled { OnOk result ((role : AnyRole) → AreSettled self.new (role_of objects.now role)) }
     {
-        self.settle(objects.old)?;
-        self.settle(objects.mask)?;
-        self.settle(objects.first)?;
-        self.settle(objects.second)
+        self.settle_if(objects.old)?;
+        self.settle_if(objects.mask)?;
+        self.settle_if(objects.first)?;
+        self.settle_if(objects.second)
     }
 
-    /// What a recipe gives of the objects that take its roles, all rows at once.
-    fn evaluated(&self, recipe: &Recipe<'_>, objects: &Roles<Obj>) -> Result<Store, NoMemory>
-        requires known { (role : AnyRole) → known_in self.now (role_of objects.now role)
-            ≡ Some (role_of recipe.now.signatures role) }
-        requires settled { (role : AnyRole) → IsSettledIn self.now (role_of objects.now role) }
-        ensures { IfOk result (IsEvaluated (environment_of self.now) recipe.now objects.now) }
+    /// Does the edits that wait on an object, where there is one in a role.
+    fn settle_if(&mut self, object: Option<Obj>) -> Result<(), NoMemory>
+        ensures kept { environment_of self.new ≡ environment_of self.old }
+        ensures made { made_in self.new ≡ made_in self.old }
+        ensures settled { OnOk result (AreSettled self.new object) }
+        ensures still { OnOk result ((other : Option AnyObj) → AreSettled self.old other
+            → AreSettled self.new other) }
+    {
+        match object {
+            Some(object) => self.settle(object),
+            None => Ok(()),
+        }
+    }
+
+    /// What an accepted operation leaves of the objects that have its roles, all rows at once.
+    fn evaluated(&self, accepted: Accepted, objects: &Roles<Obj>) -> Result<Store, NoMemory>
+        requires known { (role : AnyRole) → option_map Some (known_by_role accepted.out accepted.operation role)
+            ≡ option_map (known_in self.now) (role_of objects.now role) }
+        requires settled { (role : AnyRole) → AreSettled self.now (role_of objects.now role) }
+        ensures { IfOk result (IsEvaluated (environment_of self.now) accepted objects.now) }
     {
         let stores = Roles {
-            old: self.store_of(objects.old),
-            mask: self.store_of(objects.mask),
-            first: self.store_of(objects.first),
-            second: self.store_of(objects.second),
+            old: self.store_if(objects.old),
+            mask: self.store_if(objects.mask),
+            first: self.store_if(objects.first),
+            second: self.store_if(objects.second),
         };
-        let rows = recipe.signatures.of(recipe.out.c).shape.rows();
-        let block = eval_piece(self.alloc(), recipe, &stores, 0..rows)?;
-        Ok(join(recipe, block))
+        evaluate(self.alloc(), accepted, &stores)
     }
 
-    /// The store of an object that is there, on which no edits wait.
-    fn store_of(&self, object: Obj) -> &Store
-        requires there { is_some ((environment_of self.now).find_object object) ≡ true }
-        requires settled { IsSettledIn self.now object }
-        ensures { IsStoreOf (environment_of self.now) object result.now }
+    /// The store of an object on which no edits wait, where there is one in a role.
+    fn store_if(&self, object: Option<Obj>) -> Option<&Store>
+        requires there { AreThere (environment_of self.now) object }
+        requires settled { AreSettled self.now object }
+        ensures { IsLentFor (environment_of self.now) object (option_map (λ store. store.now) result) }
     {
-        &self.settled(object).store
+        let object = object?;
+        Some(&self.settled(object).store)
     }
 }

@@ -17,8 +17,8 @@ use crate::reply::Reply;
 use crate::table::Table;
 use algebra::{BinaryOp, Domain, MonoidName, OpName};
 use calls::{
-    Act, Call, Checked, Obj, Place, Shape, Shapes, TupleList, check, check_build, check_create,
-    check_dup, check_place, check_reduce, check_resize, check_set, check_there,
+    Act, Call, Obj, Place, Shape, Shapes, TupleList, check_build, check_create, check_dup,
+    check_place, check_reduce, check_resize, check_set, check_there,
 };
 use elementwise::reduce_all;
 use model::{MOST_OBJECTS, NoMemory, Status};
@@ -60,7 +60,7 @@ impl Shapes for Session {
 }
 
 impl Session {
-    ghost use Rattle.calls.specs.Checks.{Decides, IsFoundOf, known_call};
+    ghost use Rattle.calls.specs.Checks.{Decides, known_call};
     ghost use Rattle.model.specs.Fault.{early_fault};
     ghost use Rattle.model.specs.Object.{IsObject};
     ghost use Rattle.session.specs.Objects.{object_of, stored_object};
@@ -82,14 +82,6 @@ impl Session {
     /// Where its objects take memory.
     pub(crate) fn alloc(&self) -> Global {
         self.alloc
-    }
-
-    /// What checks find of a call on the session's objects.
-    pub(crate) fn checked<'a>(&self, call: &'a Call<Obj, ()>) -> Result<Checked<'a>, Status>
-        ensures fault { Decides (early_fault (count_in self.now) (known_call (known_in self.now) call.now)) result }
-        ensures found { IfOk result (IsFoundOf (known_in self.now) call.now) }
-    {
-        check(call, self)
     }
 
     /// Makes an object without entries (`GrB_Matrix_new`, `GrB_Vector_new`). After 2^64 - 1 objects

@@ -1,5 +1,5 @@
 -- The edit is done last, inside the object, and its word is one of the domain.
-use Rattle.std.proofs.Common.{◌≡◌, rules, subst, sym}
+use Rattle.std.proofs.Common.{rules, subst, sym}
 use Rattle.model.specs.Object.{Object, cols_of, rows_of}
 use Rattle.patch.specs.Edits.{IsInside}
 use Rattle.session.proofs.HeldLaws.{pushed-inside, pushed-object}

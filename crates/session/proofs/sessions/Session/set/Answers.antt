@@ -1,19 +1,11 @@
 -- The place is inside the object, and the word that of the value in its domain, since the call was accepted.
-use Rattle.std.proofs.Common.{◌≡◌, ◌∙◌, ◌<◌, FitsSigned, None, Option, Some, arith, refl, rules, sym}
+use Rattle.std.proofs.Common.{◌<◌, FitsSigned, refl, rules}
 use Rattle.std.specs.Int.{w128}
-use Rattle.std.specs.Option.{option_map}
 use Rattle.std.proofs.lemmas.Int.{to_z-of_z}
 use Rattle.algebra.proofs.Casts.{IsWordOf-word_of}
-use Rattle.algebra.specs.Value.{IsWordOf, word_of}
-use Rattle.model.specs.declared.call.Act.TheVariants.{Set}
-use Rattle.model.specs.declared.call.Call.TheVariants.{On}
-use Rattle.calls.specs.Checks.{known_call}
-use Rattle.calls.specs.declared.obj.Obj.{Obj}
-use Rattle.model.specs.Fault.{early_fault}
-use Rattle.model.specs.Object.{cols_of, rows_of}
 use Rattle.model.specs.Run.{object_at}
 use Rattle.model.proofs.ObjectLaws.{inside-bounds}
-use Rattle.session.specs.Performed.{count_in, environment_of, known_in}
+use Rattle.session.specs.Performed.{count_in, environment_of}
 use Rattle.session.proofs.PerformedLaws.{performed-set}
 use Rattle.session.proofs.SessionLaws.{below-after, set-accepted, word-found}
 use Rattle.session.proofs.sessions.Session.set.Goals as goal

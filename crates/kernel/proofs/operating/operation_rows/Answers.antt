@@ -1,0 +1,27 @@
+-- Each number of inputs gives the rows of what the operation computes.
+use Rattle.std.proofs.Common.{rules}
+use Rattle.std.specs.Int.{w128}
+use Rattle.std.specs.Int.RustNames.{FitsSigned}
+use Rattle.std.proofs.lemmas.Int.{to_z-of_z}
+use Rattle.std.proofs.lemmas.Result.{IfOk-weaker}
+use Rattle.kernel.proofs.MaskLaws.{agrees-rows}
+use Rattle.model.specs.Operations.{operation}
+use Rattle.kernel.proofs.operating.operation_rows.Goals as goal
+
+pub returns-in-Fill : goal.returns-in-Fill
+unfolding operation
+returns-in-Fill c =
+    let fits : FitsSigned w128 c.in-Fill.value = search rules in
+    let rows = rw (c.wrapped.ensures, to_z-of_z w128 c.in-Fill.value fits) at c.filled_rows.ensures in
+    rw c.in-Fill.is (IfOk-weaker c.filled_rows.result _ _
+    (λ block has. agrees-rows c.args.mask c.args.range.start c.args.range.end _ _ block has) rows)
+
+pub returns-in-OfOne : goal.returns-in-OfOne
+unfolding operation
+returns-in-OfOne c =
+    rw c.in-OfOne.is (IfOk-weaker c.one_rows.result _ _
+    (λ block has. agrees-rows c.args.mask c.args.range.start c.args.range.end _ _ block has) c.one_rows.ensures)
+
+pub returns-in-OfTwo : goal.returns-in-OfTwo
+unfolding operation
+returns-in-OfTwo c = rw c.in-OfTwo.is c.two_rows.ensures

@@ -1,0 +1,24 @@
+-- What is computed is written back at the positions of the mask.
+use Rattle.std.proofs.Common.{◌∙◌, sym}
+use Rattle.std.proofs.lemmas.Result.{IfOk-weaker}
+use Rattle.kernel.specs.Spread.{computed_in, spread}
+use Rattle.kernel.specs.Tasks.{operation_of, out_of}
+use Rattle.kernel.proofs.Accepted.{straight-means}
+use Rattle.kernel.proofs.MaskLaws.{landed-spread, written-masked}
+use Rattle.model.specs.Operations.{is_written_by}
+use Rattle.store.specs.Stored.{block_content}
+use Rattle.kernel.proofs.task.task_rows.Goals as goal
+
+pub returns-clause-words : goal.returns-clause-words
+returns-clause-words c =
+    let task = c.args.task.now in
+    let out = out_of task in
+    let op = operation_of task in
+    let t = c.in_ok-t.t in
+    let rows = c.in_ok-t.ensures in
+    let given = rw (c.accumulator_of.ensures, rows.first_is, rows.past_is) at c.write_back.ensures.words in
+    IfOk-weaker c.write_back.result _ _
+    (λ block words i j low high. words i j low high
+    ∙ written-masked c.mask_of-mask.result out (block_content t) (spread out op) i j (c.mask_of-mask.ensures.set i j) (rows.words i j low high)
+    ∙ sym (straight-means out op task.straight i j ∙ landed-spread out (is_written_by out.c.shape op) (computed_in out op) i j))
+    given

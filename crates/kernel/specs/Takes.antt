@@ -1,0 +1,55 @@
+-- Stores that take the roles of an operation.
+use Rattle.std.specs.Prelude.{◌≡◌, ℕ, Bool, if◌then◌else◌, Option, Some, None}
+use Rattle.std.specs.Borrow.{Bor}
+use Rattle.std.specs.Option.{option_map, option_map_or}
+use Rattle.calls.specs.declared.role.Role.{Role}
+use Rattle.calls.specs.declared.role.Roles.{Roles}
+use Rattle.calls.specs.Recipes.{known_by_role, object_with}
+use Rattle.calls.specs.Roles.{role_of}
+use Rattle.model.specs.declared.call.Operation.{Operation}
+use Rattle.model.specs.declared.call.Out.{Out}
+use Rattle.model.specs.declared.shape.Signature.{Signature}
+use Rattle.model.specs.Object.{Content, IsObject, cols_of, no_content, rows_of, transposed_content}
+use Rattle.model.specs.Table.{transposed_if}
+use Rattle.store.specs.Stored.{Stored, content_of}
+
+-- a store is that of an object of which this is known
+pub record IsStoreOf (known : Signature) (stored : Stored) : Type 0 where
+  pub rows : stored.rows ≡ rows_of known.shape
+  pub cols : stored.cols ≡ cols_of known.shape
+  pub is_object : IsObject (object_with known (content_of stored))
+
+-- a role that is read has a store that fits it, and no other role has one
+abbrev pub Takes : Option Signature → Option Stored → Type 0
+Takes (Some known) (Some stored) = IsStoreOf known stored
+Takes None None = Unit {0}
+Takes known stored = ⊥
+
+-- the stores that are lent for roles
+abbrev pub lent_in : Roles (Bor Stored) → Role → Option Stored
+lent_in stores role = option_map (λ store. store.now) (role_of stores role)
+
+-- stores take the roles of an operation
+abbrev pub AreInputs : Out Signature → Operation Signature → Roles (Bor Stored) → Type 0
+AreInputs out operation stores = (role : Role) → Takes (known_by_role out operation role) (lent_in stores role)
+
+-- the map of a store; no store, no map
+abbrev pub map_in : Option Stored → Content
+map_in stored = option_map_or content_of stored no_content
+
+-- the maps that take the roles
+abbrev pub maps_in : Roles (Bor Stored) → Role → Content
+maps_in stores role = map_in (lent_in stores role)
+
+-- the store that is had of another, transposed where a flag says so
+abbrev pub IsTurned : Bool → Option Stored → Option Stored → Type 0
+IsTurned flag (Some old) (Some new) =
+    (new.rows ≡ (if flag then old.cols else old.rows)) × (new.cols ≡ (if flag then old.rows else old.cols))
+    × ((i j : ℕ) → content_of new i j ≡ transposed_if transposed_content flag (content_of old) i j)
+IsTurned flag None None = Unit {0}
+IsTurned flag old new = ⊥
+
+-- the store that was made, or the one that was there
+abbrev pub lent : Option Stored → Option Stored → Option Stored
+lent None store = store
+lent (Some made) store = Some made
