@@ -1,6 +1,8 @@
 //! The checks of calls, before anything is done.
-ghost use Rattle.std.specs.Prelude.{◌≡◌, IfOk, None, Some, false, if◌then◌else◌, nat_le};
-ghost use Rattle.std.specs.Option.{option_map};
+ghost use Rattle.std.specs.Prelude.{◌≡◌, IfOk, None, Some, false, if◌then◌else◌, nat_le, true};
+ghost use Rattle.std.specs.Option.{option_map, option_map_or};
+ghost use Rattle.algebra.specs.OperatorNames.{monoid_named, op_named};
+ghost use Rattle.algebra.specs.Operators.{offers};
 ghost use Rattle.algebra.specs.Value.{word_of};
 ghost use Rattle.calls.specs.Checks.{Decides, known_call};
 ghost use Rattle.model.specs.Fault.{early_fault};
@@ -8,7 +10,7 @@ ghost use Rattle.model.specs.Renamed.{renamed_operation, renamed_out};
 
 use crate::obj::{Obj, Shapes, Signatures};
 use crate::operation::check_operation;
-use algebra::{Domain, MonoidName, OpName, compatible};
+use algebra::{BinaryOp, Domain, Monoid, MonoidName, OpName, compatible};
 use model::{
     Act, Call, Lookup, MOST_OBJECTS, Operation, Out, Place, Shape, Signature, Status, TupleList,
     accumulator_serves,
@@ -37,13 +39,19 @@ fn check_act<S: Shapes>(shapes: &S, object: Obj, act: &Act) -> Result<(), Status
     match act {
         Act::Free | Act::Clear | Act::Nvals | Act::Print => check_there(shapes, object),
         Act::Resize(shape) => check_resize(shapes, object, *shape),
-        Act::Build { dup, tuples } => check_build(shapes, object, *dup, tuples),
+        Act::Build { dup, tuples } => {
+            check_build(shapes, object, *dup, tuples)?;
+            Ok(())
+        }
         Act::Set { place, value } => {
             check_set(shapes, object, *place, *value)?;
             Ok(())
         }
         Act::Remove(place) | Act::Get(place) => check_place(shapes, object, *place),
-        Act::Reduce(monoid) => check_reduce(shapes, object, *monoid),
+        Act::Reduce(monoid) => {
+            check_reduce(shapes, object, *monoid)?;
+            Ok(())
+        }
     }
 }
 
@@ -100,16 +108,17 @@ pub fn check_resize<S: Shapes>(shapes: &S, object: Obj, to: Shape) -> Result<(),
 }
 
 /// The checks of a build (`GrB_Matrix_build`, `GrB_Vector_build`), but for that of the entries that are
-/// there.
+/// there, and the operator that combines duplicates.
 #[tactic(auto, unfolding(model::specs::Fault::early_fault))]
 pub fn check_build<S: Shapes>(
     shapes: &S,
     object: Obj,
     dup: Option<OpName>,
     tuples: &TupleList,
-) -> Result<(), Status>
-    ensures { Decides (early_fault (S.count shapes.now)
+) -> Result<Option<BinaryOp>, Status>
+    ensures fault { Decides (early_fault (S.count shapes.now)
         (Call.On (S.known shapes.now object) (Act.Build dup tuples.now))) result }
+    ensures op { IfOk result (λ op. option_map op_named op ≡ dup) }
 {
     let Some(Signature { shape, domain }) = Signatures(shapes).find(object) else {
         return Err(Status::UninitializedObject);
@@ -126,7 +135,18 @@ pub fn check_build<S: Shapes>(
     if !tuples.are_values_of(domain) || (dup.is_none() && !tuples.are_single()) {
         return Err(Status::InvalidValue);
     }
-    Ok(())
+    Ok(resolved(dup))
+}
+
+/// The operator of a name, which is offered.
+fn resolved(name: Option<OpName>) -> Option<BinaryOp>
+    requires { option_map_or (λ op. offers op.kind op.domain) name true ≡ true }
+    ensures { option_map op_named result ≡ name }
+{
+    match name?.resolve() {
+        Some(op) => Some(op),
+        None => unreachable!(),
+    }
 }
 
 /// The checks of an entry that is set (`GrB_Matrix_setElement`, `GrB_Vector_setElement`), and the word of its value.
@@ -188,22 +208,21 @@ pub fn check_there<S: Shapes>(shapes: &S, object: Obj) -> Result<(), Status>
     }
 }
 
-/// The checks of the sum of all values (`GrB_reduce`).
+/// The checks of the sum of all values (`GrB_reduce`), and the monoid.
 #[tactic(auto, unfolding(model::specs::Fault::early_fault))]
-pub fn check_reduce<S: Shapes>(shapes: &S, object: Obj, monoid: MonoidName) -> Result<(), Status>
-    ensures { Decides (early_fault (S.count shapes.now)
-        (Call.On (S.known shapes.now object) (Act.Reduce monoid))) result }
+pub fn check_reduce<S: Shapes>(shapes: &S, object: Obj, name: MonoidName) -> Result<Monoid, Status>
+    ensures fault { Decides (early_fault (S.count shapes.now)
+        (Call.On (S.known shapes.now object) (Act.Reduce name))) result }
+    ensures monoid { IfOk result (λ monoid. monoid_named monoid ≡ name) }
 {
     let Some(Signature { domain, .. }) = Signatures(shapes).find(object) else {
         return Err(Status::UninitializedObject);
     };
-    if !monoid.is_offered() {
-        return Err(Status::NotImplemented);
-    }
-    if !compatible(domain, monoid.domain) {
+    let monoid = name.resolve().ok_or(Status::NotImplemented)?;
+    if !compatible(domain, name.domain) {
         return Err(Status::DomainMismatch);
     }
-    Ok(())
+    Ok(monoid)
 }
 
 /// The checks of an operation on objects by number.

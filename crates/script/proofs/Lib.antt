@@ -2,6 +2,7 @@ pub mod CreateLaws
 pub mod FreeLaws
 pub mod LoadLaws
 pub mod NameLaws
+pub mod PrintLaws
 pub mod ReplyLaws
 pub mod RunLaws
 pub mod TextLaws

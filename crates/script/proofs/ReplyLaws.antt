@@ -1,7 +1,7 @@
 -- What calls on names leave and answer, by what the session does.
 use Rattle.std.proofs.Common.{◌≡◌, ◌∙◌, ◌<◌, ◌≤◌, ◌+◌, ◌-◌, ◌^◌, ℕ, List, Bool, true, false, cond, Option, Some, None, is_some, Result, Ok, Err, arith, refl, sym, ap, inl, inr}
 use Rattle.std.specs.Prelude.{IfOk, OnErr, OnOk}
-use Rattle.std.specs.Option.{option_map, option_map_or}
+use Rattle.std.specs.Option.{option_map}
 use Rattle.std.specs.BTreeMap.{get_by_text}
 use Rattle.std.specs.Str.{bytes_eq}
 use Rattle.std.proofs.lemmas.Bool.{true≢false}
@@ -17,16 +17,15 @@ use Rattle.model.specs.Grammar.{Name}
 use Rattle.model.specs.Object.{Object}
 use Rattle.model.specs.Renamed.{found, renamed}
 use Rattle.model.specs.Run.{Environment, data_lines_of, effect, object_at, on_objects, seen}
-use Rattle.model.specs.Text.{canonical_lines}
 use Rattle.model.proofs.RenamedLaws.{found_fewer, renamed_twice}
 use Rattle.script.proofs.NameLaws.{AreDistinct, data_renamed, effect-unmade, fault-along, fault-missing, left_renamed, names_renamed, on_objects-along, place-along, put, put_by, put_renamed, put_to}
 use Rattle.script.specs.declared.environment.Environment.{Environment as Objects}
-use Rattle.script.specs.Named.{Asks, HasLines, environment_in, changes_names, number_in, reply_lines, through}
+use Rattle.script.specs.Named.{HasLines, asks_text, changes_names, environment_in, number_in, reply_lines, through}
 use Rattle.script.specs.Replied.{IsAnswered, IsReplied}
 use Rattle.session.specs.declared.reply.Reply.{Reply}
-use Rattle.session.specs.declared.reply.Reply.TheVariants.{Done, Made, Value, Count, Text}
+use Rattle.session.specs.declared.reply.Reply.TheVariants.{Done, Made, Value, Count}
 use Rattle.session.specs.declared.sessions.Session.{Session}
-use Rattle.session.specs.Performed.{Answers, Ends, IsPerformed, environment_of, made_after, made_in, numbered}
+use Rattle.session.specs.Performed.{Answers, Ends, IsPerformed, environment_of, made_after, made_in, next_object, numbered}
 use Rattle.session.specs.Tables.{same_object}
 
 -- ---- the session's call
@@ -37,6 +36,20 @@ pub known_along : (number : Name → Option Obj) (session : Session) (call : Cal
 known_along number session call r known e =
     names_renamed (λ (o : Obj). o) (λ (n : Name). record { 0 = session.next }) r
     ∙ sym (names_renamed Some (λ n. n) r) ∙ ap changes_names e ∙ names_renamed number (λ n. n) call ∙ known
+
+text_renamed : {K L A B : Type 0} (f : K → L) (k : A → B) (call : Call K A)
+    → asks_text (renamed f k call) ≡ asks_text call
+text_renamed f k (Create name domain shape) = refl
+text_renamed f k (Dup name o) = refl
+text_renamed f k (On o act) = refl
+text_renamed f k (Operate out operation) = refl
+
+textless_along : (number : Name → Option Obj) (session : Session) (call : Call Name Name) (r : Call Obj Name)
+    → asks_text call ≡ false → renamed Some (λ n. n) r ≡ renamed number (λ n. n) call
+    → asks_text (numbered session r) ≡ false
+textless_along number session call r textless e =
+    text_renamed (λ (o : Obj). o) (λ (n : Name). next_object session) r
+    ∙ sym (text_renamed Some (λ n. n) r) ∙ ap asks_text e ∙ text_renamed number (λ n. n) call ∙ textless
 
 -- the objects of the call by name and by number
 objects_along : {X : Type 0} (what : Call Object Name → X) (same : Call Object Obj → X)
@@ -108,42 +121,31 @@ stays senv new call q known is h =
 
 -- ---- what it answers
 
-lines_answered : (senv new : Environment Obj) (call : Call Obj Obj) (reply : Reply) → changes_names call ≡ false
-    → new ≡ effect same_object senv call → Answers senv call reply
-    → reply_lines new reply ≡ data_lines_of (on_objects senv call)
-unfolding data_lines_of effect
-lines_answered senv new (Create name domain shape) reply known is answers = absurd (true≢false known)
-lines_answered senv new (Dup name o) reply known is answers = absurd (true≢false known)
-lines_answered senv new (On o Free) reply known is answers = absurd (true≢false known)
-lines_answered senv new (On o Clear) Done known is answers = refl
-lines_answered senv new (On o Clear) _ known is answers = absurd answers
-lines_answered senv new (On o (Resize shape)) Done known is answers = refl
-lines_answered senv new (On o (Resize shape)) _ known is answers = absurd answers
-lines_answered senv new (On o (Build dup tuples)) Done known is answers = refl
-lines_answered senv new (On o (Build dup tuples)) _ known is answers = absurd answers
-lines_answered senv new (On o (Remove p)) Done known is answers = refl
-lines_answered senv new (On o (Remove p)) _ known is answers = absurd answers
-lines_answered senv new (On o (Set p value)) Done known is answers = refl
-lines_answered senv new (On o (Set p value)) _ known is answers = absurd answers
-lines_answered senv new (On o (Get p)) (Value value) known is (word, stored, same) = rw (same, stored) refl
-lines_answered senv new (On o (Get p)) _ known is answers = absurd answers
-lines_answered senv new (On o Nvals) (Count number) known is answers = rw answers refl
-lines_answered senv new (On o Nvals) _ known is answers = absurd answers
-lines_answered senv new (On o (Reduce monoid)) (Value value) known is answers = rw answers refl
-lines_answered senv new (On o (Reduce monoid)) _ known is answers = absurd answers
-lines_answered senv new (On o Print) (Text asked) known is answers = ap (λ (env : Environment Obj). canonical_lines (object_at env asked)) is ∙ rw answers.0 refl
-lines_answered senv new (On o Print) _ known is answers = absurd answers
-lines_answered senv new (Operate out operation) Done known is answers = refl
-lines_answered senv new (Operate out operation) _ known is answers = absurd answers
-
-asks_answered : (senv new : Environment Obj) (call : Call Obj Obj) (reply : Reply) → changes_names call ≡ false
-    → new ≡ effect same_object senv call → Answers senv call reply → Asks new reply
-asks_answered senv new call Done known is answers = tt
-asks_answered senv new call (Made o) known is answers = tt
-asks_answered senv new call (Value value) known is answers = tt
-asks_answered senv new call (Count number) known is answers = tt
-asks_answered senv new (On o Print) (Text asked) known is answers = stays senv new (On o Print) asked known is (rw answers.0 answers.1)
-asks_answered senv new _ (Text asked) known is answers = absurd answers
+lines_answered : (senv : Environment Obj) (call : Call Obj Obj) (reply : Reply) → changes_names call ≡ false
+    → asks_text call ≡ false → Answers senv call reply → reply_lines reply ≡ data_lines_of (on_objects senv call)
+unfolding data_lines_of
+lines_answered senv (Create name domain shape) reply known textless answers = absurd (true≢false known)
+lines_answered senv (Dup name o) reply known textless answers = absurd (true≢false known)
+lines_answered senv (On o Free) reply known textless answers = absurd (true≢false known)
+lines_answered senv (On o Clear) Done known textless answers = refl
+lines_answered senv (On o Clear) _ known textless answers = absurd answers
+lines_answered senv (On o (Resize shape)) Done known textless answers = refl
+lines_answered senv (On o (Resize shape)) _ known textless answers = absurd answers
+lines_answered senv (On o (Build dup tuples)) Done known textless answers = refl
+lines_answered senv (On o (Build dup tuples)) _ known textless answers = absurd answers
+lines_answered senv (On o (Remove p)) Done known textless answers = refl
+lines_answered senv (On o (Remove p)) _ known textless answers = absurd answers
+lines_answered senv (On o (Set p value)) Done known textless answers = refl
+lines_answered senv (On o (Set p value)) _ known textless answers = absurd answers
+lines_answered senv (On o (Get p)) (Value value) known textless (word, stored, same) = rw (same, stored) refl
+lines_answered senv (On o (Get p)) _ known textless answers = absurd answers
+lines_answered senv (On o Nvals) (Count number) known textless answers = rw answers refl
+lines_answered senv (On o Nvals) _ known textless answers = absurd answers
+lines_answered senv (On o (Reduce monoid)) (Value value) known textless answers = rw answers refl
+lines_answered senv (On o (Reduce monoid)) _ known textless answers = absurd answers
+lines_answered senv (On o Print) reply known textless answers = absurd (true≢false textless)
+lines_answered senv (Operate out operation) Done known textless answers = refl
+lines_answered senv (Operate out operation) _ known textless answers = absurd answers
 
 reads_answered : (senv new : Environment Obj) (call : Call Obj Obj) (reply : Reply)
     → new ≡ effect same_object senv call → Answers senv call reply → HasLines reply → new ≡ senv
@@ -157,7 +159,7 @@ reads_answered senv new _ (Made o) is answers has = absurd has
 reads_answered senv new _ _ is answers has = absurd answers
 
 -- a call makes one object at most
-made_after-most : {T : Type 0} (old : Session) (result : Result T Status) (call : Call Obj Obj)
+pub made_after-most : {T : Type 0} (old : Session) (result : Result T Status) (call : Call Obj Obj)
     → made_after old result call ≤ made_in old + 1
 made_after-most old (Err s) call = omega arith
 made_after-most old (Ok x) (Create name domain shape) = omega arith
@@ -168,27 +170,27 @@ made_after-most old (Ok x) (Operate out operation) = omega arith
 -- ---- together
 
 pub replied : (old new : Objects) (call : Call Name Name) (r : Call Obj Name) (result : Result Reply Status)
-    → made_in old.session < 2 ^ 64 - 1 → changes_names call ≡ false
+    → made_in old.session < 2 ^ 64 - 1 → changes_names call ≡ false → asks_text call ≡ false
     → AreDistinct (number_in old) → new.numbers ≡ old.numbers
     → renamed Some (λ n. n) r ≡ renamed (number_in old) (λ n. n) call
     → IsPerformed old.session new.session (numbered old.session r) result
     → IfOk result (Answers (environment_of old.session) (numbered old.session r)) → IsReplied old new call result
-replied old new call r (Ok reply) small known distinct same e done answers =
+replied old new call r (Ok reply) small known textless distinct same e done answers =
     let number = number_in old in
     let r' = numbered old.session r in
     let known' = known_along number old.session call r known e in
+    let textless' = textless_along number old.session call r textless e in
     let is : environment_in new ≡ through number (environment_of new.session) = ap (λ numbers. through (λ name. get_by_text numbers name) (environment_of new.session)) same in
     record {
       status = fault-along number old.session call r small known e ∙ done.status;
       effect = is ∙ effect-along number old.session (environment_of new.session) call r known distinct e done.effect;
       kept = tt;
       made = rw done.made (made_after-most {T = Reply} old.session (Ok reply) (numbered old.session r));
-      lines = lines_answered (environment_of old.session) (environment_of new.session) r' reply known' done.effect answers
+      lines = lines_answered (environment_of old.session) r' reply known' textless' answers
           ∙ sym (objects_along data_lines_of data_lines_of data_renamed number old.session call r e);
-      asks = asks_answered (environment_of old.session) (environment_of new.session) r' reply known' done.effect answers;
       reads = λ has. is ∙ ap (through number) (reads_answered (environment_of old.session) (environment_of new.session) r' reply done.effect answers has);
     }
-replied old new call r (Err s) small known distinct same e done answers =
+replied old new call r (Err s) small known textless distinct same e done answers =
     let number = number_in old in
     let is : environment_in new ≡ through number (environment_of new.session) = ap (λ numbers. through (λ name. get_by_text numbers name) (environment_of new.session)) same in
     record {
@@ -197,20 +199,19 @@ replied old new call r (Err s) small known distinct same e done answers =
       kept = is ∙ ap (through number) done.kept;
       made = rw done.made (made_after-most {T = Reply} old.session (Err s) (numbered old.session r));
       lines = tt;
-      asks = tt;
       reads = tt;
     }
 
 -- ---- the table of names after a call
 
 -- each name stands for an object still, whether or not the call was accepted
-pub stays_there : (number : Name → Option Obj) (session new : Session) (call : Call Obj Obj)
-    (result : Result Reply Status) → changes_names call ≡ false
+pub stays_there : {T : Type 0} (number : Name → Option Obj) (session new : Session) (call : Call Obj Obj)
+    (result : Result T Status) → changes_names call ≡ false
     → ((name : Name) (object : Obj) → number name ≡ Some object → is_some ((environment_of session).find_object object) ≡ true)
     → IsPerformed session new call result
     → (name : Name) (object : Obj) → number name ≡ Some object
     → is_some ((environment_of new).find_object object) ≡ true
-stays_there number session new call (Ok reply) known there done name object is =
+stays_there number session new call (Ok x) known there done name object is =
     stays (environment_of session) (environment_of new) call object known done.effect (there name object is)
 stays_there number session new call (Err s) known there done name object is =
     ap (λ (env : Environment Obj). is_some (env.find_object object)) done.kept ∙ there name object is
@@ -224,7 +225,6 @@ refused old new call s fault same = record {
   kept = ap environment_in same;
   made = rw (ap (λ (n : Objects). made_in n.session) same) (omega arith);
   lines = tt;
-  asks = tt;
   reads = tt;
 }
 
@@ -258,14 +258,15 @@ numbered_again now session r = renamed_twice (λ (o : Obj). o) (λ (o : Obj). o)
 
 pub replied_named : {X : Type 0} (now : X → Name) (old new : Objects) (call : Call X X) (r : Call Obj X)
     (result : Result Reply Status) → made_in old.session < 2 ^ 64 - 1 → changes_names call ≡ false
-    → AreDistinct (number_in old) → new.numbers ≡ old.numbers
+    → asks_text call ≡ false → AreDistinct (number_in old) → new.numbers ≡ old.numbers
     → renamed Some (λ x. x) r ≡ renamed (λ x. number_in old (now x)) (λ x. x) call
     → IsPerformed old.session new.session (numbered old.session r) result
     → IfOk result (Answers (environment_of old.session) (numbered old.session r))
     → IsReplied old new (renamed now now call) result
-replied_named now old new call r result small known distinct same e done answers =
+replied_named now old new call r result small known textless distinct same e done answers =
     let own = numbered_again now old.session r in
-    replied old new (renamed now now call) (renamed (λ o. o) now r) result small (names_renamed now now call ∙ known) distinct same (named_again now (number_in old) call r e)
+    replied old new (renamed now now call) (renamed (λ o. o) now r) result small (names_renamed now now call ∙ known)
+    (text_renamed now now call ∙ textless) distinct same (named_again now (number_in old) call r e)
     (rw own done) (rw own answers)
 
 pub known_named : {X : Type 0} (now : X → Name) (number : Name → Option Obj) (session : Session) (call : Call X X)

@@ -1,17 +1,16 @@
 -- The objects of a run by their names, and how calls on them end.
-use Rattle.std.specs.Prelude.{ℕ, ◌≡◌, Bool, true, false, List, [], ◌∷◌, decimal, is_some, Option}
+use Rattle.std.specs.Prelude.{ℕ, Bool, true, false, List, [], ◌∷◌, decimal, Option}
 use Rattle.std.specs.BTreeMap.{get_by_text}
 use Rattle.std.specs.Fmt.{signed_decimal}
 use Rattle.std.specs.Option.{option_and_then}
 use Rattle.calls.specs.declared.obj.Obj.{Obj}
 use Rattle.model.specs.declared.call.Act.{Act}
-use Rattle.model.specs.declared.call.Act.TheVariants.{Free}
+use Rattle.model.specs.declared.call.Act.TheVariants.{Free, Print}
 use Rattle.model.specs.declared.call.Call.{Call}
 use Rattle.model.specs.declared.call.Call.TheVariants.{Create, Dup, On, Operate}
 use Rattle.model.specs.Grammar.{Name}
-use Rattle.model.specs.Run.{Environment, object_at}
+use Rattle.model.specs.Run.{Environment}
 use Rattle.model.specs.Runs.{State}
-use Rattle.model.specs.Text.{canonical_lines}
 use Rattle.session.specs.declared.reply.Reply.{Reply}
 use Rattle.session.specs.declared.reply.Reply.TheVariants as reply
 use Rattle.session.specs.Performed.{environment_of}
@@ -42,21 +41,24 @@ changes_names (Dup name object) = true
 changes_names (On object act) = is_free act
 changes_names (Operate out operation) = false
 
+-- the call asks for the text of an object
+abbrev pub is_print : Act → Bool
+is_print Print = true
+is_print _ = false
+
+abbrev pub asks_text : {K N : Type 0} → Call K N → Bool
+asks_text (On object act) = is_print act
+asks_text _ = false
+
 -- the data lines of a reply
-abbrev pub reply_lines : Environment Obj → Reply → List (List ℕ)
-reply_lines env reply.Done = []
-reply_lines env (reply.Made object) = []
-reply_lines env (reply.Value value) = signed_decimal value ∷ []
-reply_lines env (reply.Count number) = decimal number ∷ []
-reply_lines env (reply.Text object) = canonical_lines (object_at env object)
+abbrev pub reply_lines : Reply → List (List ℕ)
+reply_lines reply.Done = []
+reply_lines (reply.Made object) = []
+reply_lines (reply.Value value) = signed_decimal value ∷ []
+reply_lines (reply.Count number) = decimal number ∷ []
 
 -- the reply has data lines, for which there may be no memory
 abbrev pub HasLines : Reply → Type 0
 HasLines reply.Done = ⊥
 HasLines (reply.Made object) = ⊥
 HasLines _ = Unit {0}
-
--- the object whose text a reply asks for is there
-abbrev pub Asks : Environment Obj → Reply → Type 0
-Asks env (reply.Text object) = is_some (env.find_object object) ≡ true
-Asks env _ = Unit {0}

@@ -10,9 +10,9 @@ use Rattle.model.specs.Run as run
 use Rattle.model.specs.Run.{data_lines_of, on_objects, seen}
 use Rattle.model.specs.Text.{ended}
 use Rattle.script.specs.declared.environment.Environment.{Environment as Objects}
-use Rattle.script.specs.Named.{Asks, HasLines, environment_in, reply_lines}
+use Rattle.script.specs.Named.{HasLines, environment_in, reply_lines}
 use Rattle.session.specs.declared.reply.Reply.{Reply}
-use Rattle.session.specs.Performed.{Ends, environment_of, made_in}
+use Rattle.session.specs.Performed.{Ends, made_in}
 
 -- the call was done: how it ended, what it left, and that what it answers are the call's data lines
 pub record IsReplied (old new : Objects) (call : Call Name Name) (result : Result Reply Status) : Type 0 where
@@ -20,9 +20,7 @@ pub record IsReplied (old new : Objects) (call : Call Name Name) (result : Resul
   pub effect : OnOk result (environment_in new ≡ run.effect bytes_eq (environment_in old) call)
   pub kept : OnErr result (environment_in new ≡ environment_in old)
   pub made : made_in new.session ≤ made_in old.session + 1
-  pub lines : IfOk result (λ reply. reply_lines (environment_of new.session) reply
-      ≡ data_lines_of (on_objects (environment_in old) call))
-  pub asks : IfOk result (Asks (environment_of new.session))
+  pub lines : IfOk result (λ reply. reply_lines reply ≡ data_lines_of (on_objects (environment_in old) call))
   pub reads : IfOk result (λ reply. HasLines reply → environment_in new ≡ environment_in old)
 
 -- the same of a call whose data lines stand behind a text

@@ -13,6 +13,7 @@ ghost use Rattle.model.specs.Text.{ended};
 ghost use Rattle.session.specs.Performed.{Ends, environment_of, made_in};
 ghost use Rattle.session.specs.Tables.{same_object};
 
+use crate::printing::print;
 use crate::replies::write_reply;
 use algebra::Domain;
 use model::{Act, Call, Lookup, Shape, Status};
@@ -33,7 +34,7 @@ pub struct Environment {
 }
 
 impl Environment {
-    ghost use Rattle.script.specs.Named.{environment_in, changes_names};
+    ghost use Rattle.script.specs.Named.{asks_text, changes_names, environment_in};
     ghost use Rattle.script.specs.Replied.{IsAnswered, IsReplied};
 
     /// No objects. It takes no memory.
@@ -75,32 +76,46 @@ impl Environment {
     {
         match act {
             Act::Free => self.free(object),
+            Act::Print => self.print(object, text),
             act => self.perform_known(Call::On { object, act }, text),
         }
     }
 
-    /// Does a call on objects that are there, and writes the data lines of its answer.
+    /// Does a call on objects that are there, which asks for no text, and writes the data lines of its answer.
     fn perform_known(&mut self, call: Call<&str, &str>, text: &mut Vec<u8>) -> Result<(), Status>
         requires made { made_in self.old.session < 2 ^ 64 - 1 }
         requires known { changes_names call ≡ false }
+        requires textless { asks_text call ≡ false }
         ensures { IsAnswered self.old self.new (renamed (λ name. name.now) (λ name. name.now) call.entry)
             text.old.items text.new.items result }
     {
         let reply = self.reply(call)?;
-        write_reply(&mut self.session, reply, text)?;
+        write_reply(reply, text)?;
         Ok(())
     }
 
-    /// Does a call on objects that are there, and gives what it answers.
+    /// Does a call on objects that are there, which asks for no text, and gives what it answers.
     fn reply(&mut self, call: Call<&str, &str>) -> Result<Reply, Status>
         requires made { made_in self.old.session < 2 ^ 64 - 1 }
         requires known { changes_names call ≡ false }
+        requires textless { asks_text call ≡ false }
         ensures { IsReplied self.old self.new (renamed (λ name. name.now) (λ name. name.now) call.entry) result }
     {
         let Some(call) = call.found(self) else {
             return Err(Status::UninitializedObject);
         };
         self.session.perform(call)
+    }
+
+    /// Writes the canonical text of the object of a name.
+    fn print(&mut self, name: &str, text: &mut Vec<u8>) -> Result<(), Status>
+        requires { made_in self.old.session < 2 ^ 64 - 1 }
+        ensures { IsAnswered self.old self.new (Call.On name.now Act.Print) text.old.items text.new.items result }
+    {
+        let Some(object) = self.find(name) else {
+            return Err(Status::UninitializedObject);
+        };
+        print(&mut self.session, object, text)
     }
 
     /// Makes an object under a new name.

@@ -3,6 +3,7 @@
 
 mod environment;
 mod loading;
+mod printing;
 mod replies;
 mod resolving;
 mod running;

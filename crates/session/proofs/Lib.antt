@@ -1,4 +1,5 @@
 pub mod HeldLaws
+pub mod ListingLaws
 pub mod PerformedLaws
 pub mod ResultLaws
 pub mod SessionLaws

@@ -201,9 +201,17 @@ pub performed-nvals : {T : Type 0} (old new : Session) (o : Obj) (x : T) → ear
 unfolding effect
 performed-nvals old new o x accepted kept made = performed old new (On o Nvals) x (no_late_act _ _ Nvals (λ x. refl) accepted) kept made
 
-pub performed-print : {T : Type 0} (session : Session) (o : Obj) (x : T) → early_fault (count_in session) (known_call {N = Obj} (known_in session) (On o Print)) ≡ None → IsPerformed session session (On o Print) (Ok x)
+pub performed-print : {T : Type 0} (old new : Session) (o : Obj) (x : T)
+    → early_fault (count_in old) (known_call {N = Obj} (known_in old) (On o Print)) ≡ None
+    → environment_of new ≡ environment_of old → made_in new ≡ made_in old → IsPerformed old new (On o Print) (Ok x)
 unfolding effect
-performed-print session o x accepted = performed session session (On o Print) x (no_late_act _ _ Print (λ x. refl) accepted) refl refl
+performed-print old new o x accepted kept made = performed old new (On o Print) x (no_late_act _ _ Print (λ x. refl) accepted) kept made
+
+-- ..whatever it answers
+pub performed-again : {T U : Type 0} (old new : Session) (o : Obj) (x : T) (y : U)
+    → IsPerformed old new (On o Print) (Ok x) → IsPerformed old new (On o Print) (Ok y)
+performed-again old new o x y done =
+    record { status = done.status; effect = done.effect; kept = tt; made = done.made }
 
 pub performed-reduce : {T : Type 0} (old new : Session) (o : Obj) (monoid : MonoidName) (x : T) → early_fault (count_in old) (known_call {N = Obj} (known_in old) (On o (Reduce monoid))) ≡ None
     → environment_of new ≡ environment_of old → made_in new ≡ made_in old → IsPerformed old new (On o (Reduce monoid)) (Ok x)

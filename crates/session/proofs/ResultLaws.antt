@@ -26,7 +26,9 @@ use Rattle.model.specs.Run.{Environment, no_object, object_at}
 use Rattle.model.proofs.ObjectLaws.{objects_equal}
 use Rattle.model.proofs.RenamedLaws.{Agrees, some_out}
 use Rattle.model.proofs.StoredLaws.{sum_in-stored}
-use Rattle.session.specs.Results.{AreThere, IsEvaluated, IsLeft, IsLentFor, maps_at}
+use Rattle.session.specs.declared.held.Held.{Held}
+use Rattle.session.specs.Objects.{stored_object}
+use Rattle.session.specs.Results.{AreThere, IsEvaluated, IsLeft, IsLentFor, IsStoreOf, maps_at}
 use Rattle.store.specs.Stored.{Stored, content_of}
 
 pub each_role : (P : Role → Type 0) → P Old → P Mask → P First → P Second → (role : Role) → P role
@@ -43,6 +45,17 @@ signature_known (Some o) s is = cc
 pub known_there : (o : Option Object) (s : Signature) → option_map signature_of o ≡ Some s → is_some o ≡ true
 known_there None s is = absurd (cc)
 known_there (Some o) s is = refl
+
+-- an object's store, where no edits wait on it
+pub store-found : (env : Environment Obj) (object : Obj) (held : Held)
+    → env.find_object object ≡ Some (stored_object held) → IsObject (stored_object held)
+    → IsStoreOf env object held.store
+store-found env object held found is = record {
+  rows = rw found held.rows;
+  cols = rw found held.cols;
+  content = λ i j. rw found refl;
+  is_object = rw found is;
+}
 
 module _ (env : Environment Obj) where
   abbrev pub known : Obj → Option Signature

@@ -6,8 +6,8 @@ use Rattle.std.proofs.lemmas.Bool.{and_parts, cases_Bool, eqb-true}
 use Rattle.algebra.specs.declared.domain.Domain.{Domain}
 use Rattle.algebra.specs.declared.operator_names.MonoidName.{MonoidName}
 use Rattle.algebra.specs.declared.operator_names.OpName.{OpName}
-use Rattle.algebra.specs.Operators.{answer_domain, combines_by, offers}
-use Rattle.algebra.specs.Value.{are_compatible, is_value_of, same_domain, word_of}
+use Rattle.algebra.specs.Operators.{combines_by, offers}
+use Rattle.algebra.specs.Value.{are_compatible, is_value_of, word_of}
 use Rattle.calls.specs.Checks.{Decides}
 use Rattle.calls.specs.declared.obj.Obj.{Obj}
 use Rattle.model.specs.declared.call.Act.{Act}
@@ -173,12 +173,6 @@ build-accepted count None dup tuples h = absurd (cc)
 build-accepted count (Some o) dup tuples h =
     let all = builds (are_of_kind o.shape tuples) (option_map_or (accumulates o.domain) dup true) (are_inside o.shape tuples) (are_values_of o.domain tuples && (is_some dup || are_single tuples)) h in
     (refl, record { joins = all.0; inside = all.1; values = (and_parts (are_values_of o.domain tuples) (is_some dup || are_single tuples) all.2).0 })
-
--- the operator of an accepted build is offered
-pub dup-offered : (domain : Domain) (dup : Option OpName) → option_map_or (accumulates domain) dup true ≡ true
-    → option_map_or (λ op. offers op.kind op.domain) dup true ≡ true
-dup-offered domain None h = refl
-dup-offered domain (Some op) h = (and_parts (offers op.kind op.domain) (same_domain op.domain domain) (and_parts (offers op.kind op.domain && same_domain op.domain domain) (same_domain (answer_domain op.kind op.domain) domain) h).0).0
 
 pub create-accepted : (count : ℕ) (domain : Domain) (shape : Shape)
     → early_fault count (Create false domain shape) ≡ None → nat_le MOST_OBJECTS count ≡ false

@@ -1,3 +1,5 @@
+pub mod Lending
+pub mod Listed
 pub mod Objects
 pub mod Performed
 pub mod Results

@@ -1,6 +1,6 @@
 -- How calls on a session end, and what they answer and leave.
 use Rattle.std.specs.Prelude.{ℕ, ◌+◌, ◌-◌, ◌^◌, ◌==◌, ◌≡◌, ◌⊎◌, if◌then◌else◌, length, None, OnErr, OnOk, Option}
-use Rattle.std.specs.Prelude.{Some, Result, Ok, Err, is_some, true}
+use Rattle.std.specs.Prelude.{Some, Result, Ok, Err}
 use Rattle.std.specs.Option.{IfSome, option_map}
 use Rattle.algebra.specs.Value.{value_of}
 use Rattle.calls.specs.Checks.{known_call}
@@ -21,7 +21,7 @@ use Rattle.model.specs.Renamed.{renamed}
 use Rattle.model.specs.Run as run
 use Rattle.model.specs.Run.{Environment, object_at}
 use Rattle.session.specs.declared.reply.Reply.{Reply}
-use Rattle.session.specs.declared.reply.Reply.TheVariants.{Done, Made, Value, Count, Text}
+use Rattle.session.specs.declared.reply.Reply.TheVariants.{Done, Made, Value, Count}
 use Rattle.session.specs.declared.sessions.Session.{Session}
 use Rattle.session.specs.Tables.{IsSettled, environment_in, same_object}
 
@@ -72,13 +72,13 @@ AnswersOn o (Resize shape) Done = Unit {0}
 AnswersOn o (Build dup tuples) Done = Unit {0}
 AnswersOn o (Set place value) Done = Unit {0}
 AnswersOn o (Remove place) Done = Unit {0}
+AnswersOn o Print Done = Unit {0}
 AnswersOn o act reply = ⊥
 
 -- what a call answers
 abbrev pub Answers : Environment Obj → Call Obj Obj → Reply → Type 0
 Answers env (Create name domain shape) (Made object) = object ≡ name
 Answers env (Dup name object) (Made made) = made ≡ name
-Answers env (On object Print) (Text asked) = (asked ≡ object) × (is_some (env.find_object object) ≡ true)
 Answers env (On object act) reply = AnswersOn (object_at env object) act reply
 Answers env (Operate out operation) Done = Unit {0}
 Answers env call reply = ⊥

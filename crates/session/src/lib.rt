@@ -2,6 +2,8 @@
 #![tactic(auto)]
 
 mod held;
+mod lending;
+mod listing;
 mod operating;
 mod performing;
 mod reply;
@@ -11,6 +13,5 @@ mod table;
 pub use calls::{
     Act, Call, Desc, Obj, OneInput, Operation, Out, Place, Positions, Shape, TwoInputs,
 };
-pub use held::Held;
 pub use reply::Reply;
 pub use sessions::Session;

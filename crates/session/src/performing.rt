@@ -36,10 +36,7 @@ impl Session {
             Act::Remove(place) => done(self.remove(object, place)),
             Act::Get(place) => Ok(Reply::Value(self.get(object, place)?)),
             Act::Nvals => Ok(Reply::Count(self.nvals(object)?)),
-            Act::Print => {
-                self.print(object)?;
-                Ok(Reply::Text(object))
-            }
+            Act::Print => done(self.finish(object)),
             Act::Reduce(monoid) => Ok(Reply::Value(self.reduce(object, monoid)?)),
         }
     }

@@ -11,6 +11,4 @@ pub enum Reply {
     Value(i128),
     /// The number of entries.
     Count(u64),
-    /// The object whose text is asked for.
-    Text(Obj),
 }

@@ -3,9 +3,6 @@ ghost use Rattle.std.specs.Prelude.{◌≡◌, ◌==◌, ◌+◌, ◌-◌, ◌^�
 ghost use Rattle.std.specs.Prelude.{◌≤◌, false, is_some, true};
 ghost use Rattle.std.specs.List.{All};
 ghost use Rattle.calls.specs.declared.obj.Obj.{Obj as Object};
-ghost use Rattle.std.specs.Option.{option_map, option_map_or};
-ghost use Rattle.algebra.specs.OperatorNames.{op_named};
-ghost use Rattle.algebra.specs.Operators.{offers};
 ghost use Rattle.algebra.specs.Value.{IsWordOf, is_built_in};
 ghost use Rattle.model.specs.Entries.{IsInside};
 ghost use Rattle.model.specs.MatrixMarket.{object_read};
@@ -15,7 +12,7 @@ ghost use Rattle.session.specs.Tables.{environment_in, same_object};
 use crate::held::Held;
 use crate::reply::Reply;
 use crate::table::Table;
-use algebra::{BinaryOp, Domain, MonoidName, OpName};
+use algebra::{Domain, MonoidName, OpName};
 use calls::{
     Act, Call, Obj, Place, Shape, Shapes, TupleList, check_build, check_create, check_dup,
     check_place, check_reduce, check_resize, check_set, check_there,
@@ -182,13 +179,13 @@ impl Session {
     ) -> Result<(), Status>
         ensures { IsPerformed self.old self.new (Call.On object (Act.Build dup tuples)) result }
     {
-        check_build(self, object, dup, &tuples)?;
+        let op = check_build(self, object, dup, &tuples)?;
         self.settle(object)?;
         let held = self.settled(object);
         if held.store.nvals() > 0 {
             return Err(Status::OutputNotEmpty);
         }
-        let store = build(self.alloc, held.shape, held.domain, resolved(dup), &tuples)?;
+        let store = build(self.alloc, held.shape, held.domain, op, &tuples)?;
         self.table.replace(object, store);
         Ok(())
     }
@@ -255,46 +252,21 @@ impl Session {
         Ok(held.store.nvals())
     }
 
-    /// Whether there is an object whose text can be asked for; its domain, shape and store are `held`'s. It takes no
-    /// memory.
-    pub fn print(&self, object: Obj) -> Result<(), Status>
-        ensures performed { IsPerformed self.now self.now (Call.On object Act.Print) result }
-        ensures decided { Decides (fault_in self.now (Call.On object Act.Print)) result }
-        ensures there { OnOk result (is_some ((environment_of self.now).find_object object) ≡ true) }
-    {
-        check_there(self, object)?;
-        Ok(())
-    }
-
     /// The sum of all values of an object by a monoid, the identity where it has none (`GrB_reduce`).
     pub fn reduce(&mut self, object: Obj, monoid: MonoidName) -> Result<i128, Status>
         ensures performed { IsPerformed self.old self.new (Call.On object (Act.Reduce monoid)) result }
         ensures value { IfOk result (λ value. Answers (environment_of self.old) (Call.On object (Act.Reduce monoid))
             (Reply.Value value)) }
     {
-        check_reduce(self, object, monoid)?;
+        let monoid = check_reduce(self, object, monoid)?;
         self.settle(object)?;
         let held = self.settled(object);
-        let Some(monoid) = monoid.resolve() else {
-            unreachable!()
-        };
         let sum = reduce_all(&held.store, monoid);
         Ok(monoid.op.domain.value_of(sum))
     }
 
-    /// The object of a number. Its store has all its entries once `settle` was called.
-    pub fn held(&self, object: Obj) -> Result<&Held, Status>
-        ensures there { MatchResult result
-            (λ held. (environment_of self.now).find_object object ≡ Some (object_of held.now))
-            (λ status. (status ≡ Status.UninitializedObject) × ((environment_of self.now).find_object object ≡ None)) }
-        ensures settled { IsSettledIn self.now object → IfOk result
-            (λ held. (environment_of self.now).find_object object ≡ Some (stored_object held.now)) }
-    {
-        self.table.find(object).ok_or(Status::UninitializedObject)
-    }
-
     /// Does the edits that wait on an object, if it is there. An error leaves all objects as they were.
-    pub fn settle(&mut self, object: Obj) -> Result<(), NoMemory>
+    pub(crate) fn settle(&mut self, object: Obj) -> Result<(), NoMemory>
         ensures kept { environment_of self.new ≡ environment_of self.old }
         ensures made { made_in self.new ≡ made_in self.old }
         ensures settled { OnOk result (IsSettledIn self.new object) }
@@ -333,16 +305,5 @@ impl Session {
         } else {
             Err(Status::UninitializedObject)
         }
-    }
-}
-
-/// The operator of a name, which is offered.
-fn resolved(dup: Option<OpName>) -> Option<BinaryOp>
-    requires { option_map_or (λ op. offers op.kind op.domain) dup true ≡ true }
-    ensures { option_map op_named result ≡ dup }
-{
-    match dup?.resolve() {
-        Some(op) => Some(op),
-        None => unreachable!(),
     }
 }

@@ -23,5 +23,5 @@ invariant_of-self c =
 pub returns : goal.returns
 returns c =
     let is = found_some (renamed (λ name. number_in c.args.self.now name.now) (λ name. name) c.args.call) c.in-Some.call c.in-Some.ensures in
-    replied_named (λ name. name.now) c.args.self.now _ c.args.call c.in-Some.call c.perform.result c.requires.made c.requires.known c.args.self.now.distinct refl is
+    replied_named (λ name. name.now) c.args.self.now _ c.args.call c.in-Some.call c.perform.result c.requires.made c.requires.known c.requires.textless c.args.self.now.distinct refl is
     c.perform.ensures.performed c.perform.ensures.answer

@@ -2,7 +2,6 @@
 use Rattle.std.proofs.Common.{◌≡◌, ◌∙◌, FitsSigned, Some, is_some, ap, rules, sym}
 use Rattle.std.specs.Int.{w128}
 use Rattle.std.specs.Option.{unwrap_or}
-use Rattle.std.proofs.lemmas.Bool.{true≢false}
 use Rattle.std.proofs.lemmas.Int.{to_z-of_z}
 use Rattle.algebra.specs.declared.operator_names.MonoidName.{MonoidName}
 use Rattle.algebra.specs.OperatorNames.{monoid_named}
@@ -20,12 +19,7 @@ use Rattle.session.proofs.sessions.Session.reduce.Goals as goal
 
 pub settled-held-requires-clause-there : goal.settled-held-requires-clause-there
 settled-held-requires-clause-there c =
-    ap (λ (env : Environment Obj). is_some (env.find_object c.args.object)) c.settle.ensures.kept ∙ (reduce-accepted (count_in c.args.self.now) _ c.args.monoid c.in_ok-check_reduce.ensures).0
-
-pub unreachable-requires : goal.unreachable-requires
-unreachable-requires c =
-    let accepted = reduce-accepted (count_in c.args.self.now) ((environment_of c.args.self.now).find_object c.args.object) c.args.monoid c.in_ok-check_reduce.ensures in
-    true≢false (sym accepted.1 ∙ c.in_default.ensures)
+    ap (λ (env : Environment Obj). is_some (env.find_object c.args.object)) c.settle.ensures.kept ∙ (reduce-accepted (count_in c.args.self.now) _ c.args.monoid c.in_ok-monoid.ensures.fault).0
 
 pub returns-clause-value : goal.returns-clause-value
 returns-clause-value c =
@@ -35,10 +29,10 @@ returns-clause-value c =
     let held = c.settled-held.result.now in
     let found : (environment_of session).find_object c.args.object ≡ Some (stored_object held) = ap (λ (env : Environment Obj). env.find_object c.args.object) (sym kept) ∙ c.settled-held.ensures.held in
     let find = (environment_of session).find_object c.args.object in
-    let accepted = reduce-accepted (count_in session) find c.args.monoid c.in_ok-check_reduce.ensures in
+    let accepted = reduce-accepted (count_in session) find c.args.monoid c.in_ok-monoid.ensures.fault in
     let o : Object = stored_object held in
-    let monoid = c.in-Some.monoid in
-    let named : monoid_named monoid ≡ c.args.monoid = c.in-Some.ensures.1 in
+    let monoid = c.in_ok-monoid.monoid in
+    let named : monoid_named monoid ≡ c.args.monoid = c.in_ok-monoid.ensures.monoid in
     let fits : FitsSigned w128 c.value_of.result = search rules in
     let offered = rw (sym named) at accepted.1 in
     let compatible = rw (found, sym named) at accepted.2 in
@@ -49,4 +43,4 @@ returns-clause-value c =
     ∙ ap (λ f. value_of c.args.monoid.domain (sum_in c.args.monoid (unwrap_or f no_object))) (sym found)
 
 pub returns-clause-performed : goal.returns-clause-performed
-returns-clause-performed c = performed-reduce c.args.self.now c.settle.new.self c.args.object c.args.monoid _ c.in_ok-check_reduce.ensures c.settle.ensures.kept c.settle.ensures.made
+returns-clause-performed c = performed-reduce c.args.self.now c.settle.new.self c.args.object c.args.monoid _ c.in_ok-monoid.ensures.fault c.settle.ensures.kept c.settle.ensures.made
