@@ -82,10 +82,12 @@ fn is_small(alloc: Global, script: &[u8], files: Files<'_>) -> bool {
 fn shape_of(alloc: Global, line: &[u8], files: Files<'_>) -> Option<Shape> {
     match parse_line(alloc, line).ok()? {
         Line::Call(Call::Create { shape, .. }) => Some(shape),
-        Line::Call(Call::On {
-            act: Act::Resize(shape),
-            ..
-        }) => Some(shape),
+        Line::Call(
+            Call::On {
+                act: Act::Resize(shape),
+                ..
+            },
+        ) => Some(shape),
         Line::Load(load) => {
             let bytes = files.bytes(load.file.as_bytes())?;
             let (rows, cols, _) = read_entries(alloc, bytes, load.domain).ok()?;
