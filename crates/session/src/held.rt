@@ -1,5 +1,5 @@
 //! Objects as a session holds them.
-ghost use Rattle.std.specs.Prelude.{◌≡◌, [], IfOk, OnErr, OnOk};
+ghost use Rattle.std.specs.Prelude.{◌≡◌, ◌≢◌, [], IfOk, OnErr, OnOk};
 ghost use Rattle.model.specs.Object.{IsObject, cols_of, rows_of};
 ghost use Rattle.patch.specs.Edits.{IsInside, edited};
 ghost use Rattle.session.specs.Waiting.{AreInside, IsEditOf};
@@ -71,11 +71,15 @@ impl Held {
         Ok(())
     }
 
-    /// Does the edits that wait. An error leaves the object as it was.
+    /// Does the edits that wait; where none do it takes no memory. An error leaves the object as it was.
     pub(crate) fn settle(&mut self, alloc: Global) -> Result<(), NoMemory>
         ensures object { object_of self.new ≡ object_of self.old }
         ensures done { OnOk result (self.new.edits.items ≡ []) }
+        ensures waited { OnErr result (self.old.edits.items ≢ []) }
     {
+        if self.edits.is_empty() {
+            return Ok(());
+        }
         settle(alloc, &mut self.store, &mut self.edits)
     }
 

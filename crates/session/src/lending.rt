@@ -12,15 +12,17 @@ use model::Status;
 use store::Store;
 
 impl Session {
+    ghost use Rattle.calls.specs.Checks.{Decides};
     ghost use Rattle.session.specs.Lending.{EndsAsPrinted};
     ghost use Rattle.session.specs.Listed.{tuples_of};
-    ghost use Rattle.session.specs.Performed.{IsPerformed, IsSettledIn, environment_of};
+    ghost use Rattle.session.specs.Performed.{IsPerformed, IsSettledIn, environment_of, fault_in};
     ghost use Rattle.session.specs.Results.{IsStoreOf};
 
     /// The store of an object, once the edits that wait on it are done (`GrB_Matrix_wait`, `GrB_Vector_wait`). It is
-    /// lent, and nothing is copied.
+    /// lent, and nothing is copied; where no edits wait it takes no memory.
     pub fn store(&mut self, object: Obj) -> Result<&Store, Status>
         ensures* performed { sem 𝓛 (EndsAsPrinted self.entry object result) }
+        ensures decided { IsSettledIn self.old object → Decides (fault_in self.old (Call.On object Act.Print)) result }
         ensures store { IfOk result (λ store. IsStoreOf (environment_of self.old) object store.now) }
     {
         self.finish(object)?;
@@ -33,6 +35,7 @@ impl Session {
         ensures kept { environment_of self.new ≡ environment_of self.old }
         ensures there { OnOk result (is_some ((environment_of self.new).find_object object) ≡ true) }
         ensures settled { OnOk result (IsSettledIn self.new object) }
+        ensures decided { IsSettledIn self.old object → Decides (fault_in self.old (Call.On object Act.Print)) result }
     {
         check_there(self, object)?;
         self.settle(object)?;

@@ -265,13 +265,15 @@ impl Session {
         Ok(monoid.op.domain.value_of(sum))
     }
 
-    /// Does the edits that wait on an object, if it is there. An error leaves all objects as they were.
+    /// Does the edits that wait on an object, if it is there; where none do it takes no memory. An error leaves all
+    /// objects as they were.
     pub(crate) fn settle(&mut self, object: Obj) -> Result<(), NoMemory>
         ensures kept { environment_of self.new ≡ environment_of self.old }
         ensures made { made_in self.new ≡ made_in self.old }
         ensures settled { OnOk result (IsSettledIn self.new object) }
         ensures others { OnOk result ((other : Object) → IsSettledIn self.old other
             → IsSettledIn self.new other) }
+        ensures waited { OnErr result (IsSettledIn self.old object → ⊥) }
     {
         self.table.settle(self.alloc, object)
     }

@@ -52,11 +52,13 @@ impl Table {
         self.by_number.get(&object.0)
     }
 
-    /// Does the edits that wait on an object, if it is there. An error leaves it as it was.
+    /// Does the edits that wait on an object, if it is there; where none do it takes no memory. An error leaves it as
+    /// it was.
     pub(crate) fn settle(&mut self, alloc: Global, object: Obj) -> Result<(), NoMemory>
         ensures kept { environment_in self.new ≡ environment_in self.old }
         ensures settled { OnOk result (IsSettled self.new object) }
         ensures others { OnOk result ((other : Object) → IsSettled self.old other → IsSettled self.new other) }
+        ensures waited { OnErr result (IsSettled self.old object → ⊥) }
     {
         match self.by_number.get_mut(&object.0) {
             Some(held) => held.settle(alloc),
