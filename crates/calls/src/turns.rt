@@ -4,7 +4,8 @@ ghost use Rattle.std.specs.Option.{option_map};
 ghost use Rattle.calls.specs.declared.role.Role.{Role as AnyRole};
 ghost use Rattle.calls.specs.Recipes.{known_by_role, meaning};
 ghost use Rattle.calls.specs.Straight.{straight_out};
-ghost use Rattle.calls.specs.Turned.{AreMatrices, exchanged, flipped_form, flipped_kind, flipped_semiring, turned, turns_of};
+ghost use Rattle.calls.specs.Turned.{AreMatrices, exchanged, flipped_form, flipped_kind, flipped_semiring, turned};
+ghost use Rattle.calls.specs.Turned.{turns_of};
 ghost use Rattle.model.specs.Object.{Content, transposed_content, transposed_signature};
 ghost use Rattle.model.specs.Table.{transposed};
 

@@ -6,7 +6,8 @@ use Rattle.algebra.specs.Value.{value_of}
 use Rattle.calls.specs.Checks.{known_call}
 use Rattle.calls.specs.declared.obj.Obj.{Obj}
 use Rattle.model.specs.declared.call.Act.{Act}
-use Rattle.model.specs.declared.call.Act.TheVariants.{Free, Clear, Resize, Build, Set, Remove, Get, Nvals, Print, Reduce}
+use Rattle.model.specs.declared.call.Act.TheVariants.{Free, Clear, Resize, Build, Set, Remove, Get, Nvals, Print}
+use Rattle.model.specs.declared.call.Act.TheVariants.{Reduce}
 use Rattle.model.specs.declared.call.Call.{Call}
 use Rattle.model.specs.declared.call.Call.TheVariants.{Create, Dup, On, Operate}
 use Rattle.model.specs.declared.limits.TheConstants.{MOST_OBJECTS}
