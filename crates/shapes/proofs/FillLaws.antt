@@ -140,6 +140,13 @@ pub no_col_filled : (m n word : ℕ) (rows cols : Indices) (i j : ℕ) → count
     → filled m n rows cols word i j ≡ None
 no_col_filled m n word rows cols i j none = no_cols (is_some (place_in m rows i)) (is_some (place_in n cols j)) word (none_has n j cols none)
 
+-- nor in rows of which none is listed
+pub none_filled : (m n word : ℕ) (rows cols : Indices) (first past i j : ℕ) (list : List ℕ) → length list ≡ 0
+    → AreOnce first past (λ i. is_some (place_in m rows i)) list → first ≤ i → i < past
+    → filled m n rows cols word i j ≡ None
+none_filled m n word rows cols first past i j [] none once low high = no_rows (is_some (place_in m rows i)) (is_some (place_in n cols j)) word (sym (once.part.members i low high))
+none_filled m n word rows cols first past i j (x ∷ xs) none once low high = absurd (omega arith)
+
 -- no entries have no words
 pub nothing : (es : List Entry) (i j : ℕ) → es ≡ [] → word_at es i j ≡ None
 unfolding word_at

@@ -1,11 +1,12 @@
 -- Entries in any order, of which each is one of a map and none of its entries is missing.
-use Rattle.std.proofs.Common.{◌≡◌, ℕ, Bool, true, false, eqb, ◌&&◌, List, [], ◌∷◌, Option, Some, None, refl, sym, ◌∙◌, ap, inl, inr, arith, get_or, length}
-use Rattle.std.specs.List.{All}
+use Rattle.std.proofs.Common.{◌≡◌, ℕ, ◌-◌, Bool, true, false, eqb, ◌&&◌, List, [], ◌∷◌, Option, Some, None, refl, sym, ◌∙◌, ap, inl, inr, arith, get_or, length}
+use Rattle.std.specs.Option.{option_map}
+use Rattle.std.specs.List.{All, cons_option, filter_map, flat_map}
 use Rattle.std.proofs.lemmas.Bool.{cases_Bool, eqb-true, false≢true}
-use Rattle.std.proofs.lemmas.List.Elements.{All-cons, All-head, All-map, All-nil, All-tail}
+use Rattle.std.proofs.lemmas.List.Elements.{All-append, All-cons, All-head, All-map, All-nil, All-tail}
 use Rattle.model.specs.declared.entry.Entry.{Entry}
 use Rattle.model.specs.Builds.{gathered, joined_all, words_at}
-use Rattle.model.specs.Entries.{InOrder, entry_at, word_at}
+use Rattle.model.specs.Entries.{InOrder, below, count_from, entries_between, entry_at, row_entries, word_at}
 use Rattle.model.specs.Object.{Content, transposed_content}
 use Rattle.store.specs.Stored.{transposed}
 use Rattle.store.proofs.Contents.{word_at-transposed}
@@ -55,6 +56,27 @@ gathered_is c i j es are whole = joined_words c i j es (words_at es i j) refl ar
 -- entries in order are those of the map that they make
 pub order_of : (es : List Entry) → InOrder es → AreOf (word_at es) es
 order_of es order = λ k d within. sym (word_at-found (get_or es k d).row (get_or es k d).col es k d order within (refl, refl))
+
+columns_are : (c : Content) (i : ℕ) (ks : List ℕ) → AreOf c (filter_map (λ k. option_map (entry_at i k) (c i k)) ks)
+columns_are c i [] = All-nil (λ e. c e.row e.col ≡ Some e.word)
+columns_are c i (k ∷ ks) =
+    let others = filter_map (λ k. option_map (entry_at i k) (c i k)) ks in
+    let rest = columns_are c i ks in
+    let found : (o : Option ℕ) → c i k ≡ o → AreOf c (cons_option (option_map (entry_at i k) o) others) =
+    λ o. elim o as (λ o. c i k ≡ o → AreOf c (cons_option (option_map (entry_at i k) o) others)) [
+      | None ↦ λ none. rest
+      | Some word ↦ λ some. All-cons (λ e. c e.row e.col ≡ Some e.word) (entry_at i k word) others some rest
+    ] in
+    found (c i k) refl
+
+rows_are : (cols : ℕ) (c : Content) (is : List ℕ) → AreOf c (flat_map (row_entries cols c) is)
+rows_are cols c [] = All-nil (λ e. c e.row e.col ≡ Some e.word)
+rows_are cols c (i ∷ is) = All-append (λ e. c e.row e.col ≡ Some e.word) (row_entries cols c i) (flat_map (row_entries cols c) is) (columns_are c i (below cols)) (rows_are cols c is)
+
+-- the entries of some rows of a map
+pub between_are : (first past cols : ℕ) (c : Content) → AreOf c (entries_between first past cols c)
+unfolding entries_between
+between_are first past cols c = rows_are cols c (count_from first (past - first))
 
 -- what is gathered of the transposed entries of a map
 pub gathered_transposed : (c : Content) (es : List Entry) → AreOf c es → ((i j : ℕ) → word_at es i j ≡ c i j)

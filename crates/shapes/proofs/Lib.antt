@@ -12,4 +12,5 @@ pub mod PlaceLaws
 pub mod RowWords
 pub mod Scatters
 pub mod SideLaws
+pub mod SpanLaws
 pub mod Walked

@@ -1,9 +1,9 @@
 -- Entries put at lists of rows and columns.
-use Rattle.std.proofs.Common.{◌≡◌, ℕ, zero, suc, ◌+◌, ◌<◌, ◌≤◌, Bool, true, false, not, cond, eqb, leb, ltb, ◌&&◌, List, [], ◌∷◌, ◌++◌, length, map, get_or, Option, Some, None, refl, sym, ◌∙◌, ap, inl, inr, arith, append_assoc}
+use Rattle.std.proofs.Common.{◌≡◌, ℕ, zero, suc, ◌+◌, ◌<◌, ◌≤◌, Bool, true, false, not, cond, eqb, leb, ltb, ◌&&◌, List, [], ◌∷◌, length, get_or, Option, Some, None, refl, sym, ◌∙◌, ap, inl, inr, arith}
 use Rattle.std.specs.List.{All, cons_option, filter_map, list_all, position_or_len}
 use Rattle.std.proofs.lemmas.Bool.{cases_Bool, eq-eqb, eqb-true, ne_eqb, false≢true}
 use Rattle.std.proofs.lemmas.Bool.Decides.{nat_tests}
-use Rattle.std.proofs.lemmas.List.Elements.{All-cons, All-head, All-nil, All-tail, filter_map-append}
+use Rattle.std.proofs.lemmas.List.Elements.{All-cons, All-head, All-nil, All-tail}
 use Rattle.std.proofs.lemmas.Option.{none-some, same_Some}
 use Rattle.std.proofs.lemmas.List.Sums.{AllPass-from_list_all}
 use Rattle.model.specs.declared.entry.Entry.{Entry}
@@ -11,32 +11,10 @@ use Rattle.model.specs.Entries.{entry_at, word_at}
 use Rattle.model.specs.Indices.{All as Every, Indices, These, are_below, are_distinct, count_of, is_distinct, place_in}
 use Rattle.model.specs.Object.{Content}
 use Rattle.model.specs.Regions.{found_at, placed}
-use Rattle.store.specs.Fibers.{entries_along}
 use Rattle.store.specs.Stored.{AreIn}
 use Rattle.store.proofs.Positions.{word_at-here, word_at-skip}
-use Rattle.shapes.specs.Places.{Reaches, nth_index, placed_entry}
+use Rattle.shapes.specs.Places.{Reaches, is_in, nth_index, placed_entry}
 use Rattle.shapes.proofs.Gathering.{AreOf, and_both}
-
--- ---- one row
-
--- whether the row that a list names is one of a range
-abbrev pub is_in : ℕ → ℕ → ℕ → Bool
-is_in first past i = leb first i && ltb i past
-
-pub row_placed : (rows cols : Indices) (first past index : ℕ) (cs ws : List ℕ)
-    → is_in first past (nth_index rows index) ≡ true
-    → filter_map (placed_entry rows cols first past) (entries_along index cs ws) ≡ entries_along (nth_index rows index)
-    (map (nth_index cols) cs) ws
-row_placed rows cols first past index [] ws inside = refl
-row_placed rows cols first past index (c ∷ cs) [] inside = refl
-row_placed rows cols first past index (c ∷ cs) (w ∷ ws) inside = rw inside (ap (λ es. entry_at (nth_index rows index) (nth_index cols c) w ∷ es) (row_placed rows cols first past index cs ws inside))
-
-pub row_passed : (rows cols : Indices) (first past index : ℕ) (cs ws : List ℕ)
-    → is_in first past (nth_index rows index) ≡ false → filter_map (placed_entry rows cols first past)
-    (entries_along index cs ws) ≡ []
-row_passed rows cols first past index [] ws outside = refl
-row_passed rows cols first past index (c ∷ cs) [] outside = refl
-row_passed rows cols first past index (c ∷ cs) (w ∷ ws) outside = rw outside (row_passed rows cols first past index cs ws outside)
 
 -- ---- places of indices
 
@@ -187,28 +165,3 @@ placed_inside n first past rows cols a_rows a_cols (e ∷ es) below counts insid
           rw lies (All-cons Q put (filter_map (placed_entry rows cols first past) es) ((grind (arith, nat_tests), grind (arith, nat_tests)), col) rest)
       | inr out ↦ rw out rest
     ]
-
--- ---- row by row
-
-pub placed_more : (rows cols : Indices) (first past index : ℕ) (cs ws : List ℕ) (old rest others all : List Entry)
-    → is_in first past (nth_index rows index) ≡ true → rest ≡ entries_along index cs ws ++ others
-    → old ++ filter_map (placed_entry rows cols first past) rest ≡ filter_map (placed_entry rows cols first past) all
-    → (old ++ entries_along (nth_index rows index) (map (nth_index cols) cs) ws) ++ filter_map (placed_entry rows cols first past) others ≡ filter_map (placed_entry rows cols first past) all
-placed_more rows cols first past index cs ws old rest others all inside whole is =
-    let f = placed_entry rows cols first past in
-    let row = entries_along index cs ws in
-    append_assoc old (entries_along (nth_index rows index) (map (nth_index cols) cs) ws) (filter_map f others)
-    ∙ ap (λ es. old ++ (es ++ filter_map f others)) (sym (row_placed rows cols first past index cs ws inside))
-    ∙ ap (λ es. old ++ es) (sym (filter_map-append f row others))
-    ∙ ap (λ es. old ++ filter_map f es) (sym whole) ∙ is
-
-pub passed_more : (rows cols : Indices) (first past index : ℕ) (cs ws : List ℕ) (old rest others all : List Entry)
-    → is_in first past (nth_index rows index) ≡ false → rest ≡ entries_along index cs ws ++ others
-    → old ++ filter_map (placed_entry rows cols first past) rest ≡ filter_map (placed_entry rows cols first past) all
-    → old ++ filter_map (placed_entry rows cols first past) others ≡ filter_map (placed_entry rows cols first past) all
-passed_more rows cols first past index cs ws old rest others all outside whole is =
-    let f = placed_entry rows cols first past in
-    let row = entries_along index cs ws in
-    ap (λ es. old ++ (es ++ filter_map f others)) (sym (row_passed rows cols first past index cs ws outside))
-    ∙ ap (λ es. old ++ es) (sym (filter_map-append f row others))
-    ∙ ap (λ es. old ++ filter_map f es) (sym whole) ∙ is

@@ -6,7 +6,7 @@ use Rattle.std.proofs.lemmas.Bool.{cases_lt, cases_Bool}
 use Rattle.std.proofs.lemmas.List.{get_or_default}
 use Rattle.std.proofs.lemmas.List.Elements.{All-weaker}
 use Rattle.model.specs.declared.entry.Entry.{Entry}
-use Rattle.model.specs.Entries.{InOrder, IsInside, entries_between, entry_at, row_entries, word_at}
+use Rattle.model.specs.Entries.{InOrder, entries_between, entry_at, row_entries, word_at}
 use Rattle.model.specs.Object.{Content, IsWithin}
 use Rattle.store.specs.Fibers.{entries_along}
 use Rattle.store.specs.Stored.{AreIn}
@@ -127,23 +127,26 @@ all_words rows cols c i j within = elim (cases_lt i rows) [
       ∙ sym (within i j none)
 ]
 
--- what the first row of entries inside a shape has, and those behind it
-pub record IsInsideRow (rows cols index : ℕ) (cs : List ℕ) (others : List Entry) : Type 0 where
-  pub row : index < rows
+-- what the first row of entries in some rows has, and those behind it
+pub record IsInsideRow (first past cols index : ℕ) (cs : List ℕ) (others : List Entry) : Type 0 where
+  pub low : first ≤ index
+  pub high : index < past
   pub inside : All (λ col. col < cols) cs
-  pub left : IsInside rows cols others
+  pub left : AreIn first past cols others
 
-pub first_inside : (rows cols index : ℕ) (cs ws : List ℕ) (rest others : List Entry) → IsInside rows cols rest
-    → IsFirstRow index cs ws rest others → IsInsideRow rows cols index cs others
-first_inside rows cols index cs ws rest others inside starts =
+pub first_inside : (first past cols index : ℕ) (cs ws : List ℕ) (rest others : List Entry) → AreIn first past cols rest
+    → IsFirstRow index cs ws rest others → IsInsideRow first past cols index cs others
+first_inside first past cols index cs ws rest others inside starts =
     let row = entries_along index cs ws in
-    let P : Entry → Type 0 = λ e. (e.row < rows) × (e.col < cols) in
+    let P : Entry → Type 0 = λ e. ((first ≤ e.row) × (e.row < past)) × (e.col < cols) in
     let all : All P (row ++ others) = subst (All P) starts.whole inside in
     let ours = all_append_left P row others all in
     let d = entry_at 0 0 0 in
     let some : 0 < length row = omega (arith, length_row index cs ws starts.lengths, starts.some) in
+    let one : (get_or row 0 d).row ≡ index = all_rows index cs ws 0 d some in
     record {
-      row = subst (λ r. r < rows) (all_rows index cs ws 0 d some) (ours 0 d some).0;
+      low = subst (λ r. first ≤ r) one (ours 0 d some).0.0;
+      high = subst (λ r. r < past) one (ours 0 d some).0.1;
       inside = cols_have (λ col. col < cols) index cs ws starts.lengths (All-weaker P (λ (e : Entry). e.col < cols) (λ e p. p.1) row ours);
       left = all_append_right P row others all;
     }

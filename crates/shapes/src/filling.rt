@@ -15,7 +15,8 @@ use std::ops::Range;
 use store::{FiberLists, RowBlock};
 
 /// The rows in a range of a shape with a word at each position that lists of rows and of columns name,
-/// however often they do (`GrB_assign` of a constant). It takes time for the lists and these positions.
+/// however often they do (`GrB_assign` of a constant). It takes time for the indices of rows in the range and,
+/// where there are some, for the list of columns and these positions.
 pub fn assign_const_rows(
     alloc: Global,
     shape: (u64, u64),
@@ -40,6 +41,9 @@ pub fn assign_const_rows(
         return Ok(RowBlock::new(alloc, first, past, shape.1));
     }
     let rows = list_once(alloc, rows, first..past)?;
+    if rows.is_empty() {
+        return Ok(RowBlock::new(alloc, first, past, shape.1));
+    }
     let cols = list_once(alloc, cols, 0..shape.1)?;
     if shape.1 == 1 && cols.len() == 1 {
         let lists = fill_column(alloc, &rows, word)?;

@@ -13,6 +13,7 @@ mod places;
 mod putting;
 mod resizing;
 mod rows;
+mod spans;
 mod transposing;
 
 pub use assigning::assign_rows;

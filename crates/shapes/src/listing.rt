@@ -4,6 +4,7 @@ ghost use Rattle.std.specs.List.Sorted.{IsNonDecreasing};
 ghost use Rattle.model.specs.Indices.{place_in};
 ghost use Rattle.shapes.specs.Lists.{AreOnce, IsPartIn, has_index};
 
+use crate::spans::span_in;
 use model::{IndexList, NoMemory};
 use std::alloc::Global;
 use std::ops::Range;
@@ -41,10 +42,8 @@ fn part_in(sorted: &[u64], range: Range<u64>) -> &[u64]
     ensures rises { IsNonDecreasing result.now }
     ensures part { IsPartIn range.start range.end (has_index sorted.now) result.now }
 {
-    let low = sorted.partition_point(|i| *i < range.start);
-    let rest = &sorted[low..];
-    let count = rest.partition_point(|i| *i < range.end);
-    &rest[..count]
+    let (low, high) = span_in(sorted, range.start, range.end);
+    &sorted[low..high]
 }
 
 /// All numbers in a range.

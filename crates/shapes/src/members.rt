@@ -7,7 +7,7 @@ use model::NoMemory;
 use std::alloc::Global;
 
 /// A list of indices in rising order, with marks for those up to its greatest one where that is low enough
-/// beside its length.
+/// beside its length and beside the number of looks.
 #[derive(Drop)]
 pub(crate) struct Members<'a> {
     pub sorted: &'a [u64],
@@ -16,16 +16,22 @@ pub(crate) struct Members<'a> {
     ghost exact: { (i : ℕ) → i < length marks.items → get_or marks.items i false ≡ has_index sorted.now i },
 }
 
-// There are so many marks for each index of the list at the most, which together take as much memory.
+// There are so many marks for each index of the list at the most, which together take as much memory, and for
+// each look, which pays for them.
 const MARKS: u64 = 8;
 
 impl<'a> Members<'a> {
-    /// The indices of a list. It takes time and memory for the list.
-    pub(crate) fn new(alloc: Global, sorted: &'a [u64]) -> Result<Members<'a>, NoMemory>
+    /// The indices of a list, for so many looks. It takes time and memory for marks where the looks pay for
+    /// them, else none.
+    pub(crate) fn new(
+        alloc: Global,
+        sorted: &'a [u64],
+        looks: usize,
+    ) -> Result<Members<'a>, NoMemory>
         requires { IsNonDecreasing sorted.now }
         ensures { IfOk result (λ members. members.sorted.now ≡ sorted.now) }
     {
-        let marks = marks_of(alloc, sorted, marked(sorted))?;
+        let marks = marks_of(alloc, sorted, marked(sorted, looks))?;
         Ok(Members { sorted, marks })
     }
 
@@ -40,10 +46,10 @@ impl<'a> Members<'a> {
     }
 }
 
-/// How many indices, from 0 on, are marked.
-fn marked(sorted: &[u64]) -> usize {
+/// How many indices, from 0 on, are marked for so many looks.
+fn marked(sorted: &[u64], looks: usize) -> usize {
     match sorted.last() {
-        Some(last) if *last / MARKS < sorted.len() as u64 => *last as usize + 1,
+        Some(last) if *last / MARKS < sorted.len().min(looks) as u64 => *last as usize + 1,
         _ => 0,
     }
 }
@@ -55,6 +61,9 @@ fn marks_of(alloc: Global, list: &[u64], count: usize) -> Result<Vec<bool>, NoMe
         → get_or marks.items i false ≡ has_index list.now i) }
 {
     let mut marks = Vec::new(alloc);
+    if count == 0 {
+        return Ok(marks);
+    }
     marks.resize(count, false)?;
     for index in list {
         let at = *index as usize;

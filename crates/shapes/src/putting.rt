@@ -19,7 +19,7 @@ use store::{FiberLists, Row, RowBlock, Store};
 
 /// The rows of a block at the positions that lists of rows and of columns name, and at the others those
 /// of a store. `:` is never written out, and in both lists costs nothing. Else its time is that of the
-/// entries of both in these rows, each with a search in the list of columns.
+/// entries of both in these rows, each with a search in both lists at the most.
 pub fn put_rows(
     alloc: Global,
     old: &Store,
@@ -44,9 +44,11 @@ pub fn put_rows(
         return Ok(put_all(old, new));
     }
     let (first, past) = (new.first(), new.past());
+    // Each entry is looked up once in each list.
+    let looks = old.fibers_in(first..past).len() + new.fibers().len();
     let named = Named {
-        rows: members_of(alloc, rows)?,
-        cols: members_of(alloc, cols)?,
+        rows: members_of(alloc, rows, looks)?,
+        cols: members_of(alloc, cols, looks)?,
     };
     // The block goes before there are other lists, which so lie where it lay.
     let inside = {
@@ -66,12 +68,16 @@ struct Named<'a> {
     cols: Option<Members<'a>>,
 }
 
-/// The members of a list, for many looks.
-fn members_of<'a>(alloc: Global, indices: &'a IndexList) -> Result<Option<Members<'a>>, NoMemory>
+/// The members of a list, for so many looks.
+fn members_of<'a>(
+    alloc: Global,
+    indices: &'a IndexList,
+    looks: usize,
+) -> Result<Option<Members<'a>>, NoMemory>
     ensures { IfOk result (AreMembers indices.now) }
 {
     match indices.sorted() {
-        Some(sorted) => Ok(Some(Members::new(alloc, sorted)?)),
+        Some(sorted) => Ok(Some(Members::new(alloc, sorted, looks)?)),
         None => Ok(None),
     }
 }

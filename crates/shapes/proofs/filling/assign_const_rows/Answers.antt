@@ -5,7 +5,7 @@ use Rattle.model.specs.Regions.{filled}
 use Rattle.store.specs.Stored.{transposed}
 use Rattle.shapes.specs.Lists.{spread}
 use Rattle.shapes.specs.Rows.{IsMade}
-use Rattle.shapes.proofs.FillLaws.{column_inside, column_words, nothing, no_col_filled, no_row_filled, spread_is}
+use Rattle.shapes.proofs.FillLaws.{column_inside, column_words, nothing, no_col_filled, no_row_filled, none_filled, spread_is}
 use Rattle.shapes.proofs.filling.assign_const_rows.Goals as goal
 use Rattle.shapes.proofs.filling.assign_const_rows.Goals.{then-count-eq0-via-then-count-eq0, then-count-eq0-via-else-count-eq0+then-count-eq0-2}
 
@@ -19,6 +19,16 @@ returns-then-count-eq0-clause-words c i j low high =
       | then-count-eq0-via-else-count-eq0+then-count-eq0-2 w ↦ no_col_filled c.args.shape.0 c.args.shape.1 c.args.word rows cols i j (sym w.count-else-count-eq0.ensures ∙ w.if-count-eq0-2.true)
     ] in
     nothing c.new.result.entries i j c.new.ensures.entries ∙ sym none
+
+pub returns-then-is_empty-clause-words : goal.returns-then-is_empty-clause-words
+returns-then-is_empty-clause-words c i j low high =
+    let list = c.in_ok-rows.rows.items in
+    let none : length list ≡ 0 = search rules in
+    nothing c.new-then-is_empty.result.entries i j c.new-then-is_empty.ensures.entries
+    ∙ sym (none_filled c.args.shape.0 c.args.shape.1 c.args.word c.args.rows.now c.args.cols.now c.args.range.start c.args.range.end i j list none (c.in_ok-rows.ensures c.args.shape.0 c.requires.end) low high)
+
+pub fill_column-requires : goal.fill_column-requires
+fill_column-requires c = rw c.deref.ensures.value (c.in_ok-rows.ensures c.args.shape.0 c.requires.end).rising
 
 pub fill_rows-requires-clause-rows : goal.fill_rows-requires-clause-rows
 fill_rows-requires-clause-rows c = rw c.deref-2.ensures.value (c.in_ok-rows.ensures c.args.shape.0 c.requires.end).rising
