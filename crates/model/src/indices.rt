@@ -11,7 +11,8 @@ use std::marker::Model;
 /// Indices as a call lists them (`GrB_Index` arrays): all of a dimension in order (`GrB_ALL`), or these.
 #[derive(Drop)]
 pub struct IndexList {
-    listed: Option<Listed>,
+    // Behind a pointer, since a call is moved from its line to its recipe.
+    listed: Option<Box<Listed>>,
 }
 
 /// Indices in the order of their list, and in rising order.
@@ -64,10 +65,10 @@ impl Model for IndexList {
 
     ghost Value = { Indices };
 
-    ghost view = { λ l. option_map_or (λ listed. These listed.items.items) l.listed All };
+    ghost view = { λ l. option_map_or (λ listed. These listed.value.items.items) l.listed All };
 
-    ghost invariant = { λ l. IfSome l.listed (λ listed. IsSortedFrom listed.items.items
-        (option_map_or (λ sorted. sorted.items) listed.sorted listed.items.items)) };
+    ghost invariant = { λ l. IfSome l.listed (λ listed. IsSortedFrom listed.value.items.items
+        (option_map_or (λ sorted. sorted.items) listed.value.sorted listed.value.items.items)) };
 }
 
 impl IndexList {
@@ -82,7 +83,8 @@ impl IndexList {
     pub fn new(items: Vec<u64>) -> Result<IndexList, NoMemory>
         ensures { IfOk result (λ indices. indices ≡ These items.items) }
     {
-        let listed = Listed::new(items)?;
+        let alloc = *items.allocator();
+        let listed = Box::new(alloc, Listed::new(items)?)?;
         Ok(IndexList {
             listed: Some(listed),
         })
