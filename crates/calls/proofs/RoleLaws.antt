@@ -5,17 +5,17 @@ use Rattle.std.proofs.lemmas.Bool.{cases_Bool}
 use Rattle.calls.specs.declared.role.Role.{Role}
 use Rattle.calls.specs.declared.role.Role.TheVariants.{Old, Mask, First, Second}
 use Rattle.calls.specs.declared.recipe.Accepted.{Accepted}
-use Rattle.calls.specs.Recipes.{IsAcceptedOf, known_by_role, maps_of, meaning, object_with, operation_with, out_with}
+use Rattle.calls.specs.Recipes.{IsAcceptedOf, known_by_role, maps_of, meaning, operation_with, out_with}
+use Rattle.calls.specs.Stores.{object_with}
 use Rattle.calls.specs.Roles.{role_of, roles_of}
-use Rattle.model.specs.declared.call.OneInput.TheVariants.{Apply, Select, ReduceRows, Transpose, Extract, Assign}
 use Rattle.model.specs.declared.call.Operation.{Operation}
 use Rattle.model.specs.declared.call.Operation.TheVariants.{Fill, OfOne, OfTwo}
 use Rattle.model.specs.declared.call.Out.{Out}
 use Rattle.model.specs.declared.shape.Signature.{Signature}
 use Rattle.model.specs.Object.{Content, Object, no_content, signature_of}
 use Rattle.model.specs.Renamed.{out_over, renamed_operation, renamed_out}
-use Rattle.model.specs.WriteBack.{reads_old, result_of, writes_region}
-use Rattle.model.proofs.OldLaws.{old-unread, with_old}
+use Rattle.model.specs.WriteBack.{reads_old, result_of}
+use Rattle.model.proofs.OldLaws.{old-unread, region-renamed, with_old}
 use Rattle.model.proofs.RenamedLaws.{Agrees, operation_at, out_at, some_operation, some_out}
 
 -- ---- what is read doesn't depend on how objects are named
@@ -24,21 +24,10 @@ some_renamed : {K L : Type 0} (f : K → L) (mask : Option K) → is_some (optio
 some_renamed f None = refl
 some_renamed f (Some mask) = refl
 
-region_renamed : {K L : Type 0} (f : K → L) (operation : Operation K)
-    → writes_region (renamed_operation f operation) ≡ writes_region operation
-region_renamed f (Fill value region) = refl
-region_renamed f (OfOne (Apply function) a) = refl
-region_renamed f (OfOne (Select index scalar) a) = refl
-region_renamed f (OfOne (ReduceRows monoid) a) = refl
-region_renamed f (OfOne Transpose a) = refl
-region_renamed f (OfOne (Extract region) a) = refl
-region_renamed f (OfOne (Assign region) a) = refl
-region_renamed f (OfTwo computes a b) = refl
-
 reads_renamed : {K L : Type 0} (f : K → L) (out : Out K) (operation : Operation K)
     → reads_old (renamed_out f out) (renamed_operation f operation) ≡ reads_old out operation
 reads_renamed f out operation = λ t.
-    some_renamed f out.mask t || out.desc.complement || is_some out.accum || region_renamed f operation t
+    some_renamed f out.mask t || out.desc.complement || is_some out.accum || is_some (region-renamed f operation t)
 
 some_if : {K L : Type 0} (f : K → L) (test : Bool) (k : K)
     → (if test then Some (f k) else None) ≡ option_map f (if test then Some k else None)

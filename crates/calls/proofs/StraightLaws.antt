@@ -1,5 +1,6 @@
 -- What an operation says and leaves is the same once its inputs are transposed before.
-use Rattle.std.proofs.Common.{◌≡◌, ◌∙◌, ℕ, false, refl, sym, ap}
+use Rattle.std.proofs.Common.{◌≡◌, ◌∙◌, ℕ, Bool, true, false, Option, refl, ap}
+use Rattle.std.specs.Option.{option_map_or}
 use Rattle.algebra.specs.declared.functions.FunctionName.TheVariants as function
 use Rattle.calls.specs.Straight.{IsStraight, straight_desc, straight_out}
 use Rattle.model.specs.declared.call.Desc.{Desc}
@@ -8,15 +9,16 @@ use Rattle.model.specs.declared.call.OneInput.TheVariants.{Apply, Select, Reduce
 use Rattle.model.specs.declared.call.Operation.{Operation}
 use Rattle.model.specs.declared.call.Operation.TheVariants.{Fill, OfOne, OfTwo}
 use Rattle.model.specs.declared.call.Out.{Out}
+use Rattle.model.specs.declared.call.Region.{Region}
 use Rattle.model.specs.declared.shape.Shape.{Shape}
 use Rattle.model.specs.declared.shape.Signature.{Signature}
-use Rattle.model.specs.Fault.{operation_fault, plan_in}
-use Rattle.model.specs.Object.{Object, cast_content, signature_of, transposed_object, transposed_signature}
-use Rattle.model.specs.Operations.{is_written_by, operation}
-use Rattle.model.specs.Renamed.{renamed_operation}
-use Rattle.model.specs.Table.{plan_of, transposed, transposed_if, transposes_one}
+use Rattle.model.specs.Fault.{operation_fault}
+use Rattle.model.specs.Object.{Object, cols_of, in_domain, rows_of, signature_of, transposed_object, transposed_signature}
+use Rattle.model.specs.Operations.{computed, region_written}
+use Rattle.model.specs.Regions.{cols_in, is_listed, rows_in}
+use Rattle.model.specs.Table.{transposed, transposed_if, transposes_one}
 use Rattle.model.specs.WriteBack.{landed, masked, result_of}
-use Rattle.model.proofs.ResultLaws.{transposed-signature}
+use Rattle.model.proofs.OldLaws.{region-transposed}
 
 -- ---- no flags
 
@@ -42,6 +44,10 @@ straight desc = (refl, refl)
 
 -- ---- transposed before
 
+abbrev is_in : Shape → Option Region → ℕ → ℕ → Bool
+is_in shape region i j = option_map_or
+    (λ region. is_listed (rows_of shape) (cols_of shape) (rows_in region) (cols_in region) i j) region true
+
 -- its fault is the same
 pub straight-fault : (out : Out Signature) (op : Operation Signature)
     → operation_fault (straight_out out) (transposed transposed_signature out.desc op) ≡ operation_fault out op
@@ -50,36 +56,13 @@ straight-fault out (Fill value region) = refl
 straight-fault out (OfOne computes a) = rw (transposes_none computes (straight_desc out.desc) (straight out.desc)) refl
 straight-fault out (OfTwo computes a b) = refl
 
--- which positions it writes doesn't depend on how objects are named
-pub written-renamed : {K L : Type 0} (shape : Shape) (f : K → L) (op : Operation K) (i j : ℕ)
-    → is_written_by shape (renamed_operation f op) i j ≡ is_written_by shape op i j
-written-renamed shape f (Fill value region) i j = refl
-written-renamed shape f (OfOne (Apply function) a) i j = refl
-written-renamed shape f (OfOne (Select op scalar) a) i j = refl
-written-renamed shape f (OfOne (ReduceRows monoid) a) i j = refl
-written-renamed shape f (OfOne Transpose a) i j = refl
-written-renamed shape f (OfOne (Extract region) a) i j = refl
-written-renamed shape f (OfOne (Assign region) a) i j = refl
-written-renamed shape f (OfTwo computes a b) i j = refl
-
--- ..nor on whether they are transposed
-written-transposed : {K : Type 0} (shape : Shape) (transpose : K → K) (desc : Desc) (op : Operation K) (i j : ℕ)
-    → is_written_by shape (transposed transpose desc op) i j ≡ is_written_by shape op i j
-written-transposed shape transpose desc (Fill value region) i j = refl
-written-transposed shape transpose desc (OfOne computes a) i j = sym (written-renamed shape (λ k. a) (OfOne computes (transposed_if transpose (transposes_one computes desc) a)) i j)
-written-transposed shape transpose desc (OfTwo computes a b) i j = refl
-
 -- what it leaves is the same
 pub straight-result : (out : Out Object) (op : Operation Object) (i j : ℕ)
     → result_of (straight_out out) (transposed transposed_object out.desc op) i j ≡ result_of out op i j
 unfolding result_of
 straight-result out op i j =
     let c = signature_of out.c in
-    let desc = straight_desc out.desc in
     let moved = transposed transposed_object out.desc op in
-    let sig = renamed_operation signature_of op in
-    ap (λ (p : Operation Object). masked out (landed out (is_written_by c.shape moved) (cast_content (plan_in c desc (renamed_operation signature_of moved)).domain c.domain (operation c p))) i j)
-    (transposed-none transposed_object desc moved (straight out.desc))
-    ∙ ap (λ (p : Operation Signature). masked out (landed out (is_written_by c.shape moved) (cast_content (plan_of c p).domain c.domain (operation c moved))) i j)
-    (transposed-none transposed_signature desc (renamed_operation signature_of moved) (straight out.desc) ∙ transposed-signature out.desc op)
-    ∙ (λ t. masked out (landed out (λ p q. written-transposed c.shape transposed_object out.desc op p q t) (cast_content (plan_in c out.desc sig).domain c.domain (operation c moved))) i j)
+    let left : Option Region → Operation Object → Option ℕ = λ region p. masked out (landed out (λ p q. is_in c.shape region p q) (in_domain c.domain (computed c p))) i j in
+    ap (left (region_written moved)) (transposed-none transposed_object (straight_desc out.desc) moved (straight out.desc))
+    ∙ ap (λ (region : Option Region). left region moved) (region-transposed transposed_object out.desc op)

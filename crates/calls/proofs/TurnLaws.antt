@@ -8,7 +8,8 @@ use Rattle.calls.specs.declared.turns.Turns.{Turns}
 use Rattle.calls.specs.declared.turns.Turns.TheVariants.{Transposed, Exchanged}
 use Rattle.calls.specs.declared.role.Role.{Role}
 use Rattle.calls.specs.declared.role.Role.TheVariants.{Old, Mask, First, Second}
-use Rattle.calls.specs.Recipes.{known_by_role, meaning, object_with, operation_with, out_with}
+use Rattle.calls.specs.Recipes.{known_by_role, meaning, operation_with, out_with}
+use Rattle.calls.specs.Stores.{object_with}
 use Rattle.calls.specs.Roles.{first_of, second_of}
 use Rattle.calls.specs.Straight.{straight_out}
 use Rattle.calls.specs.Turned.{AreMatrices, exchanged, flipped_form, flipped_kind, multiplying_by, turned, turns_of}
@@ -20,6 +21,7 @@ use Rattle.model.specs.declared.call.OneInput.TheVariants.{Apply, Select, Reduce
 use Rattle.model.specs.declared.call.Operation.{Operation}
 use Rattle.model.specs.declared.call.Operation.TheVariants.{Fill, OfOne, OfTwo}
 use Rattle.model.specs.declared.call.Out.{Out}
+use Rattle.model.specs.declared.call.Region.{Region}
 use Rattle.model.specs.declared.call.TwoInputs.TheVariants.{Multiply}
 use Rattle.model.specs.declared.shape.Shape.{Shape}
 use Rattle.model.specs.declared.shape.Shape.TheVariants.{One, Two}
@@ -28,7 +30,9 @@ use Rattle.model.specs.Fault.{operation_fault}
 use Rattle.model.specs.Object.{Content, is_matrix, transposed_content, transposed_object, transposed_signature}
 use Rattle.model.specs.Renamed.{out_over}
 use Rattle.model.specs.Table.{transposed, transposed_if, transposes_one}
-use Rattle.model.specs.WriteBack.{result_of, writes_region}
+use Rattle.model.specs.Operations.{region_written}
+use Rattle.model.specs.WriteBack.{result_of}
+use Rattle.model.proofs.OldLaws.{region-transposed}
 use Rattle.model.proofs.ObjectLaws.{objects_equal}
 
 -- ---- what isn't turned
@@ -89,32 +93,17 @@ signature_turned true s = of_shape s.shape where
   of_shape (One n) = refl
   of_shape (Two m n) = refl
 
-none_turned : (flag : Bool) → None ≡ transposed_if (option_map transposed_signature) flag None
-none_turned true = refl
-none_turned false = refl
-
-region_turned : (desc : Desc) (op : Operation Signature)
-    → writes_region (transposed transposed_signature desc op) ≡ writes_region op
-region_turned desc (Fill value region) = refl
-region_turned desc (OfOne (Apply function) a) = refl
-region_turned desc (OfOne (Select index scalar) a) = refl
-region_turned desc (OfOne (ReduceRows monoid) a) = refl
-region_turned desc (OfOne Transpose a) = refl
-region_turned desc (OfOne (Extract region) a) = refl
-region_turned desc (OfOne (Assign region) a) = refl
-region_turned desc (OfTwo computes a b) = refl
-
 -- the output is read, or isn't, by what writes a region or doesn't
-old_same : (out : Out Signature) (op other : Operation Signature) → writes_region other ≡ writes_region op
+old_same : (out : Out Signature) (op other : Operation Signature) → region_written other ≡ region_written op
     → known_by_role (straight_out out) other Old ≡ known_by_role out op Old
 old_same out op other same =
-    ap (λ (writes : Bool). if (is_some out.mask || out.desc.complement || is_some out.accum || writes) then Some out.c else None) same
+    ap (λ (region : Option Region). if (is_some out.mask || out.desc.complement || is_some out.accum || is_some region) then Some out.c else None) same
 
 pub known-transposed : (out : Out Signature) (op : Operation Signature) (role : Role)
     → known_by_role (straight_out out) (transposed transposed_signature out.desc op) role
     ≡ turned (option_map transposed_signature) (turns_of out.desc op) (known_by_role out op) role
 known-transposed out op Old =
-    old_same out op (transposed transposed_signature out.desc op) (region_turned out.desc op)
+    old_same out op (transposed transposed_signature out.desc op) (region-transposed transposed_signature out.desc op)
     ∙ sym (turned_old (option_map transposed_signature) (turns_of out.desc op) (known_by_role out op))
 known-transposed out op Mask = sym (turned_mask (option_map transposed_signature) (turns_of out.desc op) (known_by_role out op))
 known-transposed out (Fill value region) First = refl
@@ -202,8 +191,8 @@ module _ (out : Out Signature) (op other : Operation Signature) (is : exchanged 
   pub known-exchanged : (role : Role) → known_by_role (straight_out out) other role
       ≡ turned (option_map transposed_signature) Exchanged (known_by_role out op) role
   known-exchanged Old =
-      old_same out op other (ap (λ (o : Operation Signature). writes_region o) (sym product.other_is)
-      ∙ ap (λ (o : Operation Signature). writes_region o) (sym product.op_is))
+      old_same out op other (ap (λ (o : Operation Signature). region_written o) (sym product.other_is)
+      ∙ ap (λ (o : Operation Signature). region_written o) (sym product.op_is))
   known-exchanged Mask = refl
   known-exchanged First =
       ap (λ (o : Operation Signature). first_of o) (sym product.other_is)

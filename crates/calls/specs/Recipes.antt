@@ -1,21 +1,25 @@
--- What accepted operations mean of the maps that take their roles, and of which operations they are.
+-- What accepted operations and recipes mean of the maps that take their roles.
 use Rattle.std.specs.Prelude.{◌≡◌, Option, Some}
+use Rattle.std.specs.Arc.{arc_value}
 use Rattle.std.specs.Option.{option_map, option_map_or}
 use Rattle.calls.specs.declared.recipe.Accepted.{Accepted}
+use Rattle.calls.specs.declared.recipe.Recipe.{Recipe}
+use Rattle.calls.specs.declared.recipe.Recipe.TheVariants.{New, Given, Patch, Resized, Transposed, Computed}
 use Rattle.calls.specs.declared.role.Role.{Role}
 use Rattle.calls.specs.declared.role.Role.TheVariants.{Old, Mask, First, Second}
-use Rattle.calls.specs.Roles.{role_of, roles_of}
+use Rattle.calls.specs.declared.role.Roles.{Roles}
+use Rattle.calls.specs.Roles.{no_roles, role_of, roles_of}
+use Rattle.calls.specs.Stores.{object_with}
 use Rattle.model.specs.declared.call.Operation.{Operation}
 use Rattle.model.specs.declared.call.Operation.TheVariants.{Fill, OfOne, OfTwo}
 use Rattle.model.specs.declared.call.Out.{Out}
 use Rattle.model.specs.declared.shape.Signature.{Signature}
-use Rattle.model.specs.Object.{Content, Object, no_content}
+use Rattle.model.specs.Object.{Content, Object, cols_of, no_content, rows_of, transposed_content, transposed_signature}
+use Rattle.model.specs.Regions.{cut_to}
 use Rattle.model.specs.Renamed.{found_operation, found_out, out_over, renamed_operation, renamed_out}
 use Rattle.model.specs.WriteBack.{result_of}
-
--- the object of which this is known, with a map
-abbrev pub object_with : Signature → Content → Object
-object_with known map = record { domain = known.domain; shape = known.shape; content = map }
+use Rattle.patch.specs.Edits.{edited}
+use Rattle.store.specs.Stored.{content_of}
 
 -- an output and an operation on the objects whose maps take the roles
 abbrev pub out_with : Out Signature → (Role → Content) → Out Object
@@ -34,6 +38,40 @@ meaning out operation maps = result_of (out_with out maps) (operation_with opera
 -- what is known of the objects that take an operation's roles
 abbrev pub known_by_role : Out Signature → Operation Signature → Role → Option Signature
 known_by_role out operation = role_of (roles_of out operation)
+
+-- ---- recipes
+
+-- what is known of what a recipe makes
+abbrev pub known_of : Recipe → Signature
+known_of (New of) = of
+known_of (Given given) = given.of
+known_of (Patch patch) = patch.of
+known_of (Resized of shape) = record of { shape = shape }
+known_of (Transposed turn) = transposed_signature turn.of
+known_of (Computed computation) = computation.out.c
+
+-- what is known of its inputs, by their roles: those that its meaning reads
+abbrev pub inputs_of : Recipe → Roles Signature
+inputs_of (New of) = no_roles
+inputs_of (Given given) = no_roles
+inputs_of (Patch patch) = record no_roles { old = Some patch.of }
+inputs_of (Resized of shape) = record no_roles { old = Some of }
+inputs_of (Transposed turn) = record no_roles { first = Some turn.of }
+inputs_of (Computed computation) = roles_of computation.out computation.operation
+
+abbrev pub known_by : Recipe → Role → Option Signature
+known_by recipe = role_of (inputs_of recipe)
+
+-- what a recipe makes of the maps that take its roles
+abbrev pub meaning_of : Recipe → (Role → Content) → Content
+meaning_of (New of) maps = no_content
+meaning_of (Given given) maps = content_of (arc_value given.store)
+meaning_of (Patch patch) maps = edited patch.edits.items (maps Old)
+meaning_of (Resized of shape) maps = cut_to (rows_of shape) (cols_of shape) (maps Old)
+meaning_of (Transposed turn) maps = transposed_content (maps First)
+meaning_of (Computed computation) maps = meaning computation.out computation.operation maps
+
+-- ---- accepted operations
 
 -- the maps of the objects that take an operation's roles; no object, no map
 abbrev pub maps_of : {K : Type 0} → (K → Object) → Out K → Operation K → Role → Content

@@ -15,6 +15,9 @@ role_of roles Mask = roles.mask
 role_of roles First = roles.first
 role_of roles Second = roles.second
 
+abbrev pub no_roles : {T : Type 0} → Roles T
+no_roles = record { old = None; mask = None; first = None; second = None }
+
 -- the inputs of an operation
 abbrev pub first_of : {K : Type 0} → Operation K → Option K
 first_of (Fill value region) = None

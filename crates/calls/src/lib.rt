@@ -2,6 +2,7 @@
 #![tactic(auto)]
 
 mod checking;
+mod made;
 mod obj;
 mod operation;
 mod recipe;
@@ -18,6 +19,6 @@ pub use model::{
 };
 pub use obj::{Obj, Shapes};
 pub use operation::check_operate;
-pub use recipe::{Accepted, Recipe};
+pub use recipe::{Accepted, Computation, Given, Patch, Recipe, Transpose};
 pub use role::{Role, Roles, by_role};
 pub use turns::Turns;

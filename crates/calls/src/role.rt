@@ -1,9 +1,9 @@
 //! The roles that an operation's objects have in it.
-ghost use Rattle.std.specs.Prelude.{◌≡◌};
-ghost use Rattle.calls.specs.Roles.{role_of, roles_of};
-ghost use Rattle.model.specs.WriteBack.{reads_old, writes_region};
+ghost use Rattle.std.specs.Prelude.{◌≡◌, Some};
+ghost use Rattle.calls.specs.Roles.{no_roles, roles_of};
+ghost use Rattle.model.specs.WriteBack.{reads_old};
 
-use model::{OneInput, Operation, Out};
+use model::{Operation, Out};
 
 /// Which of an operation's objects one is.
 #[derive(Clone, Copy)]
@@ -24,16 +24,16 @@ pub struct Roles<T> {
     pub second: Option<T>,
 }
 
-impl<T: Copy> Roles<T> {
-    /// What has a role.
-    pub fn of(&self, role: Role) -> Option<T>
-        ensures { result ≡ role_of self.now role }
+impl<T> Roles<T> {
+    /// What takes the role of the old content, and no other.
+    pub fn of_old(old: T) -> Roles<T>
+        ensures { result ≡ record no_roles { old = Some old } }
     {
-        match role {
-            Role::Old => self.old,
-            Role::Mask => self.mask,
-            Role::First => self.first,
-            Role::Second => self.second,
+        Roles {
+            old: Some(old),
+            mask: None,
+            first: None,
+            second: None,
         }
     }
 }
@@ -61,22 +61,11 @@ pub fn by_role<K: Copy>(out: &Out<K>, operation: &Operation<K>) -> Roles<K>
 }
 
 /// Whether an operation reads what its output has before it.
-fn reads_old<K>(out: &Out<K>, operation: &Operation<K>) -> bool
+fn reads_old<K: Copy>(out: &Out<K>, operation: &Operation<K>) -> bool
     ensures { result ≡ reads_old out.now operation.now }
 {
-    out.mask.is_some() || out.desc.complement || out.accum.is_some() || writes_region(operation)
-}
-
-/// Whether an operation writes some positions of its output alone.
-fn writes_region<K>(operation: &Operation<K>) -> bool
-    ensures { result ≡ writes_region operation.now }
-{
-    match operation {
-        Operation::Fill { .. } => true,
-        Operation::OfOne {
-            computes: OneInput::Assign(_),
-            ..
-        } => true,
-        _ => false,
-    }
+    out.mask.is_some()
+        || out.desc.complement
+        || out.accum.is_some()
+        || operation.as_lent().region_written().is_some()
 }

@@ -2,14 +2,14 @@
 ghost use Rattle.std.specs.Prelude.{◌≡◌, ℕ};
 ghost use Rattle.std.specs.Option.{option_map};
 ghost use Rattle.calls.specs.declared.role.Role.{Role as AnyRole};
-ghost use Rattle.calls.specs.Recipes.{known_by_role, meaning};
+ghost use Rattle.calls.specs.Recipes.{known_by, known_by_role, known_of, meaning, meaning_of};
 ghost use Rattle.calls.specs.Straight.{straight_out};
 ghost use Rattle.calls.specs.Turned.{AreMatrices, exchanged, flipped_form, flipped_kind, flipped_semiring, turned};
 ghost use Rattle.calls.specs.Turned.{turns_of};
 ghost use Rattle.model.specs.Object.{Content, transposed_content, transposed_signature};
 ghost use Rattle.model.specs.Table.{transposed};
 
-use crate::recipe::{Accepted, Recipe};
+use crate::recipe::{Accepted, Computation, Recipe};
 use algebra::{BinaryKind, SemiringName};
 use model::{Desc, Form, Operation, Out, Signature, TwoInputs};
 
@@ -27,23 +27,24 @@ impl Accepted {
     /// is that of the vector and the matrix itself, where its operator has one that takes its operands in exchanged
     /// order: it needs no transpose.
     pub fn into_recipe(self) -> (Recipe, Turns)
-        ensures out { result.0.out ≡ straight_out self.out }
-        ensures known { (role : AnyRole) → known_by_role result.0.out result.0.operation role
+        ensures makes { known_of result.0 ≡ self.out.c }
+        ensures known { (role : AnyRole) → known_by result.0 role
             ≡ turned (option_map transposed_signature) result.1 (known_by_role self.out self.operation) role }
         ensures matrices { AreMatrices result.1 (known_by_role self.out self.operation) }
         ensures meaning { (maps : AnyRole → Content) → (i j : ℕ)
-            → meaning result.0.out result.0.operation (turned transposed_content result.1 maps) i j
+            → meaning_of result.0 (turned transposed_content result.1 maps) i j
             ≡ meaning self.out self.operation maps i j }
     {
         let Accepted { out, operation } = self;
         let desc = out.desc;
         let out = straight_out(&out);
         if let Some(operation) = exchanged(desc, &operation) {
-            return (Recipe { out, operation }, Turns::Exchanged);
+            let computation = Computation { out, operation };
+            return (Recipe::Computed(computation), Turns::Exchanged);
         }
         let turns = turns_of(desc, &operation);
         let operation = transposed(desc, operation);
-        (Recipe { out, operation }, turns)
+        (Recipe::Computed(Computation { out, operation }), turns)
     }
 }
 

@@ -25,8 +25,8 @@ use Rattle.model.specs.declared.shape.Signature.{Signature}
 use Rattle.model.specs.declared.limits.TheConstants.{MOST_FILLED}
 use Rattle.model.specs.Fault.{accumulates, operation_fault, plan_in}
 use Rattle.model.specs.Lent.{operation_lent}
-use Rattle.model.specs.Object.{AreWordsOf, IsObject, Object, cast_content, cols_of, rows_of, signature_of, transposed_object, transposed_signature}
-use Rattle.model.specs.Operations.{is_written_by, operation}
+use Rattle.model.specs.Object.{AreWordsOf, IsObject, Object, cols_of, in_domain, rows_of, signature_of, transposed_object, transposed_signature}
+use Rattle.model.specs.Operations.{computed, is_written_by, operation}
 use Rattle.model.specs.Renamed.{inputs_of, renamed_operation, renamed_out}
 use Rattle.model.specs.Table.{filled_by, is_offered, plan_of}
 use Rattle.model.specs.WriteBack.{landed, masked, result_of}
@@ -58,12 +58,8 @@ pub straight-means : (out : Out Object) (op : Operation Object) → IsStraight o
     → result_of out op i j ≡ masked out (landed out (is_written_by out.c.shape op) (computed_in out op)) i j
 unfolding result_of
 straight-means out op straight i j =
-    let c = signature_of out.c in
-    let sig = renamed_operation signature_of op in
-    ap (λ (p : Operation Object). masked out (landed out (is_written_by c.shape op) (cast_content (plan_in c out.desc sig).domain c.domain (operation c p))) i j)
+    ap (λ (p : Operation Object). masked out (landed out (is_written_by out.c.shape op) (in_domain out.c.domain (computed (signature_of out.c) p))) i j)
     (transposed-none transposed_object out.desc op straight)
-    ∙ ap (λ (p : Operation Signature). masked out (landed out (is_written_by c.shape op) (cast_content (plan_of c p).domain c.domain (operation c op))) i j)
-    (transposed-none transposed_signature out.desc sig straight)
 
 -- ---- tasks
 

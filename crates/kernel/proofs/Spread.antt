@@ -3,7 +3,6 @@ use Rattle.std.proofs.Common.{◌≡◌, ◌&&◌, ℕ, true, false, if◌then�
 use Rattle.std.specs.Option.{option_map}
 use Rattle.std.proofs.lemmas.Bool.{and_parts, cases_Bool}
 use Rattle.kernel.specs.Accepts.{Accepts}
-use Rattle.kernel.specs.Regions.{region_of}
 use Rattle.kernel.specs.Spread.{computed_in, spread}
 use Rattle.model.specs.declared.call.OneInput.TheVariants.{Apply, Select, ReduceRows, Transpose, Extract, Assign}
 use Rattle.model.specs.declared.call.Operation.{Operation}
@@ -14,7 +13,7 @@ use Rattle.model.specs.declared.shape.Shape.{Shape}
 use Rattle.model.specs.declared.shape.Signature.{Signature}
 use Rattle.model.specs.Indices.{are_below, place_in}
 use Rattle.model.specs.Object.{Content, Object, cols_of, rows_of, signature_of}
-use Rattle.model.specs.Operations.{is_written_by, operation}
+use Rattle.model.specs.Operations.{is_written_by, operation, region_written}
 use Rattle.model.specs.Regions.{cols_in, found_at, is_listed, rows_in}
 use Rattle.model.specs.Table.{plan_of}
 
@@ -38,33 +37,9 @@ unwritten c (OfOne Transpose a) i j none = absurd (cc)
 unwritten c (OfOne (Extract region) a) i j none = absurd (cc)
 unwritten c (OfTwo computes a b) i j none = absurd (cc)
 
--- an operation without a region writes all positions
-all_written : {K : Type 0} (shape : Shape) (op : Operation K) (i j : ℕ) → region_of op ≡ None
-    → is_written_by shape op i j ≡ true
-all_written shape (Fill value region) i j none = absurd (cc)
-all_written shape (OfOne (Assign region) a) i j none = absurd (cc)
-all_written shape (OfOne (Apply function) a) i j none = refl
-all_written shape (OfOne (Select op scalar) a) i j none = refl
-all_written shape (OfOne (ReduceRows monoid) a) i j none = refl
-all_written shape (OfOne Transpose a) i j none = refl
-all_written shape (OfOne (Extract region) a) i j none = refl
-all_written shape (OfTwo computes a b) i j none = refl
-
--- one with a region writes the positions that its lists name
-listed_written : {K : Type 0} (shape : Shape) (op : Operation K) (r : Region) (i j : ℕ) → region_of op ≡ Some r
-    → is_listed (rows_of shape) (cols_of shape) (rows_in r) (cols_in r) i j ≡ is_written_by shape op i j
-listed_written shape (Fill value region) r i j is = let same : region ≡ r = cc in rw (← same) refl
-listed_written shape (OfOne (Assign region) a) r i j is = let same : region ≡ r = cc in rw (← same) refl
-listed_written shape (OfOne (Apply function) a) r i j is = absurd (cc)
-listed_written shape (OfOne (Select op scalar) a) r i j is = absurd (cc)
-listed_written shape (OfOne (ReduceRows monoid) a) r i j is = absurd (cc)
-listed_written shape (OfOne Transpose a) r i j is = absurd (cc)
-listed_written shape (OfOne (Extract region) a) r i j is = absurd (cc)
-listed_written shape (OfTwo computes a b) r i j is = absurd (cc)
-
--- ..which lie inside the output
+-- the positions that a region names lie inside the output
 pub written-low : (c : Signature) (op : Operation Signature) (r : Region) → Accepts (plan_of c op) c
-    → region_of op ≡ Some r
+    → region_written op ≡ Some r
     → (are_below (rows_of c.shape) (rows_in r) ≡ true) × (are_below (cols_of c.shape) (cols_in r) ≡ true)
 written-low c (Fill value region) r accepts is =
     let same : region ≡ r = cc in rw (← same) (and_parts _ _ accepts.inside)
@@ -102,13 +77,13 @@ module _ (out : Out Object) (op : Operation Object) where
       ]
 
   -- without a region, what is computed everywhere
-  pub spread-everywhere : region_of op ≡ None → (i j : ℕ) → computed_in out op i j ≡ spread out op i j
-  spread-everywhere none i j = rw (all_written out.c.shape op i j none) refl
+  pub spread-everywhere : region_written op ≡ None → (i j : ℕ) → computed_in out op i j ≡ spread out op i j
+  spread-everywhere none i j = rw none refl
 
   -- without an accumulator, what is there outside the region
-  pub spread-over : (r : Region) → region_of op ≡ Some r → is_some out.accum ≡ false → (i j : ℕ)
+  pub spread-over : (r : Region) → region_written op ≡ Some r → is_some out.accum ≡ false → (i j : ℕ)
       → (if is_listed (rows_of out.c.shape) (cols_of out.c.shape) (rows_in r) (cols_in r) i j
       then computed_in out op i j
       else out.c.content i j)
       ≡ spread out op i j
-  spread-over r is none i j = rw (listed_written out.c.shape op r i j is, is_none-none out.accum none) refl
+  spread-over r is none i j = rw (is, is_none-none out.accum none) refl

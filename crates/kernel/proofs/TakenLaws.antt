@@ -7,8 +7,9 @@ use Rattle.std.proofs.lemmas.List.Elements.{All-cons, All-nil}
 use Rattle.calls.specs.declared.role.Role.{Role}
 use Rattle.calls.specs.declared.role.Role.TheVariants.{Old, Mask, First, Second}
 use Rattle.calls.specs.declared.role.Roles.{Roles}
-use Rattle.calls.specs.Recipes.{known_by_role, meaning, object_with, operation_with, out_with}
-use Rattle.kernel.specs.Takes.{AreInputs, IsStoreOf, IsTurned, Takes, lent_in, map_in, maps_in}
+use Rattle.calls.specs.Recipes.{known_by_role, meaning, operation_with, out_with}
+use Rattle.calls.specs.Stores.{IsStoreOf, object_with}
+use Rattle.kernel.specs.Takes.{AreInputs, IsTurned, Takes, lent_in, map_in, maps_in}
 use Rattle.model.specs.declared.call.Operation.{Operation}
 use Rattle.model.specs.declared.call.Operation.TheVariants.{Fill, OfOne, OfTwo}
 use Rattle.model.specs.declared.call.Out.{Out}
@@ -59,16 +60,11 @@ old_store false c None unread takes rows cols empty = record {
 }
 
 pub old-store : (out : Out Signature) (operation : Operation Signature) (stores : Roles (Bor Stored))
-    (unread : Bor Stored) → AreInputs out operation stores
+    (unread : Bor Stored) → AreInputs (known_by_role out operation) stores
     → unread.now.rows ≡ rows_of out.c.shape → unread.now.cols ≡ cols_of out.c.shape
     → ((i j : ℕ) → content_of unread.now i j ≡ None) → IsStoreOf out.c (unwrap_or stores.old unread).now
 old-store out operation stores unread are rows cols empty =
     old_store (reads_old out operation) out.c stores.old unread (are Old) rows cols empty
-
-pub old-map : (old : Option (Bor Stored)) (unread : Bor Stored) → ((i j : ℕ) → content_of unread.now i j ≡ None)
-    → content_of (unwrap_or old unread).now ≡ map_in (option_map (λ store. store.now) old)
-old-map (Some store) unread empty = refl
-old-map None unread empty = λ t i j. empty i j t
 
 -- ---- what is left is an object
 
@@ -87,7 +83,7 @@ known_operation (OfOne computes a) maps = refl
 known_operation (OfTwo computes a b) maps = refl
 
 inputs_are : (out : Out Signature) (operation : Operation Signature) (stores : Roles (Bor Stored))
-    → AreInputs out operation stores → All IsObject (inputs_of (operation_with operation (maps_in stores)))
+    → AreInputs (known_by_role out operation) stores → All IsObject (inputs_of (operation_with operation (maps_in stores)))
 inputs_are out (Fill value region) stores are = All-nil IsObject
 inputs_are out (OfOne computes a) stores are =
     All-cons IsObject _ [] (takes-object a (lent_in stores First) (are First)) (All-nil IsObject)
@@ -96,7 +92,7 @@ inputs_are out (OfTwo computes a b) stores are =
     (All-cons IsObject _ [] (takes-object b (lent_in stores Second) (are Second)) (All-nil IsObject))
 
 pub meaning-is_object : (out : Out Signature) (operation : Operation Signature) (stores : Roles (Bor Stored))
-    → operation_fault out operation ≡ None → AreInputs out operation stores
+    → operation_fault out operation ≡ None → AreInputs (known_by_role out operation) stores
     → IsObject (object_with out.c (meaning out operation (maps_in stores)))
 meaning-is_object out operation stores accepted are =
     let maps = maps_in stores in

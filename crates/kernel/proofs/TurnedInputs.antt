@@ -6,12 +6,11 @@ use Rattle.calls.specs.declared.role.Role.TheVariants.{Old, Mask, First, Second}
 use Rattle.calls.specs.declared.role.Roles.{Roles}
 use Rattle.calls.specs.declared.turns.Turns.{Turns}
 use Rattle.calls.specs.declared.turns.Turns.TheVariants.{Transposed, Exchanged}
-use Rattle.calls.specs.Recipes.{known_by_role, meaning}
+use Rattle.calls.specs.declared.recipe.Recipe.{Recipe}
+use Rattle.calls.specs.Recipes.{known_by, meaning_of}
 use Rattle.calls.specs.Turned.{AreMatrices, turned}
 use Rattle.kernel.specs.Takes.{AreInputs, IsTurned, Takes, lent_in, map_in, maps_in}
 use Rattle.kernel.proofs.TakenLaws.{map-turned, takes-turned}
-use Rattle.model.specs.declared.call.Operation.{Operation}
-use Rattle.model.specs.declared.call.Out.{Out}
 use Rattle.model.specs.declared.shape.Signature.{Signature}
 use Rattle.model.specs.Object.{Content, transposed_content, transposed_signature}
 use Rattle.store.specs.Stored.{Stored}
@@ -74,27 +73,27 @@ maps_transposed first second old stores turned Second = map-turned second (lent_
 
 -- ---- what a recipe means of them
 
-module _ (out new : Out Signature) (op other : Operation Signature) (turns : Turns) (old : Roles (Bor Stored))
-    (known : (role : Role) → known_by_role new other role ≡ known_turned turns (known_by_role out op) role)
-    (are : AreInputs out op old)
-    (means : (maps : Role → Content) (i j : ℕ)
-    → meaning new other (turned transposed_content turns maps) i j ≡ meaning out op maps i j) where
-  pub inputs-exchanged : turns ≡ Exchanged → AreInputs new other (exchanged old)
-  inputs-exchanged is = takes_exchanged (known_by_role out op) (known_by_role new other) old (rw is at known) are
+module _ (known : Role → Option Signature) (means : (Role → Content) → Content) (recipe : Recipe) (turns : Turns)
+    (old : Roles (Bor Stored)) (same : (role : Role) → known_by recipe role ≡ known_turned turns known role)
+    (are : AreInputs known old)
+    (alike : (maps : Role → Content) (i j : ℕ)
+    → meaning_of recipe (turned transposed_content turns maps) i j ≡ means maps i j) where
+  pub inputs-exchanged : turns ≡ Exchanged → AreInputs (known_by recipe) (exchanged old)
+  inputs-exchanged is = takes_exchanged known (known_by recipe) old (rw is at same) are
 
   pub meaning-exchanged : turns ≡ Exchanged → (i j : ℕ)
-      → meaning new other (maps_in (exchanged old)) i j ≡ meaning out op (maps_in old) i j
+      → meaning_of recipe (maps_in (exchanged old)) i j ≡ means (maps_in old) i j
   meaning-exchanged is i j =
-      (λ t. meaning new other (λ role. (maps_exchanged old role ∙ ap (λ turns. turned transposed_content turns (maps_in old) role) (sym is)) t) i j)
-      ∙ means (maps_in old) i j
+      (λ t. meaning_of recipe (λ role. (maps_exchanged old role ∙ ap (λ turns. turned transposed_content turns (maps_in old) role) (sym is)) t) i j)
+      ∙ alike (maps_in old) i j
 
   module _ (first second : Bool) (is : turns ≡ Transposed first second) (stores : Roles (Bor Stored))
       (lent : AreTurned first second old stores) where
-    pub inputs-transposed : AreMatrices turns (known_by_role out op) → AreInputs new other stores
+    pub inputs-transposed : AreMatrices turns known → AreInputs (known_by recipe) stores
     inputs-transposed matrices =
-        takes_transposed first second (known_by_role out op) (known_by_role new other) old stores lent (rw is at matrices) (rw is at known) are
+        takes_transposed first second known (known_by recipe) old stores lent (rw is at matrices) (rw is at same) are
 
-    pub meaning-transposed : (i j : ℕ) → meaning new other (maps_in stores) i j ≡ meaning out op (maps_in old) i j
+    pub meaning-transposed : (i j : ℕ) → meaning_of recipe (maps_in stores) i j ≡ means (maps_in old) i j
     meaning-transposed i j =
-        (λ t. meaning new other (λ role. (maps_transposed first second old stores lent role ∙ ap (λ turns. turned transposed_content turns (maps_in old) role) (sym is)) t) i j)
-        ∙ means (maps_in old) i j
+        (λ t. meaning_of recipe (λ role. (maps_transposed first second old stores lent role ∙ ap (λ turns. turned transposed_content turns (maps_in old) role) (sym is)) t) i j)
+        ∙ alike (maps_in old) i j

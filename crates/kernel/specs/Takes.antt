@@ -4,20 +4,12 @@ use Rattle.std.specs.Borrow.{Bor}
 use Rattle.std.specs.Option.{option_map, option_map_or}
 use Rattle.calls.specs.declared.role.Role.{Role}
 use Rattle.calls.specs.declared.role.Roles.{Roles}
-use Rattle.calls.specs.Recipes.{known_by_role, object_with}
 use Rattle.calls.specs.Roles.{role_of}
-use Rattle.model.specs.declared.call.Operation.{Operation}
-use Rattle.model.specs.declared.call.Out.{Out}
+use Rattle.calls.specs.Stores.{IsStoreOf}
 use Rattle.model.specs.declared.shape.Signature.{Signature}
-use Rattle.model.specs.Object.{Content, IsObject, cols_of, no_content, rows_of, transposed_content}
+use Rattle.model.specs.Object.{Content, no_content, transposed_content}
 use Rattle.model.specs.Table.{transposed_if}
 use Rattle.store.specs.Stored.{Stored, content_of}
-
--- a store is that of an object of which this is known
-pub record IsStoreOf (known : Signature) (stored : Stored) : Type 0 where
-  pub rows : stored.rows ≡ rows_of known.shape
-  pub cols : stored.cols ≡ cols_of known.shape
-  pub is_object : IsObject (object_with known (content_of stored))
 
 -- a role that is read has a store that fits it, and no other role has one
 abbrev pub Takes : Option Signature → Option Stored → Type 0
@@ -29,9 +21,9 @@ Takes known stored = ⊥
 abbrev pub lent_in : Roles (Bor Stored) → Role → Option Stored
 lent_in stores role = option_map (λ store. store.now) (role_of stores role)
 
--- stores take the roles of an operation
-abbrev pub AreInputs : Out Signature → Operation Signature → Roles (Bor Stored) → Type 0
-AreInputs out operation stores = (role : Role) → Takes (known_by_role out operation role) (lent_in stores role)
+-- stores take the roles of what is evaluated, by what is known of its inputs
+abbrev pub AreInputs : (Role → Option Signature) → Roles (Bor Stored) → Type 0
+AreInputs known stores = (role : Role) → Takes (known role) (lent_in stores role)
 
 -- the map of a store; no store, no map
 abbrev pub map_in : Option Stored → Content

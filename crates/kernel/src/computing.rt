@@ -1,26 +1,23 @@
 //! What a task's operation computes, before it is written back.
 ghost use Rattle.std.specs.Prelude.{◌≡◌, ℕ, ◌<◌, ◌≤◌, IfOk, Some, if◌then◌else◌, true};
-ghost use Rattle.std.specs.Option.{option_map};
 ghost use Rattle.algebra.specs.Value.{IsWordOf};
 ghost use Rattle.kernel.specs.Blocks.{AgreesUnder, HasShape};
 ghost use Rattle.kernel.specs.Inputs.{known_of};
-ghost use Rattle.kernel.specs.Regions.{region_of};
 ghost use Rattle.kernel.specs.Spread.{computed_in, spread};
 ghost use Rattle.kernel.specs.Tasks.{operation_of, out_of};
-ghost use Rattle.model.specs.declared.shape.Signature.{Signature as Known};
 ghost use Rattle.model.specs.Indices.{are_below};
 ghost use Rattle.model.specs.Lent.{operation_lent};
 ghost use Rattle.model.specs.Object.{cast_content, cols_of, rows_of};
 ghost use Rattle.model.specs.Regions.{cols_in, is_listed, rows_in};
 ghost use Rattle.model.specs.Renamed.{renamed_operation};
-ghost use Rattle.model.specs.Table.{plan_of, plan_of_one, plan_of_two};
+ghost use Rattle.model.specs.Table.{plan_of};
 ghost use Rattle.store.specs.Stored.{block_content, content_of};
 
 use crate::input::Input;
 use crate::operating::operation_rows;
 use crate::task::Task;
 use algebra::Domain;
-use calls::{IndexList, OneInput, Region, Signature, TwoInputs};
+use calls::{IndexList, Region, Signature};
 use masks::Mask;
 use model::{Lent, NoMemory};
 use shapes::put_rows;
@@ -47,7 +44,7 @@ pub(crate) fn computed_rows(
     if task.out.accum.is_some() {
         return Ok(block);
     }
-    match region_of(task.operation) {
+    match task.operation.region_written() {
         Some(region) => over_old(alloc, task.out.c.store, block, region),
         None => Ok(block),
     }
@@ -70,20 +67,6 @@ fn cast_rows(
     let block = operation_rows(alloc, c, task.operation, mask, range)?;
     let from = answer_of(c, task.operation);
     Ok(block_in_domain(block, from, c.domain))
-}
-
-/// The region of the output that an operation writes, where it doesn't write all.
-fn region_of<'a>(operation: Lent<'a, Input<'_>>) -> Option<&'a Region>
-    ensures { option_map (λ region. region.now) result ≡ region_of (operation_lent operation.entry) }
-{
-    match operation {
-        Lent::Fill { region, .. } => Some(region),
-        Lent::OfOne {
-            computes: OneInput::Assign(region),
-            ..
-        } => Some(region),
-        _ => None,
-    }
 }
 
 /// A block in its region, and what a store has outside it.
@@ -118,32 +101,8 @@ fn answer_of(c: Signature, operation: Lent<'_, Input<'_>>) -> Domain
 {
     match operation {
         Lent::Fill { .. } => c.domain,
-        Lent::OfOne { computes, a } => answer_of_one(computes, a.signature),
-        Lent::OfTwo { computes, .. } => answer_of_two(computes),
-    }
-}
-
-/// The domain of what is computed of one input.
-fn answer_of_one(computes: &OneInput, a: Signature) -> Domain
-    ensures { (c : Known) → (plan_of_one c computes.now a).domain ≡ result }
-{
-    match computes {
-        OneInput::Apply(function) => function.answer(),
-        OneInput::ReduceRows(monoid) => monoid.domain,
-        OneInput::Select { .. }
-        | OneInput::Transpose
-        | OneInput::Extract(_)
-        | OneInput::Assign(_) => a.domain,
-    }
-}
-
-/// The domain of what is computed of two inputs.
-fn answer_of_two(computes: TwoInputs) -> Domain
-    ensures { (a b : Known) → (plan_of_two computes a b).domain ≡ result }
-{
-    match computes {
-        TwoInputs::Multiply { semiring, .. } => semiring.answer(),
-        TwoInputs::Combine { op, .. } => op.answer(),
+        Lent::OfOne { computes, a } => computes.answer(a.signature),
+        Lent::OfTwo { computes, .. } => computes.answer(),
     }
 }
 

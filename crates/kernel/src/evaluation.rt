@@ -1,7 +1,8 @@
-//! Accepted operations, evaluated at once.
+//! Recipes and accepted operations, evaluated at once.
 ghost use Rattle.std.specs.Prelude.{◌≡◌, ℕ, IfOk};
 ghost use Rattle.std.specs.Option.{option_map};
-ghost use Rattle.calls.specs.Recipes.{meaning, object_with};
+ghost use Rattle.calls.specs.Recipes.{known_by, known_by_role, known_of, meaning, meaning_of};
+ghost use Rattle.calls.specs.Stores.{object_with};
 ghost use Rattle.kernel.specs.Takes.{AreInputs, IsTurned, lent, maps_in};
 ghost use Rattle.model.specs.Object.{IsObject, cols_of, rows_of};
 ghost use Rattle.store.specs.Stored.{content_of};
@@ -15,12 +16,12 @@ use store::Store;
 
 /// What an accepted operation leaves of the stores that take its roles. Inputs are transposed first, once, where a
 /// product with a vector doesn't do without.
-pub fn evaluate(
+pub fn evaluate_accepted(
     alloc: Global,
     accepted: Accepted,
     stores: &Roles<&Store>,
 ) -> Result<Store, NoMemory>
-    requires inputs { AreInputs accepted.out accepted.operation stores.now }
+    requires inputs { AreInputs (known_by_role accepted.out accepted.operation) stores.now }
     ensures rows { IfOk result (λ store. store.rows ≡ rows_of accepted.out.c.shape) }
     ensures cols { IfOk result (λ store. store.cols ≡ cols_of accepted.out.c.shape) }
     ensures content { IfOk result (λ store. (i j : ℕ)
@@ -29,7 +30,7 @@ pub fn evaluate(
 {
     let (recipe, turns) = accepted.into_recipe();
     match turns {
-        Turns::Exchanged => evaluate_all(alloc, &recipe, &exchanged(stores)),
+        Turns::Exchanged => evaluate(alloc, &recipe, &exchanged(stores)),
         Turns::Transposed { first, second } => {
             let first = transposed_if(alloc, stores.first, first)?;
             let second = transposed_if(alloc, stores.second, second)?;
@@ -38,21 +39,21 @@ pub fn evaluate(
                 second: lent(&second, stores.second),
                 ..*stores
             };
-            evaluate_all(alloc, &recipe, &stores)
+            evaluate(alloc, &recipe, &stores)
         }
     }
 }
 
 /// All rows of what a recipe gives of the stores that take its roles.
-fn evaluate_all(alloc: Global, recipe: &Recipe, stores: &Roles<&Store>) -> Result<Store, NoMemory>
-    requires inputs { AreInputs recipe.now.out recipe.now.operation stores.now }
-    ensures rows { IfOk result (λ store. store.rows ≡ rows_of recipe.now.out.c.shape) }
-    ensures cols { IfOk result (λ store. store.cols ≡ cols_of recipe.now.out.c.shape) }
+pub fn evaluate(alloc: Global, recipe: &Recipe, stores: &Roles<&Store>) -> Result<Store, NoMemory>
+    requires inputs { AreInputs (known_by recipe.now) stores.now }
+    ensures rows { IfOk result (λ store. store.rows ≡ rows_of (known_of recipe.now).shape) }
+    ensures cols { IfOk result (λ store. store.cols ≡ cols_of (known_of recipe.now).shape) }
     ensures content { IfOk result (λ store. (i j : ℕ)
-        → content_of store i j ≡ meaning recipe.now.out recipe.now.operation (maps_in stores.now) i j) }
-    ensures is_object { IfOk result (λ store. IsObject (object_with recipe.now.out.c (content_of store))) }
+        → content_of store i j ≡ meaning_of recipe.now (maps_in stores.now) i j) }
+    ensures is_object { IfOk result (λ store. IsObject (object_with (known_of recipe.now) (content_of store))) }
 {
-    let rows = recipe.out.c.shape.rows();
+    let rows = recipe.signature().shape.rows();
     let block = eval_piece(alloc, recipe, stores, 0..rows)?;
     Ok(join(recipe, block))
 }

@@ -1,6 +1,7 @@
 //! What recipes give: blocks of rows of what their operations leave, and the store that they join to.
 #![tactic(auto)]
 
+mod block;
 mod computing;
 mod elements;
 mod evaluation;
@@ -12,5 +13,6 @@ mod piece;
 mod product;
 mod task;
 
-pub use evaluation::evaluate;
+pub use block::Block;
+pub use evaluation::{evaluate, evaluate_accepted};
 pub use piece::{eval_piece, join};

@@ -1,71 +1,131 @@
-//! Pieces of a recipe's result.
+//! Pieces of what recipes give.
 ghost use Rattle.std.specs.Prelude.{◌≡◌, ◌<◌, ◌≤◌, ℕ, IfOk, None, Some};
 ghost use Rattle.std.specs.Option.{option_map};
-ghost use Rattle.calls.specs.Recipes.{meaning, object_with, operation_with, out_with};
+ghost use Rattle.calls.specs.Recipes.{known_by, known_by_role, known_of as makes, meaning, operation_with, out_with};
+ghost use Rattle.calls.specs.Stores.{IsStoreOf, object_with};
 ghost use Rattle.kernel.specs.Inputs.{known_of, object_of};
+ghost use Rattle.kernel.specs.Pieces.{HasAllRows, IfRows, IsPieceOf, cols_in, content_in};
 ghost use Rattle.kernel.specs.Takes.{AreInputs, Takes, map_in, maps_in};
 ghost use Rattle.model.specs.Lent.{operation_lent};
 ghost use Rattle.model.specs.Object.{IsWithin, cols_of, rows_of};
 ghost use Rattle.model.specs.Renamed.{renamed_operation, renamed_out};
+ghost use Rattle.patch.specs.Edits.{edited};
 ghost use Rattle.store.specs.Stored.{block_content, content_of};
 
+use crate::block::Block;
 use crate::input::Input;
 use crate::task::{Task, task_rows};
-use calls::{Operation, Out, Recipe, Roles, Signature};
+use calls::{Computation, Operation, Out, Patch, Recipe, Roles, Signature};
 use model::{Lent, NoMemory};
+use patch::apply_edits;
+use shapes::{resize, transpose};
 use std::alloc::Global;
 use std::ops::Range;
 use store::{RowBlock, Store};
 
-/// The rows in a range of what a recipe gives of the stores that take its roles: its operation's
-/// result, accumulated, masked and written back. Its time and memory are those of the operation on
-/// these rows.
+/// The rows in a range of what a recipe gives of the stores that take its roles. Its time and memory are those of the
+/// operation on these rows; a recipe of another kind isn't cut, and gives all rows.
 pub fn eval_piece(
     alloc: Global,
     recipe: &Recipe,
     stores: &Roles<&Store>,
     range: Range<u64>,
-) -> Result<RowBlock, NoMemory>
-    requires inputs { AreInputs recipe.now.out recipe.now.operation stores.now }
+) -> Result<Block, NoMemory>
+    requires inputs { AreInputs (known_by recipe.now) stores.now }
     requires range { range.start ≤ range.end }
-    requires rows { range.end ≤ rows_of recipe.now.out.c.shape }
+    requires rows { range.end ≤ rows_of (makes recipe.now).shape }
+    ensures { IfOk result (IsPieceOf recipe.now (maps_in stores.now) range.start range.end) }
+{
+    let store = match recipe {
+        Recipe::Computed(computation) => {
+            let rows = computed_piece(alloc, computation, stores, range)?;
+            return Ok(Block::Rows(rows));
+        }
+        Recipe::New(of) => Store::new(alloc, of.shape.rows(), of.shape.cols()),
+        Recipe::Given(given) => given.store.try_clone()?,
+        Recipe::Patch(patch) => patched(alloc, patch, taking(patch.of, stores.old))?,
+        Recipe::Resized { of, shape } => {
+            let old = taking(*of, stores.old);
+            resize(alloc, old, shape.rows(), shape.cols())?
+        }
+        Recipe::Transposed(turn) => transpose(alloc, taking(turn.of, stores.first))?,
+    };
+    Ok(Block::Whole(store))
+}
+
+/// The store that takes a role that is read.
+fn taking(known: Signature, store: Option<&Store>) -> &Store
+    requires { Takes (Some known) (option_map (λ store. store.now) store) }
+    ensures is { IsStoreOf known result.now }
+    ensures map { content_of result.now ≡ map_in (option_map (λ store. store.now) store.entry) }
+{
+    match store {
+        Some(store) => store,
+        None => unreachable!(),
+    }
+}
+
+/// A store after edits, in memory of its own.
+fn patched(alloc: Global, patch: &Patch, old: &Store) -> Result<Store, NoMemory>
+    requires { IsStoreOf patch.now.of old.now }
+    ensures rows { IfOk result (λ store. store.rows ≡ rows_of patch.now.of.shape) }
+    ensures cols { IfOk result (λ store. store.cols ≡ cols_of patch.now.of.shape) }
+    ensures content { IfOk result (λ store. (i j : ℕ)
+        → content_of store i j ≡ edited patch.now.edits.items (content_of old.now) i j) }
+{
+    let mut store = old.try_clone()?;
+    let mut edits = patch.edits.clone()?;
+    apply_edits(alloc, &mut store, &mut edits)?;
+    Ok(store)
+}
+
+/// The rows in a range of what an operation leaves: what it computes, accumulated, masked and written back.
+fn computed_piece(
+    alloc: Global,
+    computation: &Computation,
+    stores: &Roles<&Store>,
+    range: Range<u64>,
+) -> Result<RowBlock, NoMemory>
+    requires inputs { AreInputs (known_by_role computation.now.out computation.now.operation) stores.now }
+    requires range { range.start ≤ range.end }
+    requires rows { range.end ≤ rows_of computation.now.out.c.shape }
     ensures first { IfOk result (λ block. block.first ≡ range.start) }
     ensures past { IfOk result (λ block. block.past ≡ range.end) }
-    ensures cols { IfOk result (λ block. block.cols ≡ cols_of recipe.now.out.c.shape) }
+    ensures cols { IfOk result (λ block. block.cols ≡ cols_of computation.now.out.c.shape) }
     ensures words { IfOk result (λ block. (i j : ℕ) → range.start ≤ i → i < range.end
-        → block_content block i j ≡ meaning recipe.now.out recipe.now.operation (maps_in stores.now) i j) }
+        → block_content block i j ≡ meaning computation.now.out computation.now.operation (maps_in stores.now) i j) }
 {
-    let shape = recipe.out.c.shape;
+    let shape = computation.out.c.shape;
     // It takes no memory, and stands for what the output has where nobody reads that.
     let unread = Store::new(alloc, shape.rows(), shape.cols());
-    let task = taken(recipe, *stores, &unread);
+    let task = taken(computation, *stores, &unread);
     task_rows(alloc, &task, range)
 }
 
-/// A recipe on the stores that take its roles.
-fn taken<'a>(recipe: &'a Recipe, stores: Roles<&'a Store>, unread: &'a Store) -> Task<'a>
-    requires inputs { AreInputs recipe.now.out recipe.now.operation stores }
-    requires rows { unread.now.rows ≡ rows_of recipe.now.out.c.shape }
-    requires cols { unread.now.cols ≡ cols_of recipe.now.out.c.shape }
+/// An operation on the stores that take its roles.
+fn taken<'a>(computation: &'a Computation, stores: Roles<&'a Store>, unread: &'a Store) -> Task<'a>
+    requires inputs { AreInputs (known_by_role computation.now.out computation.now.operation) stores }
+    requires rows { unread.now.rows ≡ rows_of computation.now.out.c.shape }
+    requires cols { unread.now.cols ≡ cols_of computation.now.out.c.shape }
     requires empty { (i j : ℕ) → content_of unread.now i j ≡ None }
-    ensures out { renamed_out object_of result.out ≡ out_with recipe.now.out (maps_in stores.entry) }
+    ensures out { renamed_out object_of result.out ≡ out_with computation.now.out (maps_in stores.entry) }
     ensures operation { renamed_operation object_of (operation_lent result.operation)
-        ≡ operation_with recipe.now.operation (maps_in stores.entry) }
+        ≡ operation_with computation.now.operation (maps_in stores.entry) }
 {
-    let mask = match recipe.out.mask {
+    let mask = match computation.out.mask {
         Some(known) => Some(input(known, stores.mask)),
         None => None,
     };
     let out = Out {
         c: Input {
-            signature: recipe.out.c,
+            signature: computation.out.c,
             store: stores.old.unwrap_or(unread),
         },
         mask,
-        accum: recipe.out.accum,
-        desc: recipe.out.desc,
+        accum: computation.out.accum,
+        desc: computation.out.desc,
     };
-    let operation = match &recipe.operation {
+    let operation = match &computation.operation {
         Operation::Fill { value, region } => Lent::Fill {
             value: *value,
             region,
@@ -97,12 +157,15 @@ fn input(known: Signature, store: Option<&Store>) -> Input<'_>
 }
 
 /// The store of what a recipe gives, of the block that holds all its rows, whose lists it takes over.
-pub fn join(recipe: &Recipe, block: RowBlock) -> Store
-    requires past { block.past ≡ rows_of recipe.now.out.c.shape }
-    ensures rows { result.rows ≡ rows_of recipe.now.out.c.shape }
-    ensures cols { result.cols ≡ block.cols }
-    ensures content { (i j : ℕ) → content_of result i j ≡ block_content block i j }
-    ensures within { IsWithin result.rows result.cols (content_of result) }
+pub fn join(recipe: &Recipe, block: Block) -> Store
+    requires { HasAllRows recipe.now block }
+    ensures rows { result.rows ≡ rows_of (makes recipe.now).shape }
+    ensures cols { result.cols ≡ cols_in block }
+    ensures content { (i j : ℕ) → content_of result i j ≡ content_in block i j }
+    ensures within { IfRows block (IsWithin result.rows result.cols (content_of result)) }
 {
-    Store::from_block(recipe.out.c.shape.rows(), block)
+    match block {
+        Block::Rows(rows) => Store::from_block(recipe.signature().shape.rows(), rows),
+        Block::Whole(store) => store,
+    }
 }

@@ -2,13 +2,13 @@
 use Rattle.std.specs.Prelude.{ℕ, Bool, if◌then◌else◌, Option, None}
 use Rattle.algebra.specs.declared.operator_names.OpName.{OpName}
 use Rattle.model.specs.Object.{Content}
-use Rattle.model.specs.WriteBack.{accumulated_by}
+use Rattle.model.specs.WriteBack.{accumulated_by, masked_at}
 use Rattle.masks.specs.declared.view.Mask.{Mask}
 use Rattle.masks.specs.Masks.{lets_through}
 
 -- what is left at a position, by whether the call may write it, what was there, and what was computed
 abbrev pub written_at : Option OpName → Bool → Bool → Option ℕ → Option ℕ → Option ℕ
-written_at accum replace is_in old t = if is_in then accumulated_by accum old t else if replace then None else old
+written_at accum replace is_in old t = masked_at replace is_in old (accumulated_by accum old t)
 
 -- what is left of the output: what was computed stands in the mask set, and outside it what was there, or
 -- nothing (GrB_REPLACE)

@@ -9,9 +9,8 @@ use Rattle.model.specs.declared.call.OneInput.TheVariants.{Apply, Select, Reduce
 use Rattle.model.specs.declared.call.Operation.{Operation}
 use Rattle.model.specs.declared.call.Operation.TheVariants.{Fill, OfOne, OfTwo}
 use Rattle.model.specs.declared.call.Out.{Out}
-use Rattle.model.specs.Fault.{plan_in}
-use Rattle.model.specs.Object.{Content, Object, cast_content, signature_of, transposed_object, transposed_signature}
-use Rattle.model.specs.Operations.{is_written_by, operation}
+use Rattle.model.specs.Object.{Content, Object, in_domain, signature_of, transposed_object}
+use Rattle.model.specs.Operations.{computed, is_written_by}
 use Rattle.model.specs.Renamed.{renamed_operation}
 use Rattle.model.specs.Table.{transposed, transposed_if, transposes_one}
 use Rattle.model.specs.WriteBack.{has_position, mask_set, masked, result_of}
@@ -84,11 +83,7 @@ pub inside_alike : (out : Out Object) (inputs : Operation Object) (replace : Boo
     → result_of (replacing replace out) inputs i j ≡ result_of out inputs i j
 unfolding result_of
 inside_alike out inputs replace i j inside =
-    rw (
-      inside,
-      inputs_alike transposed_object out.desc replace inputs,
-      inputs_alike transposed_signature out.desc replace (renamed_operation signature_of inputs),
-    ) refl
+    rw (inside, inputs_alike transposed_object out.desc replace inputs) refl
 
 -- Without a mask that leaves something out, GrB_REPLACE changes nothing.
 pub replace_without_mask : (out : Out Object) (inputs : Operation Object) (replace : Bool) (i j : ℕ) → out.mask ≡ None
@@ -110,8 +105,7 @@ pub written_twice : (out : Out Object) (inputs : Operation Object) (i j : ℕ) �
 unfolding result_of
 written_twice out inputs i j none =
     let c = signature_of out.c in
-    let plan = plan_in c out.desc (renamed_operation signature_of inputs) in
-    let values = cast_content plan.domain c.domain (operation c (transposed transposed_object out.desc inputs)) in
+    let values = in_domain c.domain (computed c (transposed transposed_object out.desc inputs)) in
     rw none
     (kept_twice (mask_set out i j) out.desc.replace (is_written_by c.shape inputs i j) (values i j) (out.c.content i j))
 

@@ -32,7 +32,7 @@ use Rattle.model.specs.Fault.{accumulates, operation_fault, plan_in}
 use Rattle.model.specs.Object.{AreWordsOf, Content, IsObject, IsWithin, Object, cast_content, cols_of, in_domain, is_matrix, rows_of, same_shape}
 use Rattle.model.specs.Object.{signature_of, transposed_content, transposed_object, transposed_shape, transposed_signature}
 use Rattle.model.specs.Entries.{below}
-use Rattle.model.specs.Operations.{combined, computed_of_one, is_written_by, multiplied, operation}
+use Rattle.model.specs.Operations.{combined, computed, computed_of_one, is_written_by, multiplied, operation}
 use Rattle.model.specs.Product.{product}
 use Rattle.model.specs.Reductions.{row_sums}
 use Rattle.model.specs.Indices.{are_below}
@@ -290,20 +290,20 @@ result-within out op accepted old inputs =
     let c = signature_of out.c in
     let sig_out = renamed_out signature_of out in
     let sig = renamed_operation signature_of op in
-    let plan = plan_in c out.desc sig in
     let moved = transposed transposed_object out.desc op in
     let shapes = accepted-shapes sig_out sig accepted in
-    let same = same_shape-rows plan.shape out.c.shape shapes.0 in
+    let same = same_shape-rows (plan_in c out.desc sig).shape out.c.shape shapes.0 in
     let fit : IsFit (plan_of c (renamed_operation signature_of moved)) =
     rw (transposed-signature out.desc op) (accepted-kinds sig_out sig accepted, shapes.1, accepted-inside sig_out sig accepted) in
     let inside = operation-within c moved fit (transposed-within out.desc op inputs) in
     let inside' : IsWithin (rows_of out.c.shape) (cols_of out.c.shape) (operation c moved) =
     rw (← same.0, ← same.1) (rw (transposed-signature out.desc op) at inside) in
-    let values = cast_content plan.domain out.c.domain (operation c moved) in
+    let t = computed c moved in
+    let values = in_domain out.c.domain t in
     let is_written = is_written_by out.c.shape op in
     masked-within out (landed out is_written values) (rows_of out.c.shape) (cols_of out.c.shape) old
     (landed-within out is_written values (rows_of out.c.shape) (cols_of out.c.shape) old
-    (cast_content-within plan.domain out.c.domain (rows_of out.c.shape) (cols_of out.c.shape) (operation c moved) inside'))
+    (cast_content-within t.domain out.c.domain (rows_of out.c.shape) (cols_of out.c.shape) t.content inside'))
 
 -- ..and its words are values of the output's domain
 result-words : (out : Out Object) (op : Operation Object)
@@ -314,13 +314,12 @@ result-words out op accepted old =
     let c = signature_of out.c in
     let sig_out = renamed_out signature_of out in
     let sig = renamed_operation signature_of op in
-    let plan = plan_in c out.desc sig in
-    let moved = transposed transposed_object out.desc op in
+    let t = computed c (transposed transposed_object out.desc op) in
     let accumulates_in = accumulator_gives out.c.domain out.accum (accepted-accumulator sig_out sig accepted) in
-    let values = cast_content plan.domain out.c.domain (operation c moved) in
+    let values = in_domain out.c.domain t in
     let is_written = is_written_by out.c.shape op in
     masked-words out (landed out is_written values) out.c.domain old
-    (landed-words out is_written values out.c.domain accumulates_in old (cast_content-words plan.domain out.c.domain (operation c moved)))
+    (landed-words out is_written values out.c.domain accumulates_in old (cast_content-words t.domain out.c.domain t.content))
 
 all_inside : (os : List Object) → All IsObject os → All KeepsInside os
 all_inside [] are = All-nil KeepsInside

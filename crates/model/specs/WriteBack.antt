@@ -7,14 +7,10 @@ use Rattle.algebra.specs.declared.operator_names.OpName.{OpName}
 use Rattle.algebra.specs.Operators.{eval_of}
 use Rattle.algebra.specs.Value.{cast_of}
 use Rattle.model.specs.declared.call.Desc.{Desc}
-use Rattle.model.specs.declared.call.OneInput.TheVariants.{Assign}
 use Rattle.model.specs.declared.call.Operation.{Operation}
-use Rattle.model.specs.declared.call.Operation.TheVariants.{Fill, OfOne}
 use Rattle.model.specs.declared.call.Out.{Out}
-use Rattle.model.specs.Fault.{plan_in}
-use Rattle.model.specs.Object.{Content, Object, cast_content, signature_of, transposed_object}
-use Rattle.model.specs.Operations.{is_written_by, operation}
-use Rattle.model.specs.Renamed.{renamed_operation}
+use Rattle.model.specs.Object.{Content, Object, in_domain, signature_of, transposed_object}
+use Rattle.model.specs.Operations.{computed, is_written_by, region_written}
 use Rattle.model.specs.Table.{transposed}
 
 -- ---- the mask set
@@ -47,30 +43,24 @@ abbrev pub landed : Out Object → (ℕ → ℕ → Bool) → Content → Conten
 landed out is_written values = λ i j.
     if is_written i j then accumulated_by out.accum (out.c.content i j) (values i j) else out.c.content i j
 
--- what stands in the mask set, and outside it what was there, or nothing (GrB_REPLACE)
-abbrev pub masked : Out Object → Content → Content
-masked out z = λ i j.
-    if mask_set out i j then z i j
-    else if out.desc.replace then None
-    else out.c.content i j
+-- what is left at a position, by whether it is in the mask set: what is new there, and at the others what was there,
+-- or nothing (GrB_REPLACE)
+abbrev pub masked_at : Bool → Bool → Option ℕ → Option ℕ → Option ℕ
+masked_at replace is_in old new = if is_in then new else if replace then None else old
 
--- what an operation leaves in its output
+abbrev pub masked : Out Object → Content → Content
+masked out z = λ i j. masked_at out.desc.replace (mask_set out i j) (out.c.content i j) (z i j)
+
+-- What an operation leaves in its output: what it computes, in the output's domain, put where it writes, and of that
+-- what the mask lets through.
 unfoldable pub result_of : Out Object → Operation Object → Content
 result_of out inputs =
-    let c = signature_of out.c in
-    let plan = plan_in c out.desc (renamed_operation signature_of inputs) in
-    let values = cast_content plan.domain c.domain (operation c (transposed transposed_object out.desc inputs)) in
-    masked out (landed out (is_written_by c.shape inputs) values)
+    let t = computed (signature_of out.c) (transposed transposed_object out.desc inputs) in
+    masked out (landed out (is_written_by out.c.shape inputs) (in_domain out.c.domain t))
 
 -- ---- what is read of the output
-
--- the operation writes some positions alone
-abbrev pub writes_region : {K : Type 0} → Operation K → Bool
-writes_region (Fill value region) = true
-writes_region (OfOne (Assign region) a) = true
-writes_region _ = false
 
 -- Whether what the output has before the call is read: where a mask or its complement keeps some of it, an accumulator
 -- combines with it, or what is outside a region stays. (OldLaws.antt: else the result doesn't depend on it.)
 abbrev pub reads_old : {K L : Type 0} → Out K → Operation L → Bool
-reads_old out inputs = is_some out.mask || out.desc.complement || is_some out.accum || writes_region inputs
+reads_old out inputs = is_some out.mask || out.desc.complement || is_some out.accum || is_some (region_written inputs)

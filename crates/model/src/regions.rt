@@ -1,10 +1,14 @@
 //! Regions of shapes.
 ghost use Rattle.std.specs.Prelude.{◌≡◌, ◌*◌};
+ghost use Rattle.std.specs.Option.{option_map};
 ghost use Rattle.model.specs.Indices.{count_of};
+ghost use Rattle.model.specs.Lent.{operation_lent};
 ghost use Rattle.model.specs.Object.{cols_of, rows_of};
+ghost use Rattle.model.specs.Operations.{region_written};
 ghost use Rattle.model.specs.Regions.{cols_in, has_no_repeat, is_region_of, lies_inside, rows_in, shape_in};
 
-use crate::call::Region;
+use crate::call::{OneInput, Region};
+use crate::found::Lent;
 use crate::shape::Shape;
 
 impl Region {
@@ -61,5 +65,21 @@ impl Region {
             Region::Two(rows, cols) => (rows.count(shape.rows()), cols.count(shape.cols())),
         };
         rows as u128 * cols as u128
+    }
+}
+
+impl<'a, K: Copy> Lent<'a, K> {
+    /// The region of the output that the operation writes, where it doesn't write all of it.
+    pub fn region_written(self) -> Option<&'a Region>
+        ensures { option_map (λ region. region.now) result ≡ region_written (operation_lent self.entry) }
+    {
+        match self {
+            Lent::Fill { region, .. } => Some(region),
+            Lent::OfOne {
+                computes: OneInput::Assign(region),
+                ..
+            } => Some(region),
+            _ => None,
+        }
     }
 }

@@ -1,5 +1,6 @@
 //! The table of operations: what each asks of its output and its inputs, and what it computes.
 ghost use Rattle.std.specs.Prelude.{◌≡◌, true};
+ghost use Rattle.model.specs.declared.shape.Signature.{Signature as Known};
 ghost use Rattle.model.specs.Fault.{plan_in};
 ghost use Rattle.model.specs.Lent.{operation_lent};
 ghost use Rattle.model.specs.Object.{transposed_signature};
@@ -10,7 +11,7 @@ ghost use Rattle.model.specs.Table.{plan_of_two, product_shape};
 use crate::call::{Desc, Form, OneInput, Plan, Region, TwoInputs};
 use crate::found::Lent;
 use crate::shape::{Shape, Signature};
-use algebra::compatible;
+use algebra::{Domain, compatible};
 
 impl Form {
     /// Whether factors are of the kinds that it says.
@@ -105,6 +106,20 @@ impl OneInput {
         }
     }
 
+    /// The domain of what it computes.
+    pub fn answer(&self, a: Signature) -> Domain
+        ensures { (c : Known) → (plan_of_one c self.now a).domain ≡ result }
+    {
+        match self {
+            OneInput::Apply(function) => function.answer(),
+            OneInput::ReduceRows(monoid) => monoid.domain,
+            OneInput::Select { .. }
+            | OneInput::Transpose
+            | OneInput::Extract(_)
+            | OneInput::Assign(_) => a.domain,
+        }
+    }
+
     /// What the table says of the output and the input.
     pub fn plan(&self, c: Signature, a: Signature) -> Plan
         ensures { result ≡ plan_of_one c self.now a }
@@ -153,6 +168,16 @@ impl TwoInputs {
         match self {
             TwoInputs::Multiply { semiring, .. } => semiring.is_offered(),
             TwoInputs::Combine { op, .. } => op.is_offered(),
+        }
+    }
+
+    /// The domain of what it computes.
+    pub const fn answer(self) -> Domain
+        ensures { (a b : Known) → (plan_of_two self a b).domain ≡ result }
+    {
+        match self {
+            TwoInputs::Multiply { semiring, .. } => semiring.answer(),
+            TwoInputs::Combine { op, .. } => op.answer(),
         }
     }
 

@@ -40,7 +40,7 @@ const FEW_EDITS: usize = 16;
 ///
 /// A few edits are done in place. More of them are sorted, and all entries written anew, in a time that
 /// follows the number of entries and the sort.
-pub fn settle(alloc: Global, store: &mut Store, edits: &mut Vec<Edit>) -> Result<(), NoMemory>
+pub fn apply_edits(alloc: Global, store: &mut Store, edits: &mut Vec<Edit>) -> Result<(), NoMemory>
     requires { All (IsInside store.old.rows store.old.cols) edits.old.items }
     ensures done { OnOk result (edits.new.items ≡ []) }
     ensures rows { store.new.rows ≡ store.old.rows }

@@ -10,6 +10,6 @@ mod runs;
 mod summing;
 
 pub use building::build;
-pub use edits::{Edit, settle};
+pub use edits::{Edit, apply_edits};
 pub use gathering::gather;
 pub use summing::sum_entries;

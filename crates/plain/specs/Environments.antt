@@ -11,11 +11,11 @@ use Rattle.model.specs.declared.call.Operation.{Operation}
 use Rattle.model.specs.declared.call.Out.{Out}
 use Rattle.model.specs.declared.shape.Signature.{Signature}
 use Rattle.model.specs.declared.status.Status.{Status}
-use Rattle.model.specs.Fault.{fault_of, plan_in}
+use Rattle.model.specs.Fault.{fault_of}
 use Rattle.model.specs.Grammar.{Name}
-use Rattle.model.specs.Object.{Content, Object, cast_content, empty_object, no_content, signature_of}
+use Rattle.model.specs.Object.{Content, Object, empty_object, in_domain, no_content, signature_of}
 use Rattle.model.specs.Object.{transposed_object}
-use Rattle.model.specs.Operations.{is_written_by, operation as computed}
+use Rattle.model.specs.Operations.{computed, is_written_by}
 use Rattle.model.specs.Renamed.{renamed, renamed_operation, renamed_out}
 use Rattle.model.specs.Run.{Environment, changed_by, effect, object_at, on_objects, seen}
 use Rattle.model.specs.Table.{is_offered, transposed}
@@ -84,10 +84,8 @@ are_operators out operation = is_offered operation && accumulator_offered out.ac
 -- what an operation leaves in its output, where no mask keeps it out
 abbrev pub landed_in : Out Object → Operation Object → Content
 landed_in out operation =
-    let c = signature_of out.c in
-    let plan = plan_in c out.desc (renamed_operation signature_of operation) in
-    let values = cast_content plan.domain c.domain (computed c (transposed transposed_object out.desc operation)) in
-    landed out (is_written_by c.shape operation) values
+    let t = computed (signature_of out.c) (transposed transposed_object out.desc operation) in
+    landed out (is_written_by out.c.shape operation) (in_domain out.c.domain t)
 
 -- ---- effects
 

@@ -11,7 +11,7 @@ ghost use Rattle.model.specs.Operations.{combined, computed_of_one, computed_of_
 ghost use Rattle.model.specs.Operations.{operation as computed};
 ghost use Rattle.model.specs.Regions.{cols_in, filled, rows_in};
 ghost use Rattle.model.specs.Renamed.{renamed_operation};
-ghost use Rattle.model.specs.Table.{is_offered, offers_one, offers_two, transposed};
+ghost use Rattle.model.specs.Table.{is_offered, offers_one, offers_two, plan_of, transposed};
 ghost use Rattle.plain.specs.Environments.{operation_in};
 ghost use Rattle.plain.specs.Evaluated.{input_of};
 
@@ -56,7 +56,9 @@ impl PlainEnvironment {
 
     /// What the table says of an operation, its inputs transposed as the descriptor says.
     pub(crate) fn plan(&self, c: Signature, desc: Desc, operation: &Operation<&str>) -> Plan
-        ensures { result ≡ plan_in c desc (renamed_operation signature_of (operation_in self.now operation.now)) }
+        ensures known { result ≡ plan_in c desc (renamed_operation signature_of (operation_in self.now operation.now)) }
+        ensures read { result ≡ plan_of c (renamed_operation signature_of
+            (transposed transposed_object desc (operation_in self.now operation.now))) }
     {
         match operation {
             Operation::Fill { value, region } => region.plan_of_fill(c, *value),
@@ -75,16 +77,12 @@ impl PlainEnvironment {
 
 /// Whether an operation writes at a position of an output of a shape: an assignment does in its region
 /// alone.
-pub fn is_written<K>(shape: Shape, operation: &Operation<K>, row: u64, col: u64) -> bool
+pub fn is_written<K: Copy>(shape: Shape, operation: &Operation<K>, row: u64, col: u64) -> bool
     ensures { result ≡ is_written_by shape operation.now row col }
 {
-    match operation {
-        Operation::Fill { region, .. }
-        | Operation::OfOne {
-            computes: OneInput::Assign(region),
-            ..
-        } => is_listed(shape, region, row, col),
-        _ => true,
+    match operation.as_lent().region_written() {
+        Some(region) => is_listed(shape, region, row, col),
+        None => true,
     }
 }
 

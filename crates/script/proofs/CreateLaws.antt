@@ -45,14 +45,6 @@ pub free_name : (senv : Environment Obj) (found : Option Obj) → is_some found 
 free_name senv None h = refl
 free_name senv (Some o) h = absurd (true≢false h)
 
--- where the name is free, the fault is the session's
-pub fault-free : (number : Name → Option Obj) (session : Session) (name : Name) (domain : Domain) (shape : Shape)
-    → made_in session < 2 ^ 64 - 1 → is_some (number name) ≡ false
-    → fault_of (environment_of session).count (seen (through number (environment_of session)) (Create name domain shape)) ≡ fault_in session (Create (next_object session) domain shape)
-fault-free number session name domain shape small free =
-    ap (λ taken. fault_of (environment_of session).count (Create taken domain shape)) (free_name (environment_of session) (number name) free)
-    ∙ ap (λ (n : ℕ). fault_of n (Create false domain shape)) (sym (count-left session small))
-
 -- ---- one more name
 
 -- no name stands yet for the number of a new object
@@ -224,16 +216,6 @@ pub dup-missing : (number : Name → Option Obj) (senv : Environment Obj) (name 
 dup-missing number senv name from free none =
     ap (λ (found : Option Obj). fault_of senv.count (Dup (is_some (option_and_then senv.find_object (number name))) (option_and_then senv.find_object found))) none
     ∙ copy_of_none senv.count (is_some (option_and_then senv.find_object (number name))) (free_name senv (number name) free)
-
--- where the name is free, and the other stands for an object, the fault is the session's
-pub dup-fault : (number : Name → Option Obj) (session : Session) (name from : Name) (q : Obj)
-    → made_in session < 2 ^ 64 - 1 → is_some (number name) ≡ false → number from ≡ Some q
-    → fault_of (environment_of session).count (seen (through number (environment_of session)) (Dup name from)) ≡ fault_in session (Dup (next_object session) q)
-dup-fault number session name from q small free is =
-    let senv = environment_of session in
-    ap (λ taken. fault_of senv.count (Dup taken (option_and_then senv.find_object (number from)))) (free_name senv (number name) free)
-    ∙ ap (λ (found : Option Obj). fault_of senv.count (Dup false (option_and_then senv.find_object found))) is
-    ∙ ap (λ (n : ℕ). fault_of n (Dup false (senv.find_object q))) (sym (count-left session small))
 
 pub dup-effect : (number new : Name → Option Obj) (senv made : Environment Obj) (name from : Name) (o q : Obj)
     → ((n : Name) → new n ≡ cond (bytes_eq name n) (Some o) (number n))

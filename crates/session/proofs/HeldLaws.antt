@@ -23,7 +23,8 @@ use Rattle.patch.specs.declared.edits.Edit.TheVariants.{Set, Remove}
 use Rattle.patch.specs.Edits.{IsInside, edited, edited_once, place_of}
 use Rattle.session.proofs.SessionLaws.{BuildsOn}
 use Rattle.session.specs.declared.held.Held.{Held}
-use Rattle.session.specs.Waiting.{AreInside, IsEditOf}
+use Rattle.calls.specs.Stores.{AreInside}
+use Rattle.session.specs.Waiting.{IsEditOf}
 use Rattle.session.specs.Objects.{edited_object, object_of, stored_object}
 use Rattle.store.specs.Stored.{content_of}
 
@@ -71,26 +72,9 @@ pushed-object (Ok x) domain shape es new c e pushed kept inside small is =
     rw (pushed, edited-last domain shape es c e) (edited-is_object o e is inside small)
 pushed-object (Err x) domain shape es new c e pushed kept inside small is = rw kept is
 
--- what is held is the same where its edits mean the same of its store
-pub same-meaning : (domain : Domain) (shape : Shape) (es fs : List Edit) (c d : Content)
-    → ((i j : ℕ) → edited es c i j ≡ edited fs d i j)
-    → (let old : Object = record { domain = domain; shape = shape; content = edited fs d } in
-    let new : Object = record { domain = domain; shape = shape; content = edited es c } in new ≡ old)
-same-meaning domain shape es fs c d same =
-    let old : Object = record { domain = domain; shape = shape; content = edited fs d } in
-    let new : Object = record { domain = domain; shape = shape; content = edited es c } in
-    objects_equal new old refl refl same
-
 -- edits are inside where their positions are
 pub all_inside : (rows cols : ℕ) (es : List Edit) → AreInside rows cols es → All (IsInside rows cols) es
 all_inside rows cols es = All-weaker (λ e. ((place_of e).0 < rows) × ((place_of e).1 < cols)) (IsInside rows cols) (inside_by_place rows cols) es
-
-pub places_inside : (rows cols : ℕ) (es : List Edit) → All (IsInside rows cols) es → AreInside rows cols es
-places_inside rows cols es = All-weaker (IsInside rows cols) (λ e. ((place_of e).0 < rows) × ((place_of e).1 < cols)) (place_by_inside rows cols) es
-
--- no edits wait: the object is the store's
-pub settled-is : (held : Held) → held.edits.items ≡ [] → object_of held ≡ stored_object held
-settled-is held none = ap (λ (es : List Edit). let o : Object = record { domain = held.domain; shape = held.shape; content = edited es (content_of held.store) } in o) none
 
 -- ---- other stores
 

@@ -12,12 +12,15 @@ use Rattle.calls.specs.declared.recipe.Accepted.{Accepted}
 use Rattle.calls.specs.declared.role.Role.{Role}
 use Rattle.calls.specs.declared.role.Role.TheVariants.{Old, Mask, First, Second}
 use Rattle.calls.specs.declared.role.Roles.{Roles}
-use Rattle.calls.specs.Recipes.{IsAcceptedOf, meaning, object_with}
-use Rattle.calls.specs.Roles.{role_of, roles_of}
+use Rattle.calls.specs.declared.recipe.Recipe.TheVariants.{Resized}
+use Rattle.calls.specs.Recipes.{IsAcceptedOf, known_by, meaning}
+use Rattle.calls.specs.Stores.{IsStoreOf as IsStoreIn, object_with}
+use Rattle.calls.specs.Roles.{no_roles, role_of, roles_of}
 use Rattle.calls.proofs.RoleLaws.{meaning-accepted, output-accepted}
-use Rattle.kernel.specs.Takes.{Takes, lent_in, map_in, maps_in}
+use Rattle.kernel.specs.Takes.{AreInputs, Takes, lent_in, map_in, maps_in}
 use Rattle.model.specs.declared.call.Operation.{Operation}
 use Rattle.model.specs.declared.call.Out.{Out}
+use Rattle.model.specs.declared.shape.Shape.{Shape}
 use Rattle.model.specs.declared.shape.Signature.{Signature}
 use Rattle.model.specs.Object.{AreWordsOf, IsObject, Object, cols_of, no_content, rows_of, signature_of}
 use Rattle.model.specs.Reductions.{all_words, sum_in}
@@ -136,10 +139,14 @@ module _ (env : Environment Obj) where
         is_object = rw c at given.is_object;
       }
 
-pub if_ok_three : {T E : Type 0} (r : Result T E) (P Q R S : T → Type 0) → ((x : T) → P x → Q x → R x → S x) → IfOk r P
-    → IfOk r Q → IfOk r R → IfOk r S
-if_ok_three (Ok x) P Q R S f p q s = f x p q s
-if_ok_three (Err e) P Q R S f p q s = tt
+-- ---- another shape
+
+pub takes-resized : (of : Signature) (shape : Shape) (store : Bor Stored) → IsStoreIn of store.now
+    → AreInputs (known_by (Resized of shape)) (record no_roles { old = Some store })
+takes-resized of shape store is Old = is
+takes-resized of shape store is Mask = tt
+takes-resized of shape store is First = tt
+takes-resized of shape store is Second = tt
 
 -- ---- sums
 

@@ -10,7 +10,7 @@ use Rattle.model.specs.Run.{no_object, object_at, with_object}
 use Rattle.session.specs.declared.held.Held.{Held}
 use Rattle.session.specs.declared.table.Table.{Table}
 use Rattle.session.specs.Objects.{object_of}
-use Rattle.session.specs.Tables.{IsSettled, environment_in, same_object}
+use Rattle.session.specs.Tables.{IsFinished, environment_in, same_object}
 
 -- the numbers compare as equal where they are
 compares_equal : (a b : ℕ) → is_eq (nat_cmp a b) ≡ (a == b)
@@ -52,11 +52,11 @@ pub object_there : (m : Table) (o : Obj) (held : Held) → Some held ≡ get_by 
 object_there m o held there = ap (λ (g : Option Held). unwrap_or (option_map object_of g) no_object) there
 
 -- where no edits wait on what was written, none wait on more objects than before
-pub stays_settled : {T E : Type 0} (r : Result T E) (m n : Table) (o : Obj) (held w : Held)
+pub stays_finished : {T E : Type 0} (r : Result T E) (m n : Table) (o : Obj) (held w : Held)
     → Some held ≡ get_by (nat_cmp o.0) m.by_number → WritesThrough nat_cmp (nat_cmp o.0) m.by_number w n.by_number
-    → OnOk r (w.edits.items ≡ []) → OnOk r ((other : Obj) → IsSettled m other → IsSettled n other)
-stays_settled (Err e) m n o held w there written none = tt
-stays_settled (Ok x) m n o held w there written none = λ other was.
+    → OnOk r (w.edits.items ≡ []) → OnOk r ((other : Obj) → IsFinished m other → IsFinished n other)
+stays_finished (Err e) m n o held w there written none = tt
+stays_finished (Ok x) m n o held w there written none = λ other was.
     subst (λ (g : Option Held). MatchOption g (Unit {0}) (λ h. h.edits.items ≡ [])) (sym (get_written m.by_number n.by_number o.0 held w there written other.0))
     (elim (cases_Bool (o.0 == other.0)) [
       | inl same ↦ rw same none

@@ -24,7 +24,7 @@ use Rattle.model.specs.Run.{Environment, object_at}
 use Rattle.session.specs.declared.reply.Reply.{Reply}
 use Rattle.session.specs.declared.reply.Reply.TheVariants.{Done, Made, Value, Count}
 use Rattle.session.specs.declared.sessions.Session.{Session}
-use Rattle.session.specs.Tables.{IsSettled, environment_in, same_object}
+use Rattle.session.specs.Tables.{IsFinished, environment_in, same_object}
 
 abbrev pub environment_of : Session → Environment Obj
 environment_of session = environment_in session.table
@@ -34,12 +34,12 @@ abbrev pub known_in : Session → Obj → Option Signature
 known_in session object = option_map signature_of ((environment_of session).find_object object)
 
 -- no edits wait on an object, if it is there
-abbrev pub IsSettledIn : Session → Obj → Type 0
-IsSettledIn session object = IsSettled session.table object
+abbrev pub IsFinishedIn : Session → Obj → Type 0
+IsFinishedIn session object = IsFinished session.table object
 
 -- ..on the object of a role, if one has it
-abbrev pub AreSettled : Session → Option Obj → Type 0
-AreSettled session object = IfSome object (IsSettledIn session)
+abbrev pub AreFinished : Session → Option Obj → Type 0
+AreFinished session object = IfSome object (IsFinishedIn session)
 
 -- how many objects were ever made
 abbrev pub made_in : Session → ℕ

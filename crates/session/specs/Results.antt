@@ -5,7 +5,8 @@ use Rattle.calls.specs.declared.obj.Obj.{Obj}
 use Rattle.calls.specs.declared.recipe.Accepted.{Accepted}
 use Rattle.calls.specs.declared.role.Role.{Role}
 use Rattle.calls.specs.declared.role.Roles.{Roles}
-use Rattle.calls.specs.Recipes.{meaning, object_with}
+use Rattle.calls.specs.Recipes.{meaning}
+use Rattle.calls.specs.Stores.{object_with}
 use Rattle.calls.specs.Roles.{role_of}
 use Rattle.model.specs.declared.call.Operation.{Operation}
 use Rattle.model.specs.declared.call.Out.{Out}

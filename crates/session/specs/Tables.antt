@@ -15,8 +15,8 @@ environment_in table = record {
 }
 
 -- no edits wait on the object of a number, if there is one
-abbrev pub IsSettled : Table → Obj → Type 0
-IsSettled table object = MatchOption (get nat_cmp table.by_number object.0) (Unit {0}) (λ held. held.edits.items ≡ [])
+abbrev pub IsFinished : Table → Obj → Type 0
+IsFinished table object = MatchOption (get nat_cmp table.by_number object.0) (Unit {0}) (λ held. held.edits.items ≡ [])
 
 -- whether two numbers are one object's
 abbrev pub same_object : Obj → Obj → Bool

@@ -2,12 +2,13 @@
 ghost use Rattle.std.specs.Prelude.{◌≡◌, ◌≢◌, [], IfOk, OnErr, OnOk};
 ghost use Rattle.model.specs.Object.{IsObject, cols_of, rows_of};
 ghost use Rattle.patch.specs.Edits.{IsInside, edited};
-ghost use Rattle.session.specs.Waiting.{AreInside, IsEditOf};
+ghost use Rattle.calls.specs.Stores.{AreInside};
+ghost use Rattle.session.specs.Waiting.{IsEditOf};
 ghost use Rattle.store.specs.Stored.{content_of};
 
 use algebra::Domain;
-use model::{NoMemory, Shape};
-use patch::{Edit, settle};
+use model::{NoMemory, Shape, Signature};
+use patch::{Edit, apply_edits};
 use std::alloc::Global;
 use store::Store;
 
@@ -32,6 +33,7 @@ pub struct Held {
 const MOST_EDITS: usize = 65_536;
 
 impl Held {
+    ghost use Rattle.model.specs.Object.{signature_of};
     ghost use Rattle.session.specs.Objects.{edited_object, object_of, stored_object};
 
     /// An object of a domain and a shape, with the entries of a store.
@@ -46,6 +48,16 @@ impl Held {
             shape,
             store,
             edits: Vec::new(alloc),
+        }
+    }
+
+    /// Its domain and its shape.
+    pub(crate) fn signature(&self) -> Signature
+        ensures { result ≡ signature_of (stored_object self.now) }
+    {
+        Signature {
+            domain: self.domain,
+            shape: self.shape,
         }
     }
 
@@ -66,13 +78,13 @@ impl Held {
         ensures { object_of self.new ≡ object_of self.old }
     {
         if self.edits.len() >= MOST_EDITS {
-            self.settle(alloc)?;
+            self.apply_edits(alloc)?;
         }
         Ok(())
     }
 
     /// Does the edits that wait; where none do it takes no memory. An error leaves the object as it was.
-    pub(crate) fn settle(&mut self, alloc: Global) -> Result<(), NoMemory>
+    pub(crate) fn apply_edits(&mut self, alloc: Global) -> Result<(), NoMemory>
         ensures object { object_of self.new ≡ object_of self.old }
         ensures done { OnOk result (self.new.edits.items ≡ []) }
         ensures waited { OnErr result (self.old.edits.items ≢ []) }
@@ -80,7 +92,7 @@ impl Held {
         if self.edits.is_empty() {
             return Ok(());
         }
-        settle(alloc, &mut self.store, &mut self.edits)
+        apply_edits(alloc, &mut self.store, &mut self.edits)
     }
 
     /// An object with the domain, the shape and the store's entries, in memory of its own.

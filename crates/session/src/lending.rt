@@ -15,30 +15,30 @@ impl Session {
     ghost use Rattle.calls.specs.Checks.{Decides};
     ghost use Rattle.session.specs.Lending.{EndsAsPrinted};
     ghost use Rattle.session.specs.Listed.{tuples_of};
-    ghost use Rattle.session.specs.Performed.{IsPerformed, IsSettledIn, environment_of, fault_in};
+    ghost use Rattle.session.specs.Performed.{IsPerformed, IsFinishedIn, environment_of, fault_in};
     ghost use Rattle.session.specs.Results.{IsStoreOf};
 
     /// The store of an object, once the edits that wait on it are done (`GrB_Matrix_wait`, `GrB_Vector_wait`). It is
     /// lent, and nothing is copied; where no edits wait it takes no memory.
     pub fn store(&mut self, object: Obj) -> Result<&Store, Status>
         ensures* performed { sem 𝓛 (EndsAsPrinted self.entry object result) }
-        ensures decided { IsSettledIn self.old object → Decides (fault_in self.old (Call.On object Act.Print)) result }
+        ensures decided { IsFinishedIn self.old object → Decides (fault_in self.old (Call.On object Act.Print)) result }
         ensures store { IfOk result (λ store. IsStoreOf (environment_of self.old) object store.now) }
     {
-        self.finish(object)?;
-        Ok(&self.settled(object).store)
+        self.complete(object)?;
+        Ok(&self.finished(object).store)
     }
 
     /// Does the edits that wait on an object, which ends as a print of it does.
-    pub(crate) fn finish(&mut self, object: Obj) -> Result<(), Status>
+    pub(crate) fn complete(&mut self, object: Obj) -> Result<(), Status>
         ensures performed { IsPerformed self.old self.new (Call.On object Act.Print) result }
         ensures kept { environment_of self.new ≡ environment_of self.old }
         ensures there { OnOk result (is_some ((environment_of self.new).find_object object) ≡ true) }
-        ensures settled { OnOk result (IsSettledIn self.new object) }
-        ensures decided { IsSettledIn self.old object → Decides (fault_in self.old (Call.On object Act.Print)) result }
+        ensures finished { OnOk result (IsFinishedIn self.new object) }
+        ensures decided { IsFinishedIn self.old object → Decides (fault_in self.old (Call.On object Act.Print)) result }
     {
         check_there(self, object)?;
-        self.settle(object)?;
+        self.finish(object)?;
         Ok(())
     }
 
@@ -48,8 +48,8 @@ impl Session {
         ensures performed { IsPerformed self.old self.new (Call.On object Act.Print) result }
         ensures tuples { IfOk result (λ tuples. tuples.items ≡ tuples_of (object_at (environment_of self.old) object)) }
     {
-        self.finish(object)?;
-        let held = self.settled(object);
+        self.complete(object)?;
+        let held = self.finished(object);
         let tuples = listed(self.alloc(), held.domain, &held.store)?;
         Ok(tuples)
     }

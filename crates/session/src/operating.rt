@@ -17,12 +17,12 @@ use calls::{
     Accepted, Form, Obj, OneInput, Operation, Out, Positions, Region, Roles, TwoInputs, by_role,
     check_operate,
 };
-use kernel::evaluate;
+use kernel::evaluate_accepted;
 use model::{NoMemory, Status};
 use store::Store;
 
 impl Session {
-    ghost use Rattle.session.specs.Performed.{AreSettled, Ends, IsPerformed, count_in, environment_of};
+    ghost use Rattle.session.specs.Performed.{AreFinished, Ends, IsPerformed, count_in, environment_of};
     ghost use Rattle.session.specs.Performed.{known_in, made_in};
 
     /// Multiplies two matrices over a semiring into a third (`GrB_mxm`).
@@ -230,33 +230,33 @@ impl Session {
     {
         let objects = by_role(out, &operation);
         let accepted = check_operate(self, out, operation)?;
-        self.settle_all(&objects)?;
+        self.finish_all(&objects)?;
         let store = self.evaluated(accepted, &objects)?;
         Ok(store)
     }
 
     /// Does the edits that wait on objects that have roles. An error leaves them as they were.
-    fn settle_all(&mut self, objects: &Roles<Obj>) -> Result<(), NoMemory>
+    fn finish_all(&mut self, objects: &Roles<Obj>) -> Result<(), NoMemory>
         ensures kept { environment_of self.new ≡ environment_of self.old }
         ensures made { made_in self.new ≡ made_in self.old }
-        ensures settled { OnOk result ((role : AnyRole) → AreSettled self.new (role_of objects.now role)) }
+        ensures finished { OnOk result ((role : AnyRole) → AreFinished self.new (role_of objects.now role)) }
     {
-        self.settle_if(objects.old)?;
-        self.settle_if(objects.mask)?;
-        self.settle_if(objects.first)?;
-        self.settle_if(objects.second)
+        self.finish_if(objects.old)?;
+        self.finish_if(objects.mask)?;
+        self.finish_if(objects.first)?;
+        self.finish_if(objects.second)
     }
 
     /// Does the edits that wait on an object, where there is one in a role.
-    fn settle_if(&mut self, object: Option<Obj>) -> Result<(), NoMemory>
+    fn finish_if(&mut self, object: Option<Obj>) -> Result<(), NoMemory>
         ensures kept { environment_of self.new ≡ environment_of self.old }
         ensures made { made_in self.new ≡ made_in self.old }
-        ensures settled { OnOk result (AreSettled self.new object) }
-        ensures still { OnOk result ((other : Option AnyObj) → AreSettled self.old other
-            → AreSettled self.new other) }
+        ensures finished { OnOk result (AreFinished self.new object) }
+        ensures still { OnOk result ((other : Option AnyObj) → AreFinished self.old other
+            → AreFinished self.new other) }
     {
         match object {
-            Some(object) => self.settle(object),
+            Some(object) => self.finish(object),
             None => Ok(()),
         }
     }
@@ -265,7 +265,7 @@ impl Session {
     fn evaluated(&self, accepted: Accepted, objects: &Roles<Obj>) -> Result<Store, NoMemory>
         requires known { (role : AnyRole) → option_map Some (known_by_role accepted.out accepted.operation role)
             ≡ option_map (known_in self.now) (role_of objects.now role) }
-        requires settled { (role : AnyRole) → AreSettled self.now (role_of objects.now role) }
+        requires finished { (role : AnyRole) → AreFinished self.now (role_of objects.now role) }
         ensures { IfOk result (IsEvaluated (environment_of self.now) accepted objects.now) }
     {
         let stores = Roles {
@@ -274,16 +274,16 @@ impl Session {
             first: self.store_if(objects.first),
             second: self.store_if(objects.second),
         };
-        evaluate(self.alloc(), accepted, &stores)
+        evaluate_accepted(self.alloc(), accepted, &stores)
     }
 
     /// The store of an object on which no edits wait, where there is one in a role.
     fn store_if(&self, object: Option<Obj>) -> Option<&Store>
         requires there { AreThere (environment_of self.now) object }
-        requires settled { AreSettled self.now object }
+        requires finished { AreFinished self.now object }
         ensures { IsLentFor (environment_of self.now) object (option_map (λ store. store.now) result) }
     {
         let object = object?;
-        Some(&self.settled(object).store)
+        Some(&self.finished(object).store)
     }
 }

@@ -36,7 +36,7 @@ impl Session {
             Act::Remove(place) => done(self.remove(object, place)),
             Act::Get(place) => Ok(Reply::Value(self.get(object, place)?)),
             Act::Nvals => Ok(Reply::Count(self.nvals(object)?)),
-            Act::Print => done(self.finish(object)),
+            Act::Print => done(self.complete(object)),
             Act::Reduce(monoid) => Ok(Reply::Value(self.reduce(object, monoid)?)),
         }
     }

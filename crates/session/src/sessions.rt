@@ -14,13 +14,13 @@ use crate::reply::Reply;
 use crate::table::Table;
 use algebra::{Domain, MonoidName, OpName};
 use calls::{
-    Act, Call, Obj, Place, Shape, Shapes, TupleList, check_build, check_create, check_dup,
-    check_place, check_reduce, check_resize, check_set, check_there,
+    Act, Call, Obj, Place, Recipe, Roles, Shape, Shapes, TupleList, check_build, check_create,
+    check_dup, check_place, check_reduce, check_resize, check_set, check_there,
 };
 use elementwise::reduce_all;
+use kernel::evaluate;
 use model::{MOST_OBJECTS, NoMemory, Status};
 use patch::{Edit, build, sum_entries};
-use shapes::resize;
 use std::alloc::Global;
 use store::{Store, Tuples};
 
@@ -62,7 +62,7 @@ impl Session {
     ghost use Rattle.model.specs.Object.{IsObject};
     ghost use Rattle.session.specs.Objects.{object_of, stored_object};
     ghost use Rattle.session.specs.Performed.{Answers, IsPerformed, count_in, environment_of, known_in, made_in};
-    ghost use Rattle.session.specs.Performed.{Ends, IsSettledIn, fault_in, next_object};
+    ghost use Rattle.session.specs.Performed.{Ends, IsFinishedIn, fault_in, next_object};
 
     /// A session without objects. It takes no memory.
     pub fn new(alloc: Global) -> Session
@@ -150,8 +150,8 @@ impl Session {
         ensures unused { (environment_of self.old).find_object (next_object self.old) ≡ None }
     {
         check_dup(self, object)?;
-        self.settle(object)?;
-        let copy = self.settled(object).try_clone(self.alloc)?;
+        self.finish(object)?;
+        let copy = self.finished(object).try_clone(self.alloc)?;
         let object = self.insert(copy)?;
         Ok(object)
     }
@@ -162,9 +162,11 @@ impl Session {
         ensures { IsPerformed self.old self.new (Call.On object (Act.Resize shape)) result }
     {
         check_resize(self, object, shape)?;
-        self.settle(object)?;
-        let held = self.settled(object);
-        let store = resize(self.alloc, &held.store, shape.rows(), shape.cols())?;
+        self.finish(object)?;
+        let held = self.finished(object);
+        let of = held.signature();
+        let stores = Roles::of_old(&held.store);
+        let store = evaluate(self.alloc, &Recipe::Resized { of, shape }, &stores)?;
         self.table.reshape(object, shape, store);
         Ok(())
     }
@@ -180,8 +182,8 @@ impl Session {
         ensures { IsPerformed self.old self.new (Call.On object (Act.Build dup tuples)) result }
     {
         let op = check_build(self, object, dup, &tuples)?;
-        self.settle(object)?;
-        let held = self.settled(object);
+        self.finish(object)?;
+        let held = self.finished(object);
         if held.store.nvals() > 0 {
             return Err(Status::OutputNotEmpty);
         }
@@ -232,8 +234,8 @@ impl Session {
             (Reply.Value value)) }
     {
         check_place(self, object, place)?;
-        self.settle(object)?;
-        let held = self.settled(object);
+        self.finish(object)?;
+        let held = self.finished(object);
         match held.store.get(place.row(), place.col()) {
             Some(word) => Ok(held.domain.value_of(word)),
             None => Err(Status::NoValue),
@@ -247,8 +249,8 @@ impl Session {
             (Reply.Count number)) }
     {
         check_there(self, object)?;
-        self.settle(object)?;
-        let held = self.settled(object);
+        self.finish(object)?;
+        let held = self.finished(object);
         Ok(held.store.nvals())
     }
 
@@ -259,29 +261,29 @@ impl Session {
             (Reply.Value value)) }
     {
         let monoid = check_reduce(self, object, monoid)?;
-        self.settle(object)?;
-        let held = self.settled(object);
+        self.finish(object)?;
+        let held = self.finished(object);
         let sum = reduce_all(&held.store, monoid);
         Ok(monoid.op.domain.value_of(sum))
     }
 
     /// Does the edits that wait on an object, if it is there; where none do it takes no memory. An error leaves all
     /// objects as they were.
-    pub(crate) fn settle(&mut self, object: Obj) -> Result<(), NoMemory>
+    pub(crate) fn finish(&mut self, object: Obj) -> Result<(), NoMemory>
         ensures kept { environment_of self.new ≡ environment_of self.old }
         ensures made { made_in self.new ≡ made_in self.old }
-        ensures settled { OnOk result (IsSettledIn self.new object) }
-        ensures others { OnOk result ((other : Object) → IsSettledIn self.old other
-            → IsSettledIn self.new other) }
-        ensures waited { OnErr result (IsSettledIn self.old object → ⊥) }
+        ensures finished { OnOk result (IsFinishedIn self.new object) }
+        ensures others { OnOk result ((other : Object) → IsFinishedIn self.old other
+            → IsFinishedIn self.new other) }
+        ensures waited { OnErr result (IsFinishedIn self.old object → ⊥) }
     {
-        self.table.settle(self.alloc, object)
+        self.table.finish(self.alloc, object)
     }
 
     /// An object that is there and on which no edits wait.
-    pub(crate) fn settled(&self, object: Obj) -> &Held
+    pub(crate) fn finished(&self, object: Obj) -> &Held
         requires there { is_some ((environment_of self.now).find_object object) ≡ true }
-        requires settled { IsSettledIn self.now object }
+        requires finished { IsFinishedIn self.now object }
         ensures held { (environment_of self.now).find_object object ≡ Some (stored_object result.now) }
         ensures is_object { IsObject (stored_object result.now) }
     {

@@ -24,7 +24,7 @@ pub struct Table {
 
 impl Table {
     ghost use Rattle.session.specs.Objects.{edited_object, object_of, stored_object};
-    ghost use Rattle.session.specs.Tables.{IsSettled, environment_in, same_object};
+    ghost use Rattle.session.specs.Tables.{IsFinished, environment_in, same_object};
 
     /// No objects. It takes no memory.
     pub(crate) fn new(alloc: Global) -> Table
@@ -46,7 +46,7 @@ impl Table {
     pub(crate) fn find(&self, object: Obj) -> Option<&Held>
         ensures there { MatchOption result ((environment_in self.now).find_object object ≡ None)
             (λ held. (environment_in self.now).find_object object ≡ Some (object_of held.now)) }
-        ensures settled { IsSettled self.now object → IfSome result
+        ensures finished { IsFinished self.now object → IfSome result
             (λ held. (object_of held.now ≡ stored_object held.now) × IsObject (stored_object held.now)) }
     {
         self.by_number.get(&object.0)
@@ -54,14 +54,14 @@ impl Table {
 
     /// Does the edits that wait on an object, if it is there; where none do it takes no memory. An error leaves it as
     /// it was.
-    pub(crate) fn settle(&mut self, alloc: Global, object: Obj) -> Result<(), NoMemory>
+    pub(crate) fn finish(&mut self, alloc: Global, object: Obj) -> Result<(), NoMemory>
         ensures kept { environment_in self.new ≡ environment_in self.old }
-        ensures settled { OnOk result (IsSettled self.new object) }
-        ensures others { OnOk result ((other : Object) → IsSettled self.old other → IsSettled self.new other) }
-        ensures waited { OnErr result (IsSettled self.old object → ⊥) }
+        ensures finished { OnOk result (IsFinished self.new object) }
+        ensures others { OnOk result ((other : Object) → IsFinished self.old other → IsFinished self.new other) }
+        ensures waited { OnErr result (IsFinished self.old object → ⊥) }
     {
         match self.by_number.get_mut(&object.0) {
-            Some(held) => held.settle(alloc),
+            Some(held) => held.apply_edits(alloc),
             None => Ok(()),
         }
     }

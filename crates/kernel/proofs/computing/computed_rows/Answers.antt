@@ -2,28 +2,28 @@
 use Rattle.std.proofs.Common.{◌≡◌, ◌∙◌, true, Option, Some, None, rules, sym}
 use Rattle.kernel.specs.declared.task.Task.{Task}
 use Rattle.kernel.specs.Inputs.{known_of, object_of}
-use Rattle.kernel.specs.Regions.{region_of}
 use Rattle.kernel.specs.Spread.{computed_in, spread}
 use Rattle.kernel.specs.Tasks.{operation_of, out_of}
 use Rattle.kernel.proofs.Accepted.{task-accepts}
 use Rattle.kernel.proofs.MaskLaws.{agrees-same, if_over}
-use Rattle.kernel.proofs.NameLaws.{region-renamed}
 use Rattle.kernel.proofs.Spread.{spread-accumulated, spread-everywhere, spread-over, written-low}
 use Rattle.model.specs.declared.call.Region.{Region}
 use Rattle.model.specs.Indices.{are_below}
 use Rattle.model.specs.Lent.{operation_lent}
 use Rattle.model.specs.Object.{cols_of, rows_of}
+use Rattle.model.specs.Operations.{region_written}
 use Rattle.model.specs.Regions.{cols_in, is_listed, rows_in}
 use Rattle.model.specs.Renamed.{renamed_operation}
+use Rattle.model.proofs.OldLaws.{region-renamed}
 use Rattle.kernel.proofs.computing.computed_rows.Goals as goal
 
 -- the region that a task writes is that of the operation on the objects that its inputs are
-region_in : (task : Task) (region : Option Region) → region ≡ region_of (operation_lent task.operation)
-    → region_of (operation_of task) ≡ region
+region_in : (task : Task) (region : Option Region) → region ≡ region_written (operation_lent task.operation)
+    → region_written (operation_of task) ≡ region
 region_in task region is = region-renamed object_of (operation_lent task.operation) ∙ sym is
 
 -- ..and lies inside the output
-low_in : (task : Task) (region : Region) → Some region ≡ region_of (operation_lent task.operation)
+low_in : (task : Task) (region : Region) → Some region ≡ region_written (operation_lent task.operation)
     → (are_below task.out.c.store.now.rows (rows_in region) ≡ true)
     × (are_below task.out.c.store.now.cols (cols_in region) ≡ true)
 low_in task region is =

@@ -27,10 +27,10 @@ replace-requires-clause-is_object c =
 
 pub invariant_of-self : goal.invariant_of-self
 invariant_of-self c =
-    let settled = c.result.new.self in
+    let finished = c.result.new.self in
     let there = ap (λ (env : Environment Obj). is_some (env.find_object c.args.out.now.c)) c.result.ensures.kept ∙ c.in_ok-store.ensures.left.there in
-    let low : c.args.out.now.c.0 < settled.next = settled.fresh c.args.out.now.c there in
-    record { fresh = below-put (environment_of settled) _ c.args.out.now.c _ _ settled.next settled.next settled.fresh low (omega arith) c.replace.ensures }
+    let low : c.args.out.now.c.0 < finished.next = finished.fresh c.args.out.now.c there in
+    record { fresh = below-put (environment_of finished) _ c.args.out.now.c _ _ finished.next finished.next finished.fresh low (omega arith) c.replace.ensures }
 
 pub returns : goal.returns
 returns c =

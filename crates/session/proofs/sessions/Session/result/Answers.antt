@@ -16,10 +16,10 @@ pub evaluated-requires-clause-known : goal.evaluated-requires-clause-known
 evaluated-requires-clause-known c role =
     roles-known (known_in c.args.self.now) c.args.out.now c.args.operation c.in_ok-accepted.accepted c.in_ok-accepted.ensures.found role
     ∙ ap (λ (objects : Roles Obj). option_map (known_in c.args.self.now) (role_of objects role)) (sym c.by_role-objects.ensures)
-    ∙ ap (λ (env : Environment Obj). option_map (λ object. option_map signature_of (env.find_object object)) (role_of c.by_role-objects.result role)) (sym c.settle_all.ensures.kept)
+    ∙ ap (λ (env : Environment Obj). option_map (λ object. option_map signature_of (env.find_object object)) (role_of c.by_role-objects.result role)) (sym c.finish_all.ensures.kept)
 
 pub returns-clause-left : goal.returns-clause-left
 returns-clause-left c =
-    let evaluated = subst (λ (env : Environment Obj). IsEvaluated env c.in_ok-accepted.accepted c.by_role-objects.result c.in_ok-store.store) c.settle_all.ensures.kept c.in_ok-store.ensures in
+    let evaluated = subst (λ (env : Environment Obj). IsEvaluated env c.in_ok-accepted.accepted c.by_role-objects.result c.in_ok-store.store) c.finish_all.ensures.kept c.in_ok-store.ensures in
     left-evaluated (environment_of c.args.self.now) c.args.out.now c.args.operation c.in_ok-accepted.accepted c.in_ok-store.store
     c.in_ok-accepted.ensures.found (rw c.by_role-objects.ensures at evaluated)

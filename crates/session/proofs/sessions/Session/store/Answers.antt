@@ -11,6 +11,6 @@ pub returns : goal.returns
 returns c =
     let session = c.args.self.now in
     let object = c.args.object in
-    let found = ap (λ (env : Environment Obj). env.find_object object) (sym c.in_ok-finish.ensures.kept) ∙ c.settled.ensures.held in
-    let store = store-found (environment_of session) object c.settled.result.now found c.settled.ensures.is_object in
-    ((refl, (λ last. tt), performed-again session c.finish.new.self object _ _ c.in_ok-finish.ensures.performed), record { performed = tt; decided = c.in_ok-finish.ensures.decided; store = store })
+    let found = ap (λ (env : Environment Obj). env.find_object object) (sym c.in_ok-complete.ensures.kept) ∙ c.finished.ensures.held in
+    let store = store-found (environment_of session) object c.finished.result.now found c.finished.ensures.is_object in
+    ((refl, (λ last. tt), performed-again session c.complete.new.self object _ _ c.in_ok-complete.ensures.performed), record { performed = tt; decided = c.in_ok-complete.ensures.decided; store = store })

@@ -8,12 +8,12 @@ use Rattle.session.proofs.PerformedLaws.{performed-again}
 use Rattle.session.proofs.sessions.Session.tuples.Goals as goal
 
 pub returns-clause-performed : goal.returns-clause-performed
-returns-clause-performed c = performed-again c.args.self.now c.finish.new.self c.args.object _ _ c.in_ok-finish.ensures.performed
+returns-clause-performed c = performed-again c.args.self.now c.complete.new.self c.args.object _ _ c.in_ok-complete.ensures.performed
 
 pub returns-clause-tuples : goal.returns-clause-tuples
 returns-clause-tuples c =
     let session = c.args.self.now in
-    let held = c.settled-held.result.now in
+    let held = c.finished-held.result.now in
     let found : (environment_of session).find_object c.args.object ≡ Some (stored_object held) =
-    ap (λ (env : Environment Obj). env.find_object c.args.object) (sym c.in_ok-finish.ensures.kept) ∙ c.settled-held.ensures.held in
+    ap (λ (env : Environment Obj). env.find_object c.args.object) (sym c.in_ok-complete.ensures.kept) ∙ c.finished-held.ensures.held in
     rw (found, ← held.rows, ← held.cols) c.in_ok-tuples.ensures

@@ -7,8 +7,8 @@ use Rattle.patch.specs.declared.edits.Edit.{Edit}
 use Rattle.patch.specs.Edits.{IsInside, edited, place_of}
 use Rattle.patch.proofs.EditLaws.{edited-sorted, order_of_sorted}
 use Rattle.patch.proofs.GatherLaws.{position_cmp}
-use Rattle.patch.proofs.edits.settle.Goals as goal
-use Rattle.patch.proofs.edits.settle.Goals.{then-len-le-FEW_EDITS+in_ok-apply, else-len-le-FEW_EDITS+in_ok-sort_by_key+in_ok-store}
+use Rattle.patch.proofs.edits.apply_edits.Goals as goal
+use Rattle.patch.proofs.edits.apply_edits.Goals.{then-len-le-FEW_EDITS+in_ok-apply, else-len-le-FEW_EDITS+in_ok-sort_by_key+in_ok-store}
 
 pub merge-requires-clause-inside : goal.merge-requires-clause-inside
 merge-requires-clause-inside c =

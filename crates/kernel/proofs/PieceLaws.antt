@@ -1,0 +1,76 @@
+-- What recipes give are objects, and the store of all rows has it everywhere.
+use Rattle.std.proofs.Common.{◌≡◌, ◌∙◌, ℕ, Bor, true, refl}
+use Rattle.calls.specs.declared.recipe.Recipe.{Recipe}
+use Rattle.calls.specs.declared.recipe.Recipe.TheVariants.{New, Given, Patch, Resized, Transposed, Computed}
+use Rattle.calls.specs.declared.role.Role.{Role}
+use Rattle.calls.specs.declared.role.Role.TheVariants.{Old, First}
+use Rattle.calls.specs.declared.role.Roles.{Roles}
+use Rattle.calls.specs.Recipes.{known_by, known_of, meaning_of}
+use Rattle.calls.specs.Stores.{object_with}
+use Rattle.kernel.specs.declared.block.Block.{Block}
+use Rattle.kernel.specs.declared.block.Block.TheVariants.{Rows, Whole}
+use Rattle.kernel.specs.Pieces.{HasAllRows, IfRows, IsPieceOf, cols_in, content_in}
+use Rattle.kernel.specs.Takes.{AreInputs, lent_in, map_in, maps_in}
+use Rattle.kernel.proofs.TakenLaws.{meaning-is_object, takes-object, whole-store}
+use Rattle.model.specs.declared.shape.Shape.{Shape}
+use Rattle.model.specs.declared.shape.Shape.TheVariants.{One, Two}
+use Rattle.model.specs.declared.shape.Signature.{Signature}
+use Rattle.model.specs.Object.{Content, IsObject, IsWithin, cols_of, is_matrix, rows_of, transposed_content, transposed_shape, transposed_signature}
+use Rattle.model.proofs.ObjectLaws.{empty-is_object, transposed-is_object}
+use Rattle.model.proofs.RegionLaws.{cut_to-within, cut_to-words}
+use Rattle.store.specs.Stored.{Stored, content_of}
+
+transposed_matrix : (known : Signature) (shape : Shape) (map : Content) → is_matrix shape ≡ true
+    → IsObject (object_with (record known { shape = shape }) map)
+    → IsObject (object_with (transposed_signature (record known { shape = shape })) (transposed_content map))
+transposed_matrix known (One n) map matrix is = absurd (cc)
+transposed_matrix known (Two m n) map matrix is =
+    transposed-is_object (object_with (record known { shape = Two m n }) map) is
+
+pub recipe-is_object : (recipe : Recipe) (stores : Roles (Bor Stored)) → AreInputs (known_by recipe) stores
+    → IsObject (object_with (known_of recipe) (meaning_of recipe (maps_in stores)))
+recipe-is_object (New of) stores are = empty-is_object of.domain of.shape
+recipe-is_object (Given given) stores are = given.is_store.is_object
+recipe-is_object (Patch patch) stores are =
+    patch.keeps (map_in (lent_in stores Old)) (takes-object patch.of (lent_in stores Old) (are Old))
+recipe-is_object (Resized of shape) stores are =
+    let old = takes-object of (lent_in stores Old) (are Old) in
+    record {
+      within = cut_to-within (rows_of shape) (cols_of shape) (map_in (lent_in stores Old));
+      words = cut_to-words of.domain (rows_of shape) (cols_of shape) (map_in (lent_in stores Old)) old.words;
+    }
+recipe-is_object (Transposed turn) stores are =
+    transposed_matrix turn.of turn.of.shape (map_in (lent_in stores First)) turn.matrix
+    (takes-object turn.of (lent_in stores First) (are First))
+recipe-is_object (Computed computation) stores are =
+    meaning-is_object computation.out computation.operation stores computation.accepted are
+
+-- the transpose of a matrix has its rows as columns
+pub transposed-shape : (shape : Shape) → is_matrix shape ≡ true
+    → (rows_of (transposed_shape shape) ≡ cols_of shape) × (cols_of (transposed_shape shape) ≡ rows_of shape)
+transposed-shape (One n) matrix = absurd (cc)
+transposed-shape (Two m n) matrix = (refl, refl)
+
+-- ---- blocks of all rows
+
+pub piece-rows : (recipe : Recipe) (maps : Role → Content) (block : Block)
+    → IsPieceOf recipe maps 0 (rows_of (known_of recipe).shape) block → HasAllRows recipe block
+piece-rows recipe maps (Rows block) is = is.past_is
+piece-rows recipe maps (Whole store) is = is.rows
+
+pub piece-cols : (recipe : Recipe) (maps : Role → Content) (block : Block)
+    → IsPieceOf recipe maps 0 (rows_of (known_of recipe).shape) block
+    → cols_in block ≡ cols_of (known_of recipe).shape
+piece-cols recipe maps (Rows block) is = is.cols_are
+piece-cols recipe maps (Whole store) is = is.cols
+
+pub piece-content : (recipe : Recipe) (maps : Role → Content) (block : Block) (store : Stored)
+    → IsObject (object_with (known_of recipe) (meaning_of recipe maps))
+    → IsPieceOf recipe maps 0 (rows_of (known_of recipe).shape) block
+    → store.rows ≡ rows_of (known_of recipe).shape
+    → IfRows block (IsWithin store.rows store.cols (content_of store))
+    → ((i j : ℕ) → content_of store i j ≡ content_in block i j)
+    → (i j : ℕ) → content_of store i j ≡ meaning_of recipe maps i j
+piece-content recipe maps (Rows block) store object is rows within same =
+    whole-store (known_of recipe) (meaning_of recipe maps) block store object rows within same is.words
+piece-content recipe maps (Whole whole) store object is rows within same = λ i j. same i j ∙ is.content i j
