@@ -1,10 +1,16 @@
 -- What the code reads of a line.
-use Rattle.std.specs.Prelude.{ℕ, ◌≡◌, List, Option, Some, None, Result, Ok, Err}
+use Rattle.std.specs.Prelude.{ℕ, ◌≡◌, List, [], ◌∷◌, Option, Some, None, Result, Ok, Err}
 use Rattle.lines.specs.declared.fault.LineFault.{LineFault}
 use Rattle.lines.specs.declared.fault.LineFault.TheVariants.{Syntax, NoMemory}
 use Rattle.lines.specs.declared.line.Line.{Line}
 use Rattle.lines.specs.declared.line.Load.{Load as LoadLine}
 use Rattle.lines.specs.declared.line.Line.TheVariants.{Silent, Call, Load}
+use Rattle.model.specs.declared.call.Region.{Region}
+use Rattle.model.specs.declared.call.Region.TheVariants as region
+use Rattle.model.specs.declared.shape.Place.{Place}
+use Rattle.model.specs.declared.shape.Place.TheVariants as place
+use Rattle.model.specs.declared.shape.Shape.{Shape}
+use Rattle.model.specs.declared.shape.Shape.TheVariants as shape
 use Rattle.model.specs.Grammar as grammar
 use Rattle.model.specs.Renamed.{renamed}
 use Rattle.model.specs.Runs.{IsAnswered}
@@ -35,3 +41,23 @@ abbrev pub IsSaid : {A : Type 0} → Option A → Result A LineFault → Type 0
 IsSaid said (Ok x) = said ≡ Some x
 IsSaid said (Err Syntax) = said ≡ None
 IsSaid said (Err NoMemory) = ⊥
+
+-- ---- rows without a first word, of what is said of a vector or of a matrix
+
+abbrev pub shapes : List (grammar.Row Shape)
+shapes =
+    grammar.row [] (grammar.ANumber ∷ []) shape.One
+    ∷ grammar.row [] (grammar.ANumber ∷ grammar.ANumber ∷ []) shape.Two
+    ∷ []
+
+abbrev pub places : List (grammar.Row Place)
+places =
+    grammar.row [] (grammar.ANumber ∷ []) place.One
+    ∷ grammar.row [] (grammar.ANumber ∷ grammar.ANumber ∷ []) place.Two
+    ∷ []
+
+abbrev pub regions : List (grammar.Row Region)
+regions =
+    grammar.row [] (grammar.AList ∷ []) region.One
+    ∷ grammar.row [] (grammar.AList ∷ grammar.AList ∷ []) region.Two
+    ∷ []

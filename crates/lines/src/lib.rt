@@ -1,6 +1,7 @@
 //! The lines of a script: the words of a line, and the call that they write.
 #![tactic(auto)]
 
+mod calls;
 mod cutting;
 mod fault;
 mod kinds;

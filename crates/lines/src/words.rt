@@ -1,14 +1,16 @@
 //! The words of a line, and what each says alone.
 ghost use Rattle.std.specs.Prelude.{◌≡◌, ◌+◌, ◌-◌, ◌*◌, ◌<◌, ◌≤◌, ◌^◌, ◌==◌, ◌||◌, IfOk, map, length, filter, not};
-ghost use Rattle.std.specs.Prelude.{IsTrue, if◌then◌else◌, ◌&&◌, nat_le, neg_ℤ, pos};
-ghost use Rattle.std.specs.List.{list_all};
+ghost use Rattle.std.specs.Prelude.{IsTrue, if◌then◌else◌, ◌&&◌, nat_le, neg_ℤ, pos, ◌++◌, ◌∷◌, [], IfSome};
+ghost use Rattle.std.specs.Prelude.{MatchOption, OnOk};
+ghost use Rattle.std.specs.List.{list_all, position, slice_split};
 ghost use Rattle.std.specs.Option.{option_map};
 ghost use Rattle.model.specs.Grammar.{digits_value, domain_of, is_blank, is_digit, is_letter, is_name, is_number};
 ghost use Rattle.model.specs.Grammar.{name_of, number_of, value_of_word, words_of};
 
 use algebra::Domain;
-use model::LONGEST_NAME;
-use std::alloc::{AllocError, Global};
+use model::{LONGEST_NAME, NoMemory};
+use smallvec::SmallVec;
+use std::alloc::Global;
 
 /// Whether a byte parts words.
 pub const fn is_blank(byte: u8) -> bool
@@ -17,13 +19,48 @@ pub const fn is_blank(byte: u8) -> bool
     byte == b' ' || byte == b'\t'
 }
 
-/// The words of a line, parted by blanks.
-pub fn words_of(alloc: Global, line: &[u8]) -> Result<Vec<&[u8]>, AllocError>
+/// The words of a line, parted by blanks. Those of a call but for `build` need no memory.
+pub fn words_of(alloc: Global, line: &[u8]) -> Result<SmallVec<&[u8], 8>, NoMemory>
     ensures { IfOk result (λ words. map (λ word. word.now) words.items ≡ words_of line.now) }
 {
-    line.split(|byte| is_blank(*byte))
-        .filter(|word| !word.is_empty())
-        .collect(alloc)
+    let mut words = SmallVec::new(alloc);
+    let mut rest = line;
+    while let Some((word, others)) = cut_at_blank(rest) {
+        add(&mut words, word)?;
+        rest = others;
+    }
+    add(&mut words, rest)?;
+    Ok(words)
+}
+
+/// What stands before the first blank, and what stands after it.
+fn cut_at_blank(line: &[u8]) -> Option<(&[u8], &[u8])>
+    ensures parts { MatchOption result (slice_split is_blank line.now ≡ line.now ∷ [])
+        (λ parts. slice_split is_blank line.now ≡ parts.0.now ∷ slice_split is_blank parts.1.now) }
+    ensures shorter { IfSome result (λ parts. length parts.1.now < length line.now) }
+{
+    match first_blank(line) {
+        Some(at) => Some((&line[..at], &line[at + 1..])),
+        None => None,
+    }
+}
+
+/// Where the first blank is.
+fn first_blank(line: &[u8]) -> Option<usize>
+    ensures { result ≡ position is_blank line.now }
+{
+    line.iter().position(|byte| is_blank(*byte))
+}
+
+/// Adds what stands between two blanks, if anything does.
+fn add<'a>(words: &mut SmallVec<&'a [u8], 8>, word: &'a [u8]) -> Result<(), NoMemory>
+    ensures { OnOk result (map (λ word. word.now) words.new.items
+        ≡ map (λ word. word.now) words.old.items ++ filter (λ word. not (length word == 0)) (word.now ∷ [])) }
+{
+    if !word.is_empty() {
+        words.push(word)?;
+    }
+    Ok(())
 }
 
 /// A word that is a name: an ASCII letter, and then letters, digits and underscores.

@@ -12,7 +12,7 @@ use Rattle.model.specs.declared.market.Mistake.{Mistake}
 use Rattle.model.specs.declared.market.Mistake.TheVariants as mistake
 use Rattle.model.specs.Entries.{count_from, entries_of, entry_at}
 use Rattle.model.specs.Fault.{early_fault}
-use Rattle.model.specs.Grammar.{lines_of, name_of, number_of, domain_of, matrix_of, only_name_of, file_name_of, load_of, entry_call_of, call_of, command_of, reading_of, readings_of}
+use Rattle.model.specs.Grammar.{lines_of, name_of, number_of, domain_of, file_name_of, load_of, call_of, command_of, reading_of, readings_of, said_by}
 use Rattle.model.specs.Loads.{Sources, load_fault, readings_in}
 use Rattle.model.specs.MatrixMarket.{Matrix, is_banner, field_of, symmetry_of, kind_of, heading_of, entry_said, faults_of, told_lines, matrix_listed, matrix_behind, matrix_in_lines, matrix_in}
 use Rattle.model.specs.Run.{effect, data_lines_of, loaded, load, step, turn, answers_from, out_of_readings, out_of}
@@ -106,5 +106,5 @@ abbrev worked : List Row
 worked = lenient_file ∷ truncated_file ∷ []
 
 each_writes_its_row : map (λ (row : Row). out_of worked_files row.script) worked ≡ map (λ (row : Row). row.written) worked
-unfolding lenient_file truncated_file worked_files general lenient_text truncated_text lines_of is_banner field_of symmetry_of kind_of heading_of entry_said faults_of told_lines matrix_listed matrix_behind matrix_in_lines matrix_in digits domain_from_name count_from entries_of early_fault name_of number_of domain_of matrix_of only_name_of file_name_of load_of entry_call_of call_of command_of reading_of readings_of readings_in load_fault effect data_lines_of loaded load step turn answers_from out_of_readings out_of answer_text canonical_lines
+unfolding lenient_file truncated_file worked_files general lenient_text truncated_text lines_of is_banner field_of symmetry_of kind_of heading_of entry_said faults_of told_lines matrix_listed matrix_behind matrix_in_lines matrix_in digits domain_from_name count_from entries_of early_fault name_of number_of domain_of file_name_of load_of call_of command_of said_by reading_of readings_of readings_in load_fault effect data_lines_of loaded load step turn answers_from out_of_readings out_of answer_text canonical_lines
 each_writes_its_row = refl

@@ -4,7 +4,7 @@ use Rattle.std.specs.Fmt.{digits}
 use Rattle.algebra.specs.Names.{binary_from_name, domain_from_name, index_from_name, monoid_from_name, unary_from_name}
 use Rattle.model.specs.Entries.{count_from, entries_of}
 use Rattle.model.specs.Fault.{early_fault}
-use Rattle.model.specs.Grammar.{lines_of, name_of, number_of, value_of_word, domain_of, dotted_of, op_name_of, unary_name_of, monoid_name_of, by_position_of, by_value_of, index_name_of, semiring_name_of, matrix_of, vector_of, only_name_of, place_of, set_of, remove_of, get_of, reduce_of, flag_added, desc_of, out_of_words, multiply_of, combine_of, apply_of, apply_first_of, apply_second_of, apply_index_of, select_of, reduce_rows_of, one_input_of, dup_of, resize_of, build_of, indices_of, tuple_of, tuples_of, transpose_of, region_of, extract_of, assign_of, fill_of, moving_of, operation_of, operate_of, entry_call_of, call_of, command_of, reading_of, readings_of}
+use Rattle.model.specs.Grammar.{lines_of, name_of, number_of, value_of_word, domain_of, dotted_of, op_name_of, unary_name_of, monoid_name_of, by_position_of, by_value_of, index_name_of, semiring_name_of, flag_added, desc_of, out_of_words, indices_of, tuple_of, tuples_of, operate_of, call_of, command_of, reading_of, readings_of, said_by}
 use Rattle.model.specs.Loads.{readings_in}
 use Rattle.model.specs.Operations.{operation}
 use Rattle.model.specs.Product.{product}
@@ -147,5 +147,5 @@ worked = zero_sum_is_an_entry ∷ empty_product ∷ wrap_before_minimum ∷ refu
     ∷ assign_deletes ∷ extract_with_a_repeat ∷ user_domain_as_mask ∷ resized_down_and_up ∷ built_in_list_order ∷ index_operators_on_vectors ∷ transposed_inputs ∷ empty_script ∷ []
 
 each_writes_its_row : map (λ (row : Row). out_of (λ name. None) row.script) worked ≡ map (λ (row : Row). row.written) worked
-unfolding zero_sum_is_an_entry empty_product wrap_before_minimum refusals_and_greatest_indices valued_and_structural_mask one_object_in_all_places products_with_vectors search_by_levels complement_of_no_mask reader_keeps_the_old_value empty_reductions order_of_checks replace assign_deletes extract_with_a_repeat user_domain_as_mask resized_down_and_up built_in_list_order index_operators_on_vectors transposed_inputs empty_script digits binary_from_name index_from_name unary_from_name domain_from_name monoid_from_name count_from entries_of early_fault lines_of name_of number_of value_of_word domain_of dotted_of op_name_of unary_name_of monoid_name_of by_position_of by_value_of index_name_of semiring_name_of matrix_of vector_of only_name_of place_of set_of remove_of get_of reduce_of flag_added desc_of out_of_words multiply_of combine_of apply_of apply_first_of apply_second_of apply_index_of select_of reduce_rows_of one_input_of dup_of resize_of build_of indices_of tuple_of tuples_of transpose_of region_of extract_of assign_of fill_of moving_of operation_of operate_of entry_call_of call_of command_of reading_of readings_of readings_in operation product effect data_lines_of step turn answers_from out_of_readings out_of answer_text canonical_lines result_of
+unfolding zero_sum_is_an_entry empty_product wrap_before_minimum refusals_and_greatest_indices valued_and_structural_mask one_object_in_all_places products_with_vectors search_by_levels complement_of_no_mask reader_keeps_the_old_value empty_reductions order_of_checks replace assign_deletes extract_with_a_repeat user_domain_as_mask resized_down_and_up built_in_list_order index_operators_on_vectors transposed_inputs empty_script digits binary_from_name index_from_name unary_from_name domain_from_name monoid_from_name count_from entries_of early_fault lines_of name_of number_of value_of_word domain_of dotted_of op_name_of unary_name_of monoid_name_of by_position_of by_value_of index_name_of semiring_name_of flag_added desc_of out_of_words indices_of tuple_of tuples_of operate_of call_of command_of said_by reading_of readings_of readings_in operation product effect data_lines_of step turn answers_from out_of_readings out_of answer_text canonical_lines result_of
 each_writes_its_row = refl

@@ -1,9 +1,10 @@
 -- A call that is written out in its words is read as that call.
-use Rattle.std.proofs.Common.{◌≡◌, ℕ, suc, ◌^◌, ◌<◌, ◌≤◌, ◌==◌, Bool, true, false, not, List, [], ◌∷◌, ◌++◌, map, length, get_or, Option, Some, None, refl, sym, ◌∙◌, ap, inl, inr, arith}
+use Rattle.std.proofs.Common.{◌≡◌, ℕ, suc, ◌-◌, ◌^◌, ◌<◌, ◌≤◌, ◌==◌, Bool, true, false, not, List, [], ◌∷◌, ◌++◌, map, length, length-append, take, drop, get_or, Option, Some, None, refl, sym, ◌∙◌, ap, inl, inr, arith}
 use Rattle.std.specs.Prelude.{ℤ, pos, negsuc, codes, decimal, nat_le, nat_lt, IfSome}
 use Rattle.std.specs.Fmt.{signed_decimal}
 use Rattle.std.specs.List.{All, list_all, slice_split}
 use Rattle.std.specs.Str.{bytes_eq}
+use Rattle.std.proofs.Math.Seq.{get_or-append_seam, take-append_seam}
 use Rattle.std.proofs.lemmas.Bool.{and_parts, cases_Bool, le-leb, lt-ltb}
 use Rattle.std.proofs.lemmas.Bool.Decides.{nat_tests}
 use Rattle.std.proofs.lemmas.Fmt.{length-decimal-le}
@@ -33,25 +34,21 @@ use Rattle.model.specs.declared.call.Act.TheVariants.{Free, Clear, Resize, Build
 use Rattle.model.specs.declared.call.Call.{Call}
 use Rattle.model.specs.declared.call.Call.TheVariants.{Create, Dup, On, Operate}
 use Rattle.model.specs.declared.call.Desc.{Desc}
-use Rattle.model.specs.declared.call.Form.{Form}
 use Rattle.model.specs.declared.call.Form.TheVariants.{MatrixMatrix}
-use Rattle.model.specs.declared.call.OneInput.{OneInput}
 use Rattle.model.specs.declared.call.OneInput.TheVariants.{Apply, Select, ReduceRows, Transpose, Extract, Assign}
+use Rattle.model.specs.declared.call.Operation.{Operation}
 use Rattle.model.specs.declared.call.Operation.TheVariants.{Fill, OfOne, OfTwo}
 use Rattle.model.specs.declared.call.Out.{Out}
-use Rattle.model.specs.declared.call.Positions.{Positions}
 use Rattle.model.specs.declared.call.Positions.TheVariants.{Union, Intersection}
-use Rattle.model.specs.declared.call.Region.{Region}
 use Rattle.model.specs.declared.call.Region.TheVariants as region
 use Rattle.model.specs.declared.call.TwoInputs.TheVariants.{Combine, Multiply}
-use Rattle.model.specs.declared.shape.Shape.{Shape}
 use Rattle.model.specs.declared.shape.Shape.TheVariants as shape
 use Rattle.model.specs.declared.shape.Place.{Place}
 use Rattle.model.specs.declared.shape.Place.TheVariants.{One, Two}
 use Rattle.model.specs.declared.tuples.Tuple.{Tuple}
-use Rattle.model.specs.Grammar.{Called, all_read, apply_first_of, apply_index_of, apply_of, apply_second_of, assign_of, combine_of, extract_of, fill_of, moving_of, one_input_of, reduce_rows_of, region_of, select_of, transpose_of, are_alike, build_of, by_position_of, by_value_of, call_of, command_of, desc_of, dup_of, entry_call_of, get_of, matrix_of, multiply_of, only_name_of, operate_of, operation_of, out_of_words, place_of, reduce_of, remove_of, resize_of, set_of, vector_of, domain_of, dotted_of, flag_added, index_name_of, indices_of, is_name, is_digit, is_none_word, monoid_name_of, Name, name_of, number_of, one_of, op_name_of, perhaps, semiring_name_of, tuple_of, tuples_of, two_of, unary_name_of, value_of_word}
+use Rattle.model.specs.Grammar.{Called, Name, all_read, are_alike, by_position_of, by_value_of, call_of, calls, command_of, desc_of, domain_of, dotted_of, flag_added, index_name_of, indices_of, is_digit, is_name, is_none_word, middle_of, monoid_name_of, name_of, nth_word, number_of, one_of, op_name_of, operate_of, operations, out_of_words, perhaps, said_by, semiring_name_of, tuple_of, tuples_of, two_of, unary_name_of, value_of_word}
 use Rattle.model.specs.Indices.{All as AllIndices, Indices, These}
-use Rattle.model.specs.Written.{IsDomain, IsIndex, IsIndexName, IsList, IsName, IsOneInput, IsOut, IsPlace, IsRegion, IsShape, IsTuple, IsValue, IsWritable, desc_word, index_word, indices_word, dotted, joined, listed, monoid_word, op_word, semiring_word, tuple_word, unary_word, word_or_none, words_for}
+use Rattle.model.specs.Written.{IsDomain, IsIndex, IsIndexName, IsList, IsName, IsOperation, IsOut, IsPlace, IsTuple, IsValue, IsWritable, desc_word, dotted, first_word, index_word, indices_word, joined, listed, middle_words, monoid_word, op_word, semiring_word, tuple_word, unary_word, word_or_none, words_for}
 use Rattle.model.proofs.TextLaws.{decimal-number, digits-whole}
 
 -- ---- words of names
@@ -350,113 +347,108 @@ flags-written false false false false false = refl
 pub desc_of-word : (d : Desc) → desc_of (desc_word d) ≡ Some d
 desc_of-word d = flags-written d.replace d.structure d.complement d.transpose_first d.transpose_second
 
--- ---- calls
-
-abbrev IsRead : Call Name Name → Type 0
-IsRead call = command_of (words_for call) ≡ Some (Called call)
-
-written-create : (name : Name) (d : Domain) (s : Shape) → IsName name → IsDomain d → IsShape s
-    → IsRead (Create name d s)
-unfolding command_of call_of matrix_of vector_of domain_of
-written-create name d (shape.One size) named is sized = rw (name_of-name name named, domain-named d is, number_of-decimal size sized) refl
-written-create name d (shape.Two rows cols) named is sized = rw (name_of-name name named, domain-named d is, number_of-decimal rows sized.0, number_of-decimal cols sized.1) refl
-
-written-resize : (object : Name) (s : Shape) → IsName object → IsShape s → IsRead (On object (Resize s))
-unfolding command_of call_of resize_of
-written-resize object (shape.One size) named sized = rw (name_of-name object named, number_of-decimal size sized) refl
-written-resize object (shape.Two rows cols) named sized = rw (name_of-name object named, number_of-decimal rows sized.0, number_of-decimal cols sized.1) refl
-
-written-build : (object : Name) (dup : Option OpName) (tuples : List Tuple) → IsName object
-    → IfSome dup (λ op. IsDomain op.domain) → All IsTuple tuples → are_alike tuples ≡ true
-    → IsRead (On object (Build dup tuples))
-unfolding command_of call_of entry_call_of build_of
-written-build object dup tuples named is all alike =
-    let long : nat_le 3 (suc (suc (suc (length (map tuple_word tuples))))) ≡ true = grind (arith, nat_tests) in
-    rw (long, name_of-name object named, perhaps-op dup is, tuples_of-words tuples all alike) refl
-
-written-set : (object : Name) (p : Place) (z : ℤ) → IsName object → IsPlace p → IsValue z → IsRead (On object (Set p z))
-unfolding command_of call_of entry_call_of set_of place_of
-written-set object (One i) z named is value = rw (number_of-decimal i is, name_of-name object named, value_of_word-value z value) refl
-written-set object (Two i j) z named is value = rw (number_of-decimal i is.0, number_of-decimal j is.1, name_of-name object named, value_of_word-value z value) refl
-
-written-remove : (object : Name) (p : Place) → IsName object → IsPlace p → IsRead (On object (Remove p))
-unfolding command_of call_of entry_call_of remove_of place_of
-written-remove object (One i) named is = rw (number_of-decimal i is, name_of-name object named) refl
-written-remove object (Two i j) named is = rw (number_of-decimal i is.0, number_of-decimal j is.1, name_of-name object named) refl
-
-written-get : (object : Name) (p : Place) → IsName object → IsPlace p → IsRead (On object (Get p))
-unfolding command_of call_of entry_call_of get_of place_of
-written-get object (One i) named is = rw (number_of-decimal i is, name_of-name object named) refl
-written-get object (Two i j) named is = rw (number_of-decimal i is.0, number_of-decimal j is.1, name_of-name object named) refl
-
-written-names : (object : Name) → IsName object
-    → IsRead (On object Free) × IsRead (On object Clear) × IsRead (On object Nvals) × IsRead (On object Print)
-unfolding command_of call_of entry_call_of only_name_of
-written-names object named =
-    let name = name_of-name object named in
-    (rw name refl, rw name refl, rw name refl, rw name refl)
-
-written-dup : (name object : Name) → IsName name → IsName object → IsRead (Dup name object)
-unfolding command_of call_of dup_of
-written-dup name object new old = rw (name_of-name name new, name_of-name object old) refl
-
-written-reduce : (object : Name) (monoid : MonoidName) → IsName object → IsDomain monoid.domain
-    → IsRead (On object (Reduce monoid))
-unfolding command_of call_of entry_call_of reduce_of
-written-reduce object monoid named is = rw (name_of-name object named, monoid_name_of-word monoid is) refl
+domain_of-name : (d : Domain) → IsDomain d → domain_of (domain_name d) ≡ Some d
+unfolding domain_of
+domain_of-name d is = domain-named d is
 
 -- ---- operations
 
-written-multiply : (out : Out Name) (form : Form) (semiring : SemiringName) (a b : Name) → IsOut out
-    → IsDomain semiring.domain → IsName a → IsName b
-    → IsRead (Operate out (OfTwo (Multiply form semiring) a b))
-unfolding command_of call_of entry_call_of operate_of operation_of multiply_of out_of_words
-written-multiply out MatrixMatrix semiring a b is fits first second = rw (semiring_name_of-word semiring fits, name_of-name a first, name_of-name b second, name_of-name out.c is.0, perhaps-name out.mask is.1, perhaps-op out.accum is.2, desc_of-word out.desc) refl
-written-multiply out _ semiring a b is fits first second = rw (semiring_name_of-word semiring fits, name_of-name a first, name_of-name b second, name_of-name out.c is.0, perhaps-name out.mask is.1, perhaps-op out.accum is.2, desc_of-word out.desc) refl
+-- the words of an operation's row are read as that operation
+said-operation : (operation : Operation Name) → IsOperation operation
+    → said_by operations (first_word operation) (middle_words operation) ≡ Some operation
+unfolding said_by
+said-operation (Fill value (region.One indices)) is = rw (value_of_word-value value is.0, indices_of-word indices is.1) refl
+said-operation (Fill value (region.Two rows cols)) is = rw (value_of_word-value value is.0, indices_of-word rows is.1.0, indices_of-word cols is.1.1) refl
+said-operation (OfOne (Apply (function.Unary op)) a) is = rw (unary_name_of-word op is.0, name_of-name a is.1) refl
+said-operation (OfOne (Apply (function.Index op scalar)) a) is = rw (index_name_of-word op is.0.0, name_of-name a is.1, value_of_word-value scalar is.0.1) refl
+said-operation (OfOne (Apply (function.First op value)) a) is = rw (op_name_of-word op is.0.0, value_of_word-value value is.0.1, name_of-name a is.1) refl
+said-operation (OfOne (Apply (function.Second op value)) a) is = rw (op_name_of-word op is.0.0, name_of-name a is.1, value_of_word-value value is.0.1) refl
+said-operation (OfOne (Select op scalar) a) is = rw (index_name_of-word op is.0.0, name_of-name a is.1, value_of_word-value scalar is.0.1) refl
+said-operation (OfOne (ReduceRows monoid) a) is = rw (monoid_name_of-word monoid is.0, name_of-name a is.1) refl
+said-operation (OfOne Transpose a) is = rw (name_of-name a is.1) refl
+said-operation (OfOne (Extract (region.One indices)) a) is = rw (name_of-name a is.1, indices_of-word indices is.0) refl
+said-operation (OfOne (Extract (region.Two rows cols)) a) is = rw (name_of-name a is.1, indices_of-word rows is.0.0, indices_of-word cols is.0.1) refl
+said-operation (OfOne (Assign (region.One indices)) a) is = rw (name_of-name a is.1, indices_of-word indices is.0) refl
+said-operation (OfOne (Assign (region.Two rows cols)) a) is = rw (name_of-name a is.1, indices_of-word rows is.0.0, indices_of-word cols is.0.1) refl
+said-operation (OfTwo (Multiply MatrixMatrix semiring) a b) is = rw (semiring_name_of-word semiring is.0, name_of-name a is.1, name_of-name b is.2) refl
+said-operation (OfTwo (Multiply _ semiring) a b) is = rw (semiring_name_of-word semiring is.0, name_of-name a is.1, name_of-name b is.2) refl
+said-operation (OfTwo (Combine Union op) a b) is = rw (op_name_of-word op is.0, name_of-name a is.1, name_of-name b is.2) refl
+said-operation (OfTwo (Combine Intersection op) a b) is = rw (op_name_of-word op is.0, name_of-name a is.1, name_of-name b is.2) refl
 
-written-combine : (out : Out Name) (positions : Positions) (op : OpName) (a b : Name) → IsOut out → IsDomain op.domain
-    → IsName a → IsName b
-    → IsRead (Operate out (OfTwo (Combine positions op) a b))
-unfolding command_of call_of entry_call_of operate_of operation_of combine_of out_of_words
-written-combine out Union op a b is fits first second = rw (op_name_of-word op fits, name_of-name a first, name_of-name b second, name_of-name out.c is.0, perhaps-name out.mask is.1, perhaps-op out.accum is.2, desc_of-word out.desc) refl
-written-combine out Intersection op a b is fits first second = rw (op_name_of-word op fits, name_of-name a first, name_of-name b second, name_of-name out.c is.0, perhaps-name out.mask is.1, perhaps-op out.accum is.2, desc_of-word out.desc) refl
+-- no other line has an operation's first word
+apart : (operation : Operation Name) → bytes_eq (first_word operation) (codes "load") ≡ false
+    × ((words : List (List ℕ)) → said_by calls (first_word operation) words ≡ None)
+unfolding said_by
+apart (Fill value indices) = (refl, λ words. refl)
+apart (OfOne (Apply (function.Unary op)) a) = (refl, λ words. refl)
+apart (OfOne (Apply _) a) = (refl, λ words. refl)
+apart (OfOne _ a) = (refl, λ words. refl)
+apart (OfTwo (Multiply MatrixMatrix semiring) a b) = (refl, λ words. refl)
+apart (OfTwo (Multiply _ semiring) a b) = (refl, λ words. refl)
+apart (OfTwo (Combine Union op) a b) = (refl, λ words. refl)
+apart (OfTwo (Combine Intersection op) a b) = (refl, λ words. refl)
 
-written-fill : (out : Out Name) (z : ℤ) (r : Region) → IsOut out → IsValue z → IsRegion r
-    → IsRead (Operate out (Fill z r))
-unfolding command_of call_of entry_call_of operate_of operation_of moving_of fill_of region_of out_of_words
-written-fill out z (region.One indices) is value fits = rw (indices_of-word indices fits, value_of_word-value z value, name_of-name out.c is.0, perhaps-name out.mask is.1, perhaps-op out.accum is.2, desc_of-word out.desc) refl
-written-fill out z (region.Two rows cols) is value fits = rw (indices_of-word rows fits.0, indices_of-word cols fits.1, value_of_word-value z value, name_of-name out.c is.0, perhaps-name out.mask is.1, perhaps-op out.accum is.2, desc_of-word out.desc) refl
+-- the words of an operation's call are parted as they were put together
+module _ (first c mask accum : List ℕ) (middle : List (List ℕ)) (desc : List ℕ) where
+  all_words : List (List ℕ)
+  all_words = first ∷ c ∷ mask ∷ accum ∷ middle ++ desc ∷ []
 
-written-one : (out : Out Name) (computes : OneInput) (a : Name) → IsOut out → IsOneInput computes → IsName a
-    → IsRead (Operate out (OfOne computes a))
-unfolding command_of call_of entry_call_of operate_of operation_of moving_of one_input_of apply_of apply_index_of apply_first_of apply_second_of select_of reduce_rows_of transpose_of extract_of assign_of region_of out_of_words
-written-one out (Apply (function.Unary op)) a is fits named = rw (unary_name_of-word op fits, name_of-name a named, name_of-name out.c is.0, perhaps-name out.mask is.1, perhaps-op out.accum is.2, desc_of-word out.desc) refl
-written-one out (Apply (function.Index op scalar)) a is fits named = rw (index_name_of-word op fits.0, name_of-name a named, value_of_word-value scalar fits.1, name_of-name out.c is.0, perhaps-name out.mask is.1, perhaps-op out.accum is.2, desc_of-word out.desc) refl
-written-one out (Apply (function.First op value)) a is fits named = rw (op_name_of-word op fits.0, value_of_word-value value fits.1, name_of-name a named, name_of-name out.c is.0, perhaps-name out.mask is.1, perhaps-op out.accum is.2, desc_of-word out.desc) refl
-written-one out (Apply (function.Second op value)) a is fits named = rw (op_name_of-word op fits.0, name_of-name a named, value_of_word-value value fits.1, name_of-name out.c is.0, perhaps-name out.mask is.1, perhaps-op out.accum is.2, desc_of-word out.desc) refl
-written-one out (Select op scalar) a is fits named = rw (index_name_of-word op fits.0, name_of-name a named, value_of_word-value scalar fits.1, name_of-name out.c is.0, perhaps-name out.mask is.1, perhaps-op out.accum is.2, desc_of-word out.desc) refl
-written-one out (ReduceRows monoid) a is fits named = rw (monoid_name_of-word monoid fits, name_of-name a named, name_of-name out.c is.0, perhaps-name out.mask is.1, perhaps-op out.accum is.2, desc_of-word out.desc) refl
-written-one out Transpose a is fits named = rw (name_of-name a named, name_of-name out.c is.0, perhaps-name out.mask is.1, perhaps-op out.accum is.2, desc_of-word out.desc) refl
-written-one out (Extract (region.One indices)) a is fits named = rw (indices_of-word indices fits, name_of-name a named, name_of-name out.c is.0, perhaps-name out.mask is.1, perhaps-op out.accum is.2, desc_of-word out.desc) refl
-written-one out (Extract (region.Two rows cols)) a is fits named = rw (indices_of-word rows fits.0, indices_of-word cols fits.1, name_of-name a named, name_of-name out.c is.0, perhaps-name out.mask is.1, perhaps-op out.accum is.2, desc_of-word out.desc) refl
-written-one out (Assign (region.One indices)) a is fits named = rw (indices_of-word indices fits, name_of-name a named, name_of-name out.c is.0, perhaps-name out.mask is.1, perhaps-op out.accum is.2, desc_of-word out.desc) refl
-written-one out (Assign (region.Two rows cols)) a is fits named = rw (indices_of-word rows fits.0, indices_of-word cols fits.1, name_of-name a named, name_of-name out.c is.0, perhaps-name out.mask is.1, perhaps-op out.accum is.2, desc_of-word out.desc) refl
+  last_place : length all_words - 1 ≡ suc (suc (suc (suc (length middle))))
+  unfolding all_words
+  last_place = simp length-append (omega arith)
+
+  middle_of-words : middle_of all_words ≡ middle
+  unfolding all_words
+  middle_of-words = ap (λ k. drop 4 (take k all_words)) last_place ∙ take-append_seam middle (desc ∷ [])
+
+  last_of-words : nth_word all_words (length all_words - 1) ≡ desc
+  unfolding all_words
+  last_of-words = ap (nth_word all_words) last_place ∙ get_or-append_seam middle desc [] []
+
+  enough-words : nat_le 5 (length all_words) ≡ true
+  unfolding all_words
+  enough-words = simp length-append (grind (arith, nat_tests))
+
+out_of_words-words : (first : List ℕ) (out : Out Name) (middle : List (List ℕ)) → IsOut out
+    → out_of_words (all_words first out.c (word_or_none (λ mask. mask) out.mask) (word_or_none op_word out.accum) middle (desc_word out.desc))
+    ≡ Some out
+unfolding out_of_words all_words
+out_of_words-words first out middle is =
+    let mask = word_or_none (λ mask. mask) out.mask in
+    let accum = word_or_none op_word out.accum in
+    let desc = desc_word out.desc in
+    rw (enough-words first out.c mask accum middle desc, name_of-name out.c is.0, perhaps-name out.mask is.1, perhaps-op out.accum is.2, last_of-words first out.c mask accum middle desc, desc_of-word out.desc) refl
+
+written-operate : (out : Out Name) (operation : Operation Name) → IsOut out → IsOperation operation
+    → command_of (words_for (Operate out operation)) ≡ Some (Called (Operate out operation))
+unfolding command_of call_of operate_of all_words
+written-operate out operation is fits =
+    let words = words_for (Operate out operation) in
+    let middle = middle_of-words (first_word operation) out.c (word_or_none (λ mask. mask) out.mask) (word_or_none op_word out.accum) (middle_words operation) (desc_word out.desc) in
+    rw ((apart operation).0, (apart operation).1 (drop 1 words), middle, said-operation operation fits, out_of_words-words (first_word operation) out (middle_words operation) is) refl
+
+-- ---- calls
 
 -- each call that can be written is read as it was written
 pub command_of-words_for : (call : Call Name Name) → IsWritable call → command_of (words_for call) ≡ Some (Called call)
-command_of-words_for (Create name domain s) is = written-create name domain s is.0 is.1 is.2
-command_of-words_for (Dup name object) is = written-dup name object is.0 is.1
-command_of-words_for (On object Free) is = (written-names object is.0).0
-command_of-words_for (On object Clear) is = (written-names object is.0).1
-command_of-words_for (On object Nvals) is = (written-names object is.0).2
-command_of-words_for (On object Print) is = (written-names object is.0).3
-command_of-words_for (On object (Resize s)) is = written-resize object s is.0 is.1
-command_of-words_for (On object (Build dup tuples)) is = written-build object dup tuples is.0 is.1.0 is.1.1 is.1.2
-command_of-words_for (On object (Set place value)) is = written-set object place value is.0 is.1.0 is.1.1
-command_of-words_for (On object (Remove place)) is = written-remove object place is.0 is.1
-command_of-words_for (On object (Get place)) is = written-get object place is.0 is.1
-command_of-words_for (On object (Reduce monoid)) is = written-reduce object monoid is.0 is.1
-command_of-words_for (Operate out (Fill value indices)) is = written-fill out value indices is.0 is.1.0 is.1.1
-command_of-words_for (Operate out (OfOne computes a)) is = written-one out computes a is.0 is.1.0 is.1.1
-command_of-words_for (Operate out (OfTwo (Multiply form semiring) a b)) is = written-multiply out form semiring a b is.0 is.1.0 is.1.1 is.1.2
-command_of-words_for (Operate out (OfTwo (Combine positions op) a b)) is = written-combine out positions op a b is.0 is.1.0 is.1.1 is.1.2
+unfolding command_of call_of said_by
+command_of-words_for (Create name d (shape.One size)) is = rw (name_of-name name is.0, domain_of-name d is.1, number_of-decimal size is.2) refl
+command_of-words_for (Create name d (shape.Two rows cols)) is = rw (name_of-name name is.0, domain_of-name d is.1, number_of-decimal rows is.2.0, number_of-decimal cols is.2.1) refl
+command_of-words_for (Dup name object) is = rw (name_of-name name is.0, name_of-name object is.1) refl
+command_of-words_for (On object Free) is = rw (name_of-name object is.0) refl
+command_of-words_for (On object Clear) is = rw (name_of-name object is.0) refl
+command_of-words_for (On object Nvals) is = rw (name_of-name object is.0) refl
+command_of-words_for (On object Print) is = rw (name_of-name object is.0) refl
+command_of-words_for (On object (Resize (shape.One size))) is = rw (name_of-name object is.0, number_of-decimal size is.1) refl
+command_of-words_for (On object (Resize (shape.Two rows cols))) is = rw (name_of-name object is.0, number_of-decimal rows is.1.0, number_of-decimal cols is.1.1) refl
+command_of-words_for (On object (Build dup tuples)) is =
+    let long : nat_le 2 (suc (suc (length (map tuple_word tuples)))) ≡ true = grind (arith, nat_tests) in
+    rw (long, name_of-name object is.0, perhaps-op dup is.1.0, tuples_of-words tuples is.1.1 is.1.2) refl
+command_of-words_for (On object (Set (One i) value)) is = rw (name_of-name object is.0, number_of-decimal i is.1.0, value_of_word-value value is.1.1) refl
+command_of-words_for (On object (Set (Two i j) value)) is = rw (name_of-name object is.0, number_of-decimal i is.1.0.0, number_of-decimal j is.1.0.1, value_of_word-value value is.1.1) refl
+command_of-words_for (On object (Remove (One i))) is = rw (name_of-name object is.0, number_of-decimal i is.1) refl
+command_of-words_for (On object (Remove (Two i j))) is = rw (name_of-name object is.0, number_of-decimal i is.1.0, number_of-decimal j is.1.1) refl
+command_of-words_for (On object (Get (One i))) is = rw (name_of-name object is.0, number_of-decimal i is.1) refl
+command_of-words_for (On object (Get (Two i j))) is = rw (name_of-name object is.0, number_of-decimal i is.1.0, number_of-decimal j is.1.1) refl
+command_of-words_for (On object (Reduce monoid)) is = rw (name_of-name object is.0, monoid_name_of-word monoid is.1) refl
+command_of-words_for (Operate out operation) is = written-operate out operation is.0 is.1

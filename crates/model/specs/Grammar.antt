@@ -1,7 +1,7 @@
 -- How the bytes of a script are read: lines, words, and the grammar of each call.
 use Rattle.std.specs.Prelude.{ℕ, ℤ, pos, neg_ℤ, ◌+◌, ◌-◌, ◌*◌, ◌^◌, ◌==◌, nat_le, nat_lt, not, Bool, true, false, ◌&&◌}
 use Rattle.std.specs.Prelude.{◌||◌, if◌then◌else◌, List, [], ◌∷◌, map, length, drop, slice_index, slice_index_or}
-use Rattle.std.specs.Prelude.{Option, Some, None, codes, filter, fold}
+use Rattle.std.specs.Prelude.{Option, Some, None, codes, filter, fold, take}
 use Rattle.std.specs.List.{list_all, slice_split}
 use Rattle.std.specs.Option.{option_and_then, option_map_or}
 use Rattle.std.specs.Str.{bytes_eq}
@@ -22,15 +22,12 @@ use Rattle.model.specs.declared.call.Act.TheVariants.{Reduce}
 use Rattle.model.specs.declared.call.Call.{Call}
 use Rattle.model.specs.declared.call.Call.TheVariants.{Create, Dup, On, Operate}
 use Rattle.model.specs.declared.call.Desc.{Desc}
-use Rattle.model.specs.declared.call.Form.{Form}
 use Rattle.model.specs.declared.call.Form.TheVariants.{MatrixMatrix, MatrixVector, VectorMatrix}
 use Rattle.model.specs.declared.call.OneInput.TheVariants.{Apply, Select, ReduceRows, Transpose, Extract, Assign}
 use Rattle.model.specs.declared.call.Operation.{Operation}
 use Rattle.model.specs.declared.call.Operation.TheVariants.{Fill, OfOne, OfTwo}
 use Rattle.model.specs.declared.call.Out.{Out}
-use Rattle.model.specs.declared.call.Positions.{Positions}
 use Rattle.model.specs.declared.call.Positions.TheVariants.{Union, Intersection}
-use Rattle.model.specs.declared.call.Region.{Region}
 use Rattle.model.specs.declared.call.Region.TheVariants as region
 use Rattle.model.specs.declared.call.TwoInputs.TheVariants.{Combine, Multiply}
 use Rattle.model.specs.declared.limits.TheConstants.{LONGEST_FILE_NAME, LONGEST_LINE, LONGEST_NAME}
@@ -215,90 +212,7 @@ are_alike (t ∷ ts) = list_all (λ u. same_length t.place u.place) ts
 unfoldable pub tuples_of : List (List ℕ) → Option (List Tuple)
 tuples_of words = where_it are_alike (all_read tuple_of words)
 
--- ---- calls, each by its first word
-
--- matrix NAME DOMAIN NUM NUM
-unfoldable pub matrix_of : List (List ℕ) → Option (Call Name Name)
-matrix_of words =
-    if length words == 5
-    then (name_of (nth_word words 1) >>= λ name. domain_of (nth_word words 2) >>= λ domain.
-    number_of (nth_word words 3) >>= λ rows. number_of (nth_word words 4) >>= λ cols.
-    Some (Create name domain (shape.Two rows cols)))
-    else None
-
--- vector NAME DOMAIN NUM
-unfoldable pub vector_of : List (List ℕ) → Option (Call Name Name)
-vector_of words =
-    if length words == 4
-    then (name_of (nth_word words 1) >>= λ name. domain_of (nth_word words 2) >>= λ domain.
-    number_of (nth_word words 3) >>= λ size. Some (Create name domain (shape.One size)))
-    else None
-
--- dup NEW OLD
-unfoldable pub dup_of : List (List ℕ) → Option (Call Name Name)
-dup_of words =
-    if length words == 3
-    then (name_of (nth_word words 1) >>= λ name. name_of (nth_word words 2) >>= λ object. Some (Dup name object))
-    else None
-
--- resize NAME NUM, or NAME NUM NUM
-unfoldable pub resize_of : List (List ℕ) → Option (Call Name Name)
-resize_of words =
-    if length words == 3
-    then (name_of (nth_word words 1) >>= λ name. number_of (nth_word words 2) >>= λ size.
-    Some (On name (Resize (shape.One size))))
-    else if length words == 4
-    then (name_of (nth_word words 1) >>= λ name. number_of (nth_word words 2) >>= λ rows.
-    number_of (nth_word words 3) >>= λ cols. Some (On name (Resize (shape.Two rows cols))))
-    else None
-
--- the name that follows the first word, where nothing else does
-unfoldable pub only_name_of : List (List ℕ) → Option Name
-only_name_of words = if length words == 2 then name_of (nth_word words 1) else None
-
--- free NAME
-abbrev pub free_of : List (List ℕ) → Option (Call Name Name)
-free_of words = only_name_of words >>= λ name. Some (On name Free)
-
--- clear NAME
-abbrev pub clear_of : List (List ℕ) → Option (Call Name Name)
-clear_of words = only_name_of words >>= λ name. Some (On name Clear)
-
--- the place between a name and the last words
-unfoldable pub place_of : List (List ℕ) → ℕ → Option Place
-place_of words rest =
-    if length words == 3 + rest then one_of (nth_word words 2)
-    else if length words == 4 + rest then two_of (nth_word words 2) (nth_word words 3)
-    else None
-
--- set NAME NUM VALUE, or NAME NUM NUM VALUE
-unfoldable pub set_of : List (List ℕ) → Option (Call Name Name)
-set_of words = place_of words 1 >>= λ place. name_of (nth_word words 1) >>= λ name.
-    value_of_word (nth_word words (length words - 1)) >>= λ value. Some (On name (Set place value))
-
--- remove NAME NUM, or NAME NUM NUM
-unfoldable pub remove_of : List (List ℕ) → Option (Call Name Name)
-remove_of words = place_of words 0 >>= λ place. name_of (nth_word words 1) >>= λ name. Some (On name (Remove place))
-
--- get NAME NUM, or NAME NUM NUM
-unfoldable pub get_of : List (List ℕ) → Option (Call Name Name)
-get_of words = place_of words 0 >>= λ place. name_of (nth_word words 1) >>= λ name. Some (On name (Get place))
-
--- nvals NAME
-abbrev pub nvals_of : List (List ℕ) → Option (Call Name Name)
-nvals_of words = only_name_of words >>= λ name. Some (On name Nvals)
-
--- print NAME
-abbrev pub print_of : List (List ℕ) → Option (Call Name Name)
-print_of words = only_name_of words >>= λ name. Some (On name Print)
-
--- reduce NAME MONOID
-unfoldable pub reduce_of : List (List ℕ) → Option (Call Name Name)
-reduce_of words =
-    if length words == 3
-    then (name_of (nth_word words 1) >>= λ name. monoid_name_of (nth_word words 2) >>= λ monoid.
-    Some (On name (Reduce monoid)))
-    else None
+-- ---- `-`, or a word
 
 -- `-`: no mask, no accumulator, no flags
 abbrev pub is_none_word : List ℕ → Bool
@@ -308,13 +222,7 @@ is_none_word word = bytes_eq word (codes "-")
 abbrev pub perhaps : {A : Type 0} → (List ℕ → Option A) → List ℕ → Option (Option A)
 perhaps read word = if is_none_word word then Some None else (read word >>= λ x. Some (Some x))
 
--- build NAME DUP TUPLE..
-unfoldable pub build_of : List (List ℕ) → Option (Call Name Name)
-build_of words = if not (nat_le 3 (length words)) then None else
-    (name_of (nth_word words 1) >>= λ name. perhaps op_name_of (nth_word words 2) >>= λ dup.
-    tuples_of (drop 3 words) >>= λ tuples. Some (On name (Build dup tuples)))
-
--- ---- operations: C MASK ACCUM .. DESC
+-- ---- descriptors
 
 abbrev pub no_flags : Desc
 no_flags = record {
@@ -345,6 +253,145 @@ flags_added desc (word ∷ words) = flag_added desc word >>= λ more. flags_adde
 unfoldable pub desc_of : List ℕ → Option Desc
 desc_of word = if is_none_word word then Some no_flags else flags_added no_flags (items_of word)
 
+-- ---- the forms of words
+
+-- what a word is to be; tuples are all the words that are left
+pub data WordForm : Type 0 where
+  AName : WordForm
+  ADomain : WordForm
+  ANumber : WordForm
+  AValue : WordForm
+  AList : WordForm
+  AnOperator : WordForm
+  AnOperatorOrNone : WordForm
+  AUnaryOperator : WordForm
+  AnIndexOperator : WordForm
+  AMonoid : WordForm
+  ASemiring : WordForm
+  Tuples : WordForm
+
+-- what a word of a form says
+abbrev pub Said : WordForm → Type 0
+Said AName = Name
+Said ADomain = Domain
+Said ANumber = ℕ
+Said AValue = ℤ
+Said AList = Indices
+Said AnOperator = OpName
+Said AnOperatorOrNone = Option OpName
+Said AUnaryOperator = UnaryName
+Said AnIndexOperator = IndexName
+Said AMonoid = MonoidName
+Said ASemiring = SemiringName
+Said Tuples = List Tuple
+
+-- what the word at a place says, if it has the form
+abbrev pub read_word : (form : WordForm) → List (List ℕ) → ℕ → Option (Said form)
+read_word AName words k = name_of (nth_word words k)
+read_word ADomain words k = domain_of (nth_word words k)
+read_word ANumber words k = number_of (nth_word words k)
+read_word AValue words k = value_of_word (nth_word words k)
+read_word AList words k = indices_of (nth_word words k)
+read_word AnOperator words k = op_name_of (nth_word words k)
+read_word AnOperatorOrNone words k = perhaps op_name_of (nth_word words k)
+read_word AUnaryOperator words k = unary_name_of (nth_word words k)
+read_word AnIndexOperator words k = index_name_of (nth_word words k)
+read_word AMonoid words k = monoid_name_of (nth_word words k)
+read_word ASemiring words k = semiring_name_of (nth_word words k)
+read_word Tuples words k = tuples_of (drop k words)
+
+-- what makes something of what words of some forms say
+abbrev pub Making : List WordForm → Type 0 → Type 0
+Making [] A = A
+Making (form ∷ forms) A = Said form → Making forms A
+
+-- what is made of the words from a place on, if they have the forms
+abbrev pub read_words : {A : Type 0} → (forms : List WordForm) → Making forms A → List (List ℕ) → ℕ → Option A
+read_words [] made words k = Some made
+read_words (form ∷ forms) make words k =
+    read_word form words k >>= λ said. read_words forms (make said) words (k + 1)
+
+-- whether so many words, from a place on, are as many as the forms; tuples are any number
+abbrev pub are_as_many : List WordForm → ℕ → ℕ → Bool
+are_as_many [] n k = n == k
+are_as_many (Tuples ∷ forms) n k = nat_le k n
+are_as_many (form ∷ forms) n k = are_as_many forms n (k + 1)
+
+-- ---- rows: a first word, the forms of the words behind it, and what they make
+
+pub record Row (A : Type 0) : Type 0 where
+  pub word : List ℕ
+  pub forms : List WordForm
+  pub make : Making forms A
+
+abbrev pub row : {A : Type 0} → List ℕ → (forms : List WordForm) → Making forms A → Row A
+row word forms make = record { word = word; forms = forms; make = make }
+
+-- what a first word and those behind it say, by the first row of that word and of so many
+unfoldable pub said_by : {A : Type 0} → List (Row A) → List ℕ → List (List ℕ) → Option A
+said_by [] word words = None
+said_by (row ∷ rows) word words =
+    if bytes_eq word row.word && are_as_many row.forms (length words) 0
+    then read_words row.forms row.make words 0
+    else said_by rows word words
+
+-- ---- the table of commands
+
+-- the calls but for operations
+abbrev pub calls : List (Row (Call Name Name))
+calls =
+    row (codes "matrix") (AName ∷ ADomain ∷ ANumber ∷ ANumber ∷ []) (λ name domain rows cols.
+    Create name domain (shape.Two rows cols))
+    ∷ row (codes "vector") (AName ∷ ADomain ∷ ANumber ∷ []) (λ name domain size. Create name domain (shape.One size))
+    ∷ row (codes "dup") (AName ∷ AName ∷ []) Dup
+    ∷ row (codes "free") (AName ∷ []) (λ object. On object Free)
+    ∷ row (codes "clear") (AName ∷ []) (λ object. On object Clear)
+    ∷ row (codes "resize") (AName ∷ ANumber ∷ []) (λ object size. On object (Resize (shape.One size)))
+    ∷ row (codes "resize") (AName ∷ ANumber ∷ ANumber ∷ []) (λ object rows cols.
+    On object (Resize (shape.Two rows cols)))
+    ∷ row (codes "build") (AName ∷ AnOperatorOrNone ∷ Tuples ∷ []) (λ object dup tuples. On object (Build dup tuples))
+    ∷ row (codes "set") (AName ∷ ANumber ∷ AValue ∷ []) (λ object i value. On object (Set (One i) value))
+    ∷ row (codes "set") (AName ∷ ANumber ∷ ANumber ∷ AValue ∷ []) (λ object i j value. On object (Set (Two i j) value))
+    ∷ row (codes "remove") (AName ∷ ANumber ∷ []) (λ object i. On object (Remove (One i)))
+    ∷ row (codes "remove") (AName ∷ ANumber ∷ ANumber ∷ []) (λ object i j. On object (Remove (Two i j)))
+    ∷ row (codes "get") (AName ∷ ANumber ∷ []) (λ object i. On object (Get (One i)))
+    ∷ row (codes "get") (AName ∷ ANumber ∷ ANumber ∷ []) (λ object i j. On object (Get (Two i j)))
+    ∷ row (codes "nvals") (AName ∷ []) (λ object. On object Nvals)
+    ∷ row (codes "print") (AName ∷ []) (λ object. On object Print)
+    ∷ row (codes "reduce") (AName ∷ AMonoid ∷ []) (λ object monoid. On object (Reduce monoid))
+    ∷ []
+
+-- the operations, by the words between ACCUM and DESC
+abbrev pub operations : List (Row (Operation Name))
+operations =
+    row (codes "mxm") (ASemiring ∷ AName ∷ AName ∷ []) (λ semiring. OfTwo (Multiply MatrixMatrix semiring))
+    ∷ row (codes "mxv") (ASemiring ∷ AName ∷ AName ∷ []) (λ semiring. OfTwo (Multiply MatrixVector semiring))
+    ∷ row (codes "vxm") (ASemiring ∷ AName ∷ AName ∷ []) (λ semiring. OfTwo (Multiply VectorMatrix semiring))
+    ∷ row (codes "ewiseadd") (AnOperator ∷ AName ∷ AName ∷ []) (λ op. OfTwo (Combine Union op))
+    ∷ row (codes "ewisemult") (AnOperator ∷ AName ∷ AName ∷ []) (λ op. OfTwo (Combine Intersection op))
+    ∷ row (codes "apply") (AUnaryOperator ∷ AName ∷ []) (λ op. OfOne (Apply (function.Unary op)))
+    ∷ row (codes "applyindex") (AnIndexOperator ∷ AName ∷ AValue ∷ []) (λ op a scalar.
+    OfOne (Apply (function.Index op scalar)) a)
+    ∷ row (codes "applyfirst") (AnOperator ∷ AValue ∷ AName ∷ []) (λ op value. OfOne (Apply (function.First op value)))
+    ∷ row (codes "applysecond") (AnOperator ∷ AName ∷ AValue ∷ []) (λ op a value.
+    OfOne (Apply (function.Second op value)) a)
+    ∷ row (codes "select") (AnIndexOperator ∷ AName ∷ AValue ∷ []) (λ op a scalar. OfOne (Select op scalar) a)
+    ∷ row (codes "reducerows") (AMonoid ∷ AName ∷ []) (λ monoid. OfOne (ReduceRows monoid))
+    ∷ row (codes "transpose") (AName ∷ []) (OfOne Transpose)
+    ∷ row (codes "extract") (AName ∷ AList ∷ []) (λ a indices. OfOne (Extract (region.One indices)) a)
+    ∷ row (codes "extract") (AName ∷ AList ∷ AList ∷ []) (λ a rows cols. OfOne (Extract (region.Two rows cols)) a)
+    ∷ row (codes "assign") (AName ∷ AList ∷ []) (λ a indices. OfOne (Assign (region.One indices)) a)
+    ∷ row (codes "assign") (AName ∷ AList ∷ AList ∷ []) (λ a rows cols. OfOne (Assign (region.Two rows cols)) a)
+    ∷ row (codes "fill") (AValue ∷ AList ∷ []) (λ value indices. Fill value (region.One indices))
+    ∷ row (codes "fill") (AValue ∷ AList ∷ AList ∷ []) (λ value rows cols. Fill value (region.Two rows cols))
+    ∷ []
+
+-- ---- calls
+
+-- whether the first word is a name
+abbrev pub is_called : List (List ℕ) → List ℕ → Bool
+is_called words name = bytes_eq (nth_word words 0) name
+
 -- C, MASK, ACCUM and the last word, DESC
 unfoldable pub out_of_words : List (List ℕ) → Option (Out Name)
 out_of_words words = if not (nat_le 5 (length words)) then None else
@@ -353,156 +400,19 @@ out_of_words words = if not (nat_le 5 (length words)) then None else
     desc_of (nth_word words (length words - 1)) >>= λ desc.
     Some (record { c = c; mask = mask; accum = accum; desc = desc }))
 
--- SEMIRING A B
-unfoldable pub multiply_of : Form → List (List ℕ) → Option (Operation Name)
-multiply_of form words =
-    if length words == 8
-    then (semiring_name_of (nth_word words 4) >>= λ semiring. name_of (nth_word words 5) >>= λ a.
-    name_of (nth_word words 6) >>= λ b. Some (OfTwo (Multiply form semiring) a b))
-    else None
+-- the words between ACCUM and DESC
+abbrev pub middle_of : List (List ℕ) → List (List ℕ)
+middle_of words = drop 4 (take (length words - 1) words)
 
--- OP A B
-unfoldable pub combine_of : Positions → List (List ℕ) → Option (Operation Name)
-combine_of positions words =
-    if length words == 8
-    then (op_name_of (nth_word words 4) >>= λ op. name_of (nth_word words 5) >>= λ a.
-    name_of (nth_word words 6) >>= λ b. Some (OfTwo (Combine positions op) a b))
-    else None
-
--- UNARY A
-unfoldable pub apply_of : List (List ℕ) → Option (Operation Name)
-apply_of words =
-    if length words == 7
-    then (unary_name_of (nth_word words 4) >>= λ op. name_of (nth_word words 5) >>= λ a.
-    Some (OfOne (Apply (function.Unary op)) a))
-    else None
-
--- OP VALUE A
-unfoldable pub apply_first_of : List (List ℕ) → Option (Operation Name)
-apply_first_of words =
-    if length words == 8
-    then (op_name_of (nth_word words 4) >>= λ op. value_of_word (nth_word words 5) >>= λ value.
-    name_of (nth_word words 6) >>= λ a. Some (OfOne (Apply (function.First op value)) a))
-    else None
-
--- OP A VALUE
-unfoldable pub apply_second_of : List (List ℕ) → Option (Operation Name)
-apply_second_of words =
-    if length words == 8
-    then (op_name_of (nth_word words 4) >>= λ op. name_of (nth_word words 5) >>= λ a.
-    value_of_word (nth_word words 6) >>= λ value. Some (OfOne (Apply (function.Second op value)) a))
-    else None
-
--- INDEXOP A VALUE
-unfoldable pub apply_index_of : List (List ℕ) → Option (Operation Name)
-apply_index_of words =
-    if length words == 8
-    then (index_name_of (nth_word words 4) >>= λ op. name_of (nth_word words 5) >>= λ a.
-    value_of_word (nth_word words 6) >>= λ scalar. Some (OfOne (Apply (function.Index op scalar)) a))
-    else None
-
--- INDEXOP A VALUE
-unfoldable pub select_of : List (List ℕ) → Option (Operation Name)
-select_of words =
-    if length words == 8
-    then (index_name_of (nth_word words 4) >>= λ op. name_of (nth_word words 5) >>= λ a.
-    value_of_word (nth_word words 6) >>= λ scalar. Some (OfOne (Select op scalar) a))
-    else None
-
--- MONOID A
-unfoldable pub reduce_rows_of : List (List ℕ) → Option (Operation Name)
-reduce_rows_of words =
-    if length words == 7
-    then (monoid_name_of (nth_word words 4) >>= λ monoid. name_of (nth_word words 5) >>= λ a.
-    Some (OfOne (ReduceRows monoid) a))
-    else None
-
--- A
-unfoldable pub transpose_of : List (List ℕ) → Option (Operation Name)
-transpose_of words =
-    if length words == 6 then (name_of (nth_word words 4) >>= λ a. Some (OfOne Transpose a)) else None
-
--- LIST, or LIST LIST, before DESC
-unfoldable pub region_of : List (List ℕ) → Option Region
-region_of words =
-    if length words == 7 then (indices_of (nth_word words 5) >>= λ indices. Some (region.One indices))
-    else if length words == 8
-    then (indices_of (nth_word words 5) >>= λ rows. indices_of (nth_word words 6) >>= λ cols.
-    Some (region.Two rows cols))
-    else None
-
--- A LIST, or A LIST LIST
-unfoldable pub extract_of : List (List ℕ) → Option (Operation Name)
-extract_of words = region_of words >>= λ region. name_of (nth_word words 4) >>= λ a. Some (OfOne (Extract region) a)
-
--- A LIST, or A LIST LIST
-unfoldable pub assign_of : List (List ℕ) → Option (Operation Name)
-assign_of words = region_of words >>= λ region. name_of (nth_word words 4) >>= λ a. Some (OfOne (Assign region) a)
-
--- VALUE LIST, or VALUE LIST LIST
-unfoldable pub fill_of : List (List ℕ) → Option (Operation Name)
-fill_of words = region_of words >>= λ region. value_of_word (nth_word words 4) >>= λ value. Some (Fill value region)
-
--- whether the first word is a name
-abbrev pub is_called : List (List ℕ) → List ℕ → Bool
-is_called words name = bytes_eq (nth_word words 0) name
-
--- the words between ACCUM and DESC, by the first word: of an operation on one input
-unfoldable pub one_input_of : List (List ℕ) → Option (Operation Name)
-one_input_of words =
-    if is_called words (codes "apply") then apply_of words
-    else if is_called words (codes "applyindex") then apply_index_of words
-    else if is_called words (codes "applyfirst") then apply_first_of words
-    else if is_called words (codes "applysecond") then apply_second_of words
-    else if is_called words (codes "select") then select_of words
-    else if is_called words (codes "reducerows") then reduce_rows_of words
-    else None
-
--- ..of one that moves entries
-unfoldable pub moving_of : List (List ℕ) → Option (Operation Name)
-moving_of words =
-    if is_called words (codes "transpose") then transpose_of words
-    else if is_called words (codes "extract") then extract_of words
-    else if is_called words (codes "assign") then assign_of words
-    else if is_called words (codes "fill") then fill_of words
-    else one_input_of words
-
--- ..and of any operation
-unfoldable pub operation_of : List (List ℕ) → Option (Operation Name)
-operation_of words =
-    if is_called words (codes "mxm") then multiply_of MatrixMatrix words
-    else if is_called words (codes "mxv") then multiply_of MatrixVector words
-    else if is_called words (codes "vxm") then multiply_of VectorMatrix words
-    else if is_called words (codes "ewiseadd") then combine_of Union words
-    else if is_called words (codes "ewisemult") then combine_of Intersection words
-    else moving_of words
-
+-- C MASK ACCUM, what an operation's row asks for, DESC
 unfoldable pub operate_of : List (List ℕ) → Option (Call Name Name)
-operate_of words = operation_of words >>= λ operation. out_of_words words >>= λ out.
+operate_of words =
+    said_by operations (nth_word words 0) (middle_of words) >>= λ operation. out_of_words words >>= λ out.
     Some (Operate out operation)
 
--- what the words of a line call, by the first word: of a call on entries, or an operation
-unfoldable pub entry_call_of : List (List ℕ) → Option (Call Name Name)
-entry_call_of words =
-    if is_called words (codes "build") then build_of words
-    else if is_called words (codes "set") then set_of words
-    else if is_called words (codes "remove") then remove_of words
-    else if is_called words (codes "get") then get_of words
-    else if is_called words (codes "nvals") then nvals_of words
-    else if is_called words (codes "print") then print_of words
-    else if is_called words (codes "reduce") then reduce_of words
-    else operate_of words
-
--- ..and of any call
+-- what the words of a line call, by the first word
 unfoldable pub call_of : List (List ℕ) → Option (Call Name Name)
-call_of words =
-    if is_called words (codes "matrix") then matrix_of words
-    else if is_called words (codes "vector") then vector_of words
-    else if is_called words (codes "dup") then dup_of words
-    else if is_called words (codes "free") then free_of words
-    else if is_called words (codes "clear") then clear_of words
-    else if is_called words (codes "resize") then resize_of words
-    else entry_call_of words
+call_of words = option_map_or Some (said_by calls (nth_word words 0) (drop 1 words)) (operate_of words)
 
 -- ---- one line
 
