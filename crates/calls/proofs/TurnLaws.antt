@@ -17,7 +17,6 @@ use Rattle.calls.proofs.ExchangedLaws.{accepted-fits, fault-alike, result-alike}
 use Rattle.calls.proofs.StraightLaws.{straight-fault, straight-result}
 use Rattle.model.specs.declared.call.Desc.{Desc}
 use Rattle.model.specs.declared.call.Form.{Form}
-use Rattle.model.specs.declared.call.OneInput.TheVariants.{Apply, Select, ReduceRows, Transpose, Extract, Assign}
 use Rattle.model.specs.declared.call.Operation.{Operation}
 use Rattle.model.specs.declared.call.Operation.TheVariants.{Fill, OfOne, OfTwo}
 use Rattle.model.specs.declared.call.Out.{Out}

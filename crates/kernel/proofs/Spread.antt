@@ -9,7 +9,6 @@ use Rattle.model.specs.declared.call.Operation.{Operation}
 use Rattle.model.specs.declared.call.Operation.TheVariants.{Fill, OfOne, OfTwo}
 use Rattle.model.specs.declared.call.Out.{Out}
 use Rattle.model.specs.declared.call.Region.{Region}
-use Rattle.model.specs.declared.shape.Shape.{Shape}
 use Rattle.model.specs.declared.shape.Signature.{Signature}
 use Rattle.model.specs.Indices.{are_below, place_in}
 use Rattle.model.specs.Object.{Content, Object, cols_of, rows_of, signature_of}

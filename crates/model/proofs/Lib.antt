@@ -1,8 +1,8 @@
-pub mod ElementWiseLaws
 pub mod BuildLaws
 pub mod CanonicalLaws
 pub mod CountLaws
 pub mod EditLaws
+pub mod ElementWiseLaws
 pub mod EntryLaws
 pub mod EnvironmentLaws
 pub mod FileRows
@@ -12,6 +12,7 @@ pub mod MaskLaws
 pub mod ObjectLaws
 pub mod OldLaws
 pub mod OperationLaws
+pub mod PoisonedLaws
 pub mod ProductLaws
 pub mod RegionLaws
 pub mod RegionRules

@@ -11,7 +11,6 @@ use Rattle.model.specs.declared.call.Operation.TheVariants.{Fill, OfOne, OfTwo}
 use Rattle.model.specs.declared.call.Out.{Out}
 use Rattle.model.specs.Object.{Content, Object, in_domain, signature_of, transposed_object}
 use Rattle.model.specs.Operations.{computed, is_written_by}
-use Rattle.model.specs.Renamed.{renamed_operation}
 use Rattle.model.specs.Table.{transposed, transposed_if, transposes_one}
 use Rattle.model.specs.WriteBack.{has_position, mask_set, masked, result_of}
 

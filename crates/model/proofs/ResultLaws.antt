@@ -29,7 +29,7 @@ use Rattle.model.specs.declared.shape.Shape.{Shape}
 use Rattle.model.specs.declared.shape.Shape.TheVariants.{One, Two}
 use Rattle.model.specs.declared.shape.Signature.{Signature}
 use Rattle.model.specs.Fault.{accumulates, operation_fault, plan_in}
-use Rattle.model.specs.Object.{AreWordsOf, Content, IsObject, IsWithin, Object, cast_content, cols_of, in_domain, is_matrix, rows_of, same_shape}
+use Rattle.model.specs.Object.{AreWordsOf, Content, IsObject, IsWithin, Object, cols_of, in_domain, is_matrix, rows_of, same_shape}
 use Rattle.model.specs.Object.{signature_of, transposed_content, transposed_object, transposed_shape, transposed_signature}
 use Rattle.model.specs.Entries.{below}
 use Rattle.model.specs.Operations.{combined, computed, computed_of_one, is_written_by, multiplied, operation}

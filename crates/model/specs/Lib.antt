@@ -9,6 +9,7 @@ pub mod Loads
 pub mod MatrixMarket
 pub mod Object
 pub mod Operations
+pub mod Poisoned
 pub mod Product
 pub mod Reductions
 pub mod Regions

@@ -3,7 +3,6 @@ ghost use Rattle.std.specs.Prelude.{◌≡◌, true};
 ghost use Rattle.algebra.specs.Functions.{function_domain, offers_function};
 ghost use Rattle.algebra.specs.IndexOperators.{offers_index};
 ghost use Rattle.algebra.specs.Operators.{offers};
-ghost use Rattle.algebra.specs.Value.{word_of};
 ghost use Rattle.model.specs.ElementWise.{applied, selected};
 ghost use Rattle.model.specs.Fault.{plan_in};
 ghost use Rattle.model.specs.Object.{cols_of, in_domain, rows_of, signature_of, transposed_object};

@@ -1,5 +1,5 @@
 -- Objects that are made under a name, or not for want of memory.
-use Rattle.std.proofs.Common.{◌≡◌, ◌∙◌, ℕ, ◌<◌, ◌^◌, ◌+◌, ◌-◌, ◌==◌, Bool, true, false, cond, Option, Some, None, is_some, Result, Ok, Err, refl, sym, ap, arith, inl, inr}
+use Rattle.std.proofs.Common.{◌≡◌, ◌∙◌, ℕ, ◌+◌, ◌-◌, ◌==◌, Bool, true, false, cond, Option, Some, None, is_some, Result, Ok, Err, refl, sym, ap, arith, inl, inr}
 use Rattle.std.specs.Prelude.{OnErr, OnOk}
 use Rattle.std.specs.Option.{option_and_then, unwrap_or}
 use Rattle.std.specs.Str.{bytes_eq}
@@ -15,10 +15,10 @@ use Rattle.model.specs.Grammar.{Name}
 use Rattle.model.specs.Object.{Object, empty_object}
 use Rattle.model.specs.Run.{Environment, effect, no_object, object_at, seen, with_object, without_object}
 use Rattle.model.proofs.EnvironmentLaws.{environments_equal}
-use Rattle.script.proofs.NameLaws.{AreDistinct, count-left, own_number, same_number}
+use Rattle.script.proofs.NameLaws.{AreDistinct, own_number, same_number}
 use Rattle.script.specs.Named.{through}
 use Rattle.session.specs.declared.sessions.Session.{Session}
-use Rattle.session.specs.Performed.{environment_of, fault_in, made_in, next_object}
+use Rattle.session.specs.Performed.{environment_of}
 use Rattle.session.specs.Tables.{same_object}
 
 -- ---- faults

@@ -22,11 +22,9 @@ use Rattle.patch.specs.declared.edits.Edit.{Edit}
 use Rattle.patch.specs.declared.edits.Edit.TheVariants.{Set, Remove}
 use Rattle.patch.specs.Edits.{IsInside, edited, edited_once, place_of}
 use Rattle.session.proofs.SessionLaws.{BuildsOn}
-use Rattle.session.specs.declared.held.Held.{Held}
 use Rattle.calls.specs.Stores.{AreInside}
 use Rattle.session.specs.Waiting.{IsEditOf}
-use Rattle.session.specs.Objects.{edited_object, object_of, stored_object}
-use Rattle.store.specs.Stored.{content_of}
+use Rattle.session.specs.Objects.{edited_object}
 
 -- ---- edits that wait
 

@@ -1,6 +1,6 @@
 //! Sessions.
 ghost use Rattle.std.specs.Prelude.{◌≡◌, ◌==◌, ◌+◌, ◌-◌, ◌^◌, ◌<◌, IfOk, MatchResult, None, OnErr, OnOk, Some};
-ghost use Rattle.std.specs.Prelude.{◌≤◌, false, is_some, true};
+ghost use Rattle.std.specs.Prelude.{false, is_some, true};
 ghost use Rattle.std.specs.List.{All};
 ghost use Rattle.calls.specs.declared.obj.Obj.{Obj as Object};
 ghost use Rattle.algebra.specs.Value.{IsWordOf, is_built_in};
@@ -57,8 +57,7 @@ impl Shapes for Session {
 }
 
 impl Session {
-    ghost use Rattle.calls.specs.Checks.{Decides, known_call};
-    ghost use Rattle.model.specs.Fault.{early_fault};
+    ghost use Rattle.calls.specs.Checks.{Decides};
     ghost use Rattle.model.specs.Object.{IsObject};
     ghost use Rattle.session.specs.Objects.{object_of, stored_object};
     ghost use Rattle.session.specs.Performed.{Answers, IsPerformed, count_in, environment_of, known_in, made_in};

@@ -1,5 +1,5 @@
 //! Entries put at lists of rows and columns.
-ghost use Rattle.std.specs.Prelude.{◌≡◌, ◌++◌, ◌<◌, ◌≤◌, ℕ, length, map, slice_index, IfOk, OnOk, true};
+ghost use Rattle.std.specs.Prelude.{◌≡◌, ◌++◌, ◌<◌, ◌≤◌, ℕ, length, map, IfOk, OnOk, true};
 ghost use Rattle.std.specs.List.{All, filter_map};
 ghost use Rattle.model.specs.Entries.{entries_between};
 ghost use Rattle.model.specs.Indices.{All as Every, are_below, are_distinct, count_of};

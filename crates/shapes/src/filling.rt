@@ -1,5 +1,5 @@
 //! A value at lists of rows and columns.
-ghost use Rattle.std.specs.Prelude.{◌≡◌, ◌<◌, ◌≤◌, ℕ, length, replicate, IfOk, true};
+ghost use Rattle.std.specs.Prelude.{◌≡◌, ◌<◌, ◌≤◌, ℕ, replicate, IfOk, true};
 ghost use Rattle.std.specs.List.{All, AllPairs};
 ghost use Rattle.model.specs.Indices.{are_below};
 ghost use Rattle.model.specs.Regions.{filled};

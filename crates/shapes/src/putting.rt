@@ -1,6 +1,6 @@
 //! Rows of a block put into a store at lists of rows and columns.
 ghost use Rattle.std.specs.Prelude.{[], ◌≡◌, ◌<◌, ◌≤◌, ◌↔◌, ℕ, length, IfOk, IsTrue, OnOk, if◌then◌else◌, is_some};
-ghost use Rattle.std.specs.Prelude.{not, true};
+ghost use Rattle.std.specs.Prelude.{true};
 ghost use Rattle.model.specs.Indices.{All, Indices, are_below, place_in};
 ghost use Rattle.model.specs.Object.{Content};
 ghost use Rattle.model.specs.Regions.{is_listed};

@@ -1,0 +1,2 @@
+pub mod AtOnce
+pub mod Tickets

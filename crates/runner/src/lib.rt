@@ -1,0 +1,10 @@
+//! Runners, who do the work that calls ask for, and the simplest of them.
+#![tactic(auto)]
+
+mod at_once;
+mod runner;
+mod ticket;
+
+pub use at_once::AtOnce;
+pub use runner::{Failed, Runner};
+pub use ticket::Ticket;
