@@ -62,6 +62,11 @@ inputs_of (Computed computation) = roles_of computation.out computation.operatio
 abbrev pub known_by : Recipe → Role → Option Signature
 known_by recipe = role_of (inputs_of recipe)
 
+-- a recipe computes an operation into such an output
+abbrev pub ComputesInto : Out Signature → Recipe → Type 0
+ComputesInto out (Computed computation) = computation.out ≡ out
+ComputesInto out recipe = ⊥
+
 -- what a recipe makes of the maps that take its roles
 abbrev pub meaning_of : Recipe → (Role → Content) → Content
 meaning_of (New of) maps = no_content

@@ -54,8 +54,8 @@ pub struct Transpose {
     pub ghost matrix: { is_matrix of.shape ≡ true },
 }
 
-/// What is evaluated, of stores that take its roles. It owns its lists, knows domains and shapes, and holds neither
-/// an object nor an input: whoever has it and the stores can evaluate it.
+/// What is evaluated, of stores that take its roles. It owns its lists, knows domains and shapes, and holds no object
+/// and no store that takes a role: whoever has it and these stores can evaluate it.
 #[derive(Drop)]
 pub enum Recipe {
     /// An object without entries.

@@ -2,7 +2,7 @@
 ghost use Rattle.std.specs.Prelude.{◌≡◌, ℕ};
 ghost use Rattle.std.specs.Option.{option_map};
 ghost use Rattle.calls.specs.declared.role.Role.{Role as AnyRole};
-ghost use Rattle.calls.specs.Recipes.{known_by, known_by_role, known_of, meaning, meaning_of};
+ghost use Rattle.calls.specs.Recipes.{ComputesInto, known_by, known_by_role, known_of, meaning, meaning_of};
 ghost use Rattle.calls.specs.Straight.{straight_out};
 ghost use Rattle.calls.specs.Turned.{AreMatrices, exchanged, flipped_form, flipped_kind, flipped_semiring, turned};
 ghost use Rattle.calls.specs.Turned.{turns_of};
@@ -27,6 +27,7 @@ impl Accepted {
     /// is that of the vector and the matrix itself, where its operator has one that takes its operands in exchanged
     /// order: it needs no transpose.
     pub fn into_recipe(self) -> (Recipe, Turns)
+        ensures out { ComputesInto (straight_out self.out) result.0 }
         ensures makes { known_of result.0 ≡ self.out.c }
         ensures known { (role : AnyRole) → known_by result.0 role
             ≡ turned (option_map transposed_signature) result.1 (known_by_role self.out self.operation) role }

@@ -1,6 +1,7 @@
 -- Blocks of what recipes give of maps.
 use Rattle.std.specs.Prelude.{ℕ, ◌≡◌}
 use Rattle.calls.specs.declared.recipe.Recipe.{Recipe}
+use Rattle.calls.specs.declared.recipe.Recipe.TheVariants.{Computed}
 use Rattle.calls.specs.declared.role.Role.{Role}
 use Rattle.calls.specs.Recipes.{known_of, meaning_of}
 use Rattle.kernel.specs.declared.block.Block.{Block}
@@ -20,6 +21,13 @@ abbrev pub IsPieceOf : Recipe → (Role → Content) → ℕ → ℕ → Block �
 IsPieceOf recipe maps start end (Rows block) =
     HasRows start end (cols_of (known_of recipe).shape) (meaning_of recipe maps) block
 IsPieceOf recipe maps start end (Whole store) = IsResultOf recipe maps store
+
+-- an operation gives rows, and a recipe of another kind all of it
+abbrev pub HasForm : Recipe → Block → Type 0
+HasForm (Computed computation) (Rows block) = Unit {0}
+HasForm (Computed computation) (Whole store) = ⊥
+HasForm recipe (Rows block) = ⊥
+HasForm recipe (Whole store) = Unit {0}
 
 -- ---- blocks by themselves
 

@@ -4,7 +4,7 @@ ghost use Rattle.std.specs.Option.{option_map};
 ghost use Rattle.calls.specs.Recipes.{known_by, known_by_role, known_of as makes, meaning, operation_with, out_with};
 ghost use Rattle.calls.specs.Stores.{IsStoreOf, object_with};
 ghost use Rattle.kernel.specs.Inputs.{known_of, object_of};
-ghost use Rattle.kernel.specs.Pieces.{HasAllRows, IfRows, IsPieceOf, cols_in, content_in};
+ghost use Rattle.kernel.specs.Pieces.{HasAllRows, HasForm, IfRows, IsPieceOf, cols_in, content_in};
 ghost use Rattle.kernel.specs.Takes.{AreInputs, Takes, map_in, maps_in};
 ghost use Rattle.model.specs.Lent.{operation_lent};
 ghost use Rattle.model.specs.Object.{IsWithin, cols_of, rows_of};
@@ -34,7 +34,8 @@ pub fn eval_piece(
     requires inputs { AreInputs (known_by recipe.now) stores.now }
     requires range { range.start ≤ range.end }
     requires rows { range.end ≤ rows_of (makes recipe.now).shape }
-    ensures { IfOk result (IsPieceOf recipe.now (maps_in stores.now) range.start range.end) }
+    ensures piece { IfOk result (IsPieceOf recipe.now (maps_in stores.now) range.start range.end) }
+    ensures form { IfOk result (HasForm recipe.now) }
 {
     let store = match recipe {
         Recipe::Computed(computation) => {

@@ -41,7 +41,7 @@ pub fn assign_rows(
     ensures words { IfOk result (λ block. (i j : ℕ) → range.start ≤ i → i < range.end → block_content block i j
         ≡ placed shape.0 shape.1 rows.now cols.now (content_of a.now) i j) }
 {
-    // It is said there that a store has no entry outside its shape.
+    // The contract of this call says that a store has no entry outside its shape.
     let _rows = a.rows();
     let entries = place_entries(alloc, a, rows, cols, &range)?;
     gather(alloc, entries, None, range, shape.1)

@@ -12,7 +12,7 @@ use Rattle.kernel.proofs.evaluation.evaluate.Goals as goal
 -- the piece has all rows
 whole : (c : goal.In_ok-block)
     → IsPieceOf c.args.recipe.now (maps_in c.args.stores.now) 0 (rows_of (known_of c.args.recipe.now).shape) c.in_ok-block.block
-whole c = rw (c.rows-rows.ensures, c.signature.ensures) at c.in_ok-block.ensures
+whole c = rw (c.rows-rows.ensures, c.signature.ensures) at c.in_ok-block.ensures.piece
 
 pub join-requires : goal.join-requires
 join-requires c = piece-rows c.args.recipe.now (maps_in c.args.stores.now) c.in_ok-block.block (whole c)
