@@ -23,6 +23,7 @@ pub mod RunLaws
 pub mod StepLaws
 pub mod StoredLaws
 pub mod TextLaws
+pub mod ToldLaws
 pub mod TupleLaws
 pub mod WriteBackLaws
 pub mod WrittenLaws

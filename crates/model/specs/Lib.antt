@@ -6,6 +6,7 @@ pub mod Grammar
 pub mod Indices
 pub mod Lent
 pub mod Loads
+pub mod Marks
 pub mod MatrixMarket
 pub mod Object
 pub mod Operations
