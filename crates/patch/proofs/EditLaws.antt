@@ -1,5 +1,6 @@
 -- Edits of a map, at each position: the last one there stands.
 use Rattle.std.proofs.Common.{◌≡◌, ◌⊎◌, ℕ, ◌<◌, ◌≤◌, ◌&&◌, not, Bool, true, false, cond, eqb, List, [], ◌∷◌, ◌++◌, map, get_or, take, drop, take-append-drop, Option, None, Some, refl, sym, ◌∙◌, ap, inl, inr, arith}
+use Rattle.std.specs.Prelude.{OnErr, Result, Ok, Err}
 use Rattle.std.specs.List.{All, AllPairs, filter, fold}
 use Rattle.std.specs.List.Sorted.{IsSortedByKey, IsStableByKey}
 use Rattle.std.specs.Ordering.{is_lt}
@@ -277,3 +278,8 @@ edited-behind rows cols (Remove p q ∷ es) h c i j behind =
     let inside = All-head (IsInside rows cols) (Remove p q) es h in
     let away : (eqb i p && eqb j q) ≡ false = rw (ne_eqb i p (λ e. (let row = inside.0 in omega arith))) refl in
     edited-behind rows cols es (All-tail (IsInside rows cols) (Remove p q) es h) (edited_once c (Remove p q)) i j behind ∙ rw away refl
+
+-- what holds, holds on an error
+pub on_err : {X E : Type 0} (P : Type 0) (r : Result X E) → P → OnErr r P
+on_err P (Ok x) h = tt
+on_err P (Err e) h = h

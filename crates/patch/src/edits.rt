@@ -1,5 +1,5 @@
 //! Edits that wait beside a store.
-ghost use Rattle.std.specs.Prelude.{◌≡◌, ℕ, [], OnErr, OnOk};
+ghost use Rattle.std.specs.Prelude.{◌≡◌, ℕ, [], IsPermutation, OnErr, OnOk, take};
 ghost use Rattle.std.specs.List.{All};
 ghost use Rattle.patch.specs.Edits.{IsInside, edited, edited_once};
 ghost use Rattle.store.specs.Stored.{content_of};
@@ -36,7 +36,8 @@ impl Edit {
 const FEW_EDITS: usize = 16;
 
 /// Does the edits that wait beside a store, from the first to the last, of which at each position the last
-/// stands. An error leaves a store and edits that together mean what they meant.
+/// stands. An error leaves a store and edits that together mean what they meant: all edits, of which the first ones may
+/// be done already.
 ///
 /// A few edits are done in place. More of them are sorted, and all entries written anew, in a time that
 /// follows the number of entries and the sort.
@@ -46,6 +47,9 @@ pub fn apply_edits(alloc: Global, store: &mut Store, edits: &mut Vec<Edit>) -> R
     ensures rows { store.new.rows ≡ store.old.rows }
     ensures cols { store.new.cols ≡ store.old.cols }
     ensures inside { All (IsInside store.old.rows store.old.cols) edits.new.items }
+    ensures left { OnErr result (IsPermutation edits.old.items edits.new.items) }
+    ensures partly { OnErr result ((n : ℕ) × ((i j : ℕ)
+        → content_of store.new i j ≡ edited (take n edits.old.items) (content_of store.old) i j)) }
     ensures meaning { (i j : ℕ) → edited edits.new.items (content_of store.new) i j
         ≡ edited edits.old.items (content_of store.old) i j }
 {
@@ -67,6 +71,8 @@ fn apply(store: &mut Store, edits: &[Edit]) -> Result<(), NoMemory>
     ensures cols { store.new.cols ≡ store.old.cols }
     ensures content { OnOk result ((i j : ℕ)
         → content_of store.new i j ≡ edited edits.now (content_of store.old) i j) }
+    ensures partly { OnErr result ((n : ℕ) × ((i j : ℕ)
+        → content_of store.new i j ≡ edited (take n edits.now) (content_of store.old) i j)) }
     ensures meaning { (i j : ℕ) → edited edits.now (content_of store.new) i j
         ≡ edited edits.now (content_of store.old) i j }
 {
