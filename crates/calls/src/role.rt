@@ -25,6 +25,18 @@ pub struct Roles<T> {
 }
 
 impl<T> Roles<T> {
+    /// Nothing takes a role.
+    pub fn none() -> Roles<T>
+        ensures { result ≡ no_roles }
+    {
+        Roles {
+            old: None,
+            mask: None,
+            first: None,
+            second: None,
+        }
+    }
+
     /// What takes the role of the old content, and no other.
     pub fn of_old(old: T) -> Roles<T>
         ensures { result ≡ record no_roles { old = Some old } }

@@ -1,1 +1,2 @@
+pub mod SubmittingLaws
 pub mod TicketLaws

@@ -1,7 +1,7 @@
 -- The stores of tickets take the roles, and have the maps of the objects that the tickets stand for.
 use Rattle.std.proofs.Common.{◌≡◌, ◌∙◌, ℕ, Bor, Option, Some, None, ap, refl}
 use Rattle.std.specs.Arc.{arc_value}
-use Rattle.std.specs.Option.{option_map, option_map_or}
+use Rattle.std.specs.Option.{option_map}
 use Rattle.calls.specs.declared.recipe.Recipe.{Recipe}
 use Rattle.calls.specs.declared.role.Role.{Role}
 use Rattle.calls.specs.declared.role.Roles.{Roles}
@@ -10,20 +10,19 @@ use Rattle.calls.specs.Roles.{role_of}
 use Rattle.calls.specs.Stores.{object_with}
 use Rattle.kernel.specs.Takes.{Takes, lent_in, map_in, maps_in}
 use Rattle.model.specs.declared.shape.Signature.{Signature}
-use Rattle.model.specs.Object.{no_content, signature_of}
 use Rattle.model.proofs.ObjectLaws.{objects_equal}
 use Rattle.runner.specs.declared.ticket.Ticket.{Ticket}
 use Rattle.runner.specs.AtOnce.{object_in}
-use Rattle.runner.specs.Tickets.{made_by, maps_by}
+use Rattle.runner.specs.Tickets.{known_by_ticket, made_by, map_by_ticket, maps_by}
 use Rattle.store.specs.Stored.{Stored, content_of}
 
-pub takes-ticket : (ticket : Option (Bor Ticket)) → Takes (option_map (λ t. signature_of (object_in t.now)) ticket)
+pub takes-ticket : (ticket : Option (Bor Ticket)) → Takes (known_by_ticket object_in (option_map (λ t. t.now) ticket))
     (option_map (λ t. arc_value t.now.store) ticket)
 takes-ticket None = tt
 takes-ticket (Some t) = t.now.is_store
 
 map-ticket : (ticket : Option (Bor Ticket)) → map_in (option_map (λ t. arc_value t.now.store) ticket)
-    ≡ option_map_or (λ t. (object_in t.now).content) ticket no_content
+    ≡ map_by_ticket object_in (option_map (λ t. t.now) ticket)
 map-ticket None = refl
 map-ticket (Some t) = refl
 

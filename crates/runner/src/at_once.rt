@@ -38,8 +38,6 @@ impl Runner for AtOnce {
 
     ghost object_of = { object_in };
 
-    ghost gave = { λ r t. Unit {0} };
-
     ghost epoch = { λ r. r.epoch };
 
     ghost born = { λ t. t.epoch };

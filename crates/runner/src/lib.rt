@@ -3,8 +3,10 @@
 
 mod at_once;
 mod runner;
+mod submitting;
 mod ticket;
 
 pub use at_once::AtOnce;
 pub use runner::{Failed, Runner};
+pub use submitting::submit_accepted;
 pub use ticket::Ticket;

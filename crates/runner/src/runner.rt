@@ -2,7 +2,7 @@
 ghost use Rattle.std.specs.Prelude.{◌≡◌, ◌+◌, ℕ, IfOk, OnErr, OnOk};
 ghost use Rattle.std.specs.Arc.{arc_value};
 ghost use Rattle.model.specs.Object.{IsObject, Object};
-ghost use Rattle.runner.specs.Tickets.{AreGiven, Fit, IsStoreFor, Keeps, made_by};
+ghost use Rattle.runner.specs.Tickets.{Fit, IsStoreFor, made_by};
 
 use calls::{Recipe, Roles};
 use model::NoMemory;
@@ -21,9 +21,6 @@ pub trait Runner {
     // The object that a ticket stands for.
     ghost object_of: { Self.Ticket → Object };
 
-    // Whether the runner gave a ticket.
-    ghost gave: { Self → Self.Ticket → Type 0 };
-
     // How often the runner was emptied, and how often it had been when it gave a ticket.
     ghost epoch: { Self → ℕ };
 
@@ -37,41 +34,30 @@ pub trait Runner {
         inputs: Roles<&Self::Ticket>,
     ) -> Result<Self::Ticket, NoMemory>
         requires fits { Fit object_of recipe inputs }
-        requires gave { AreGiven (gave self.old) inputs }
         ensures object { IfOk result (λ t. object_of t ≡ made_by object_of recipe inputs.entry) }
         ensures is_object { IfOk result (λ t. IsObject (object_of t)) }
-        ensures given { IfOk result (λ t. gave self.new t) }
         ensures born { IfOk result (λ t. born t ≡ epoch self.new) }
-        ensures kept { Keeps (gave self.old) (gave self.new) }
         ensures epoch { epoch self.new ≡ epoch self.old };
 
     /// The store of the object that a ticket stands for, once it is there. A ticket that was given before the runner
     /// was last emptied fetches none.
     fn fetch(&mut self, ticket: &Self::Ticket) -> Result<Arc<Store>, Failed>
-        requires { gave self.old ticket.now }
         ensures store { IfOk result (λ store. IsStoreFor (object_of ticket.now) (arc_value store)) }
         ensures current { OnOk result (born ticket.now ≡ epoch self.old) }
-        ensures kept { Keeps (gave self.old) (gave self.new) }
         ensures epoch { epoch self.new ≡ epoch self.old };
 
     /// Another ticket for the same object.
     fn hold(&mut self, ticket: &Self::Ticket) -> Result<Self::Ticket, NoMemory>
-        requires { gave self.old ticket.now }
         ensures object { IfOk result (λ t. object_of t ≡ object_of ticket.now) }
-        ensures given { IfOk result (λ t. gave self.new t) }
         ensures born { IfOk result (λ t. born t ≡ born ticket.now) }
-        ensures kept { Keeps (gave self.old) (gave self.new) }
         ensures epoch { epoch self.new ≡ epoch self.old };
 
     /// Takes a ticket back, of whose object nobody asks by it again.
     fn let_go(&mut self, ticket: Self::Ticket)
-        requires { gave self.old ticket }
-        ensures kept { Keeps (gave self.old) (gave self.new) }
         ensures epoch { epoch self.new ≡ epoch self.old };
 
     /// Empties the runner: the tickets that it gave stand for their objects still, but fetch none.
     fn renew(&mut self) -> Result<(), NoMemory>
         ensures ok { OnOk result (epoch self.new ≡ epoch self.old + 1) }
-        ensures err { OnErr result (epoch self.new ≡ epoch self.old) }
-        ensures kept { Keeps (gave self.old) (gave self.new) };
+        ensures err { OnErr result (epoch self.new ≡ epoch self.old) };
 }
