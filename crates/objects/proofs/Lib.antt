@@ -1,0 +1,3 @@
+pub mod EditingLaws
+pub mod TableLaws
+pub mod WaitingLaws

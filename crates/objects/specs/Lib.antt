@@ -1,0 +1,4 @@
+pub mod Kept
+pub mod Tables
+pub mod Values
+pub mod Waiting

@@ -1,0 +1,11 @@
+//! Objects whose values a runner makes.
+#![tactic(auto)]
+
+mod kept;
+mod object;
+mod table;
+mod value;
+
+pub use kept::{Kept, Refusal};
+pub use table::{Table, edit, finish, give, insert, put, remove, signature, store, ticket};
+pub use value::Value;

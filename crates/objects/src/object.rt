@@ -1,0 +1,221 @@
+//! One object.
+ghost use Rattle.std.specs.Prelude.{◌≡◌, ◌≢◌, [], IfErr, IfOk, OnErr, OnOk, false, true};
+ghost use Rattle.calls.specs.Stores.{IsStoreOf, object_with};
+ghost use Rattle.model.specs.Marks.{MayBecome, Open, Unmarked, is_told};
+ghost use Rattle.model.specs.Object.{cols_of, rows_of};
+ghost use Rattle.objects.specs.declared.kept.Refusal.TheVariants as refusal;
+ghost use Rattle.objects.specs.Kept.{Finishes, is_ready, mark_in, object_in};
+ghost use Rattle.objects.specs.Values.{HasTicket, IsValueOf, map_with, mark_with};
+ghost use Rattle.objects.specs.Waiting.{IsEditOf, edited_object};
+ghost use Rattle.patch.specs.Edits.{IsInside};
+ghost use Rattle.store.specs.Stored.{content_of};
+
+use crate::kept::{Kept, Refusal};
+use crate::value::{self, Value};
+use calls::{Patch, Recipe, Roles, Signature};
+use model::NoMemory;
+use patch::{Edit, apply_edits};
+use runner::Runner;
+use std::alloc::Global;
+use std::mem;
+use std::sync::Arc;
+use store::Store;
+
+// So many edits wait at the most.
+const MOST_EDITS: usize = 65_536;
+
+/// An object of which this is known, with a value, on which no edits wait.
+pub(crate) fn new<R: Runner>(alloc: Global, of: Signature, value: Value<R::Ticket>) -> Kept<R>
+    requires { IsValueOf R.object_of of value }
+    ensures object { object_in result ≡ object_with of (map_with R.object_of [] value) }
+    ensures mark { mark_in result ≡ mark_with [] value }
+{
+    Kept {
+        of,
+        value,
+        edits: Vec::new(alloc),
+    }
+}
+
+/// Whether a call was told that an object failed.
+pub(crate) fn is_told<R: Runner>(object: &Kept<R>) -> bool
+    ensures { result ≡ is_told (mark_in object.now) }
+{
+    matches!(&object.value, Value::Failed)
+}
+
+/// Has an edit inside an object done, behind those that wait. Refused, it stays the object that it was.
+pub(crate) fn edit<R: Runner>(
+    alloc: Global,
+    runner: &mut R,
+    object: &mut Kept<R>,
+    edit: Edit,
+) -> Result<(), NoMemory>
+    requires untold { is_told (mark_in object.old) ≡ false }
+    requires inside { IsInside (rows_of object.old.of.shape) (cols_of object.old.of.shape) edit }
+    requires word { IsEditOf object.old.of.domain edit }
+    ensures edited { OnOk result (object_in object.new
+        ≡ edited_object (object_in object.old) edit) }
+    ensures open { OnOk result (mark_in object.new ≡ Open) }
+    ensures same { OnErr result (object_in object.new ≡ object_in object.old) }
+    ensures mark { OnErr result (mark_in object.new ≡ mark_in object.old) }
+{
+    make_room(alloc, runner, object)?;
+    object.edits.push(edit)?;
+    Ok(())
+}
+
+/// Hands the edits on where as many wait as may.
+fn make_room<R: Runner>(alloc: Global, runner: &mut R, object: &mut Kept<R>) -> Result<(), NoMemory>
+    ensures object { object_in object.new ≡ object_in object.old }
+    ensures mark { mark_in object.new ≡ mark_in object.old }
+{
+    if object.edits.len() >= MOST_EDITS {
+        give(alloc, runner, object)?;
+    }
+    Ok(())
+}
+
+/// Has a ticket stand for an object, unless it was told to have failed. Refused, it stays the object that it was.
+pub(crate) fn give<R: Runner>(
+    alloc: Global,
+    runner: &mut R,
+    object: &mut Kept<R>,
+) -> Result<(), NoMemory>
+    ensures object { object_in object.new ≡ object_in object.old }
+    ensures mark { mark_in object.new ≡ mark_in object.old }
+    ensures ready { OnOk result (is_told (mark_in object.old) ≡ false → is_ready object.new ≡ true) }
+    ensures still { is_ready object.old ≡ true → is_ready object.new ≡ true }
+{
+    if is_told(object) {
+        return Ok(());
+    }
+    value::give_ticket(runner, object.of, &mut object.value)?;
+    if object.edits.is_empty() {
+        return Ok(());
+    }
+    submit_edits(alloc, runner, object)
+}
+
+/// Submits the edits that wait on an object with a ticket.
+fn submit_edits<R: Runner>(
+    alloc: Global,
+    runner: &mut R,
+    object: &mut Kept<R>,
+) -> Result<(), NoMemory>
+    requires ticket { HasTicket object.old.value }
+    requires untold { is_told (mark_in object.old) ≡ false }
+    requires waits { object.old.edits.items ≢ [] }
+    ensures object { object_in object.new ≡ object_in object.old }
+    ensures mark { mark_in object.new ≡ mark_in object.old }
+    ensures ready { OnOk result (is_ready object.new ≡ true) }
+{
+    let (Value::Both(_, ticket) | Value::Open(ticket)) = &object.value else {
+        return Ok(());
+    };
+    let edits = patch_of(alloc, object)?;
+    let edited = runner.submit(Recipe::Patch(edits), Roles::of_old(ticket))?;
+    let old = mem::replace(&mut object.value, Value::Open(edited));
+    object.edits.clear();
+    value::release(runner, old);
+    Ok(())
+}
+
+/// The edits that wait on an object, once more.
+fn patch_of<R: Runner>(alloc: Global, object: &Kept<R>) -> Result<Patch, NoMemory>
+    ensures of { IfOk result (λ patch. patch.of ≡ object.now.of) }
+    ensures edits { IfOk result (λ patch. patch.edits.items ≡ object.now.edits.items) }
+{
+    let mut edits = Vec::with_capacity(alloc, object.edits.len())?;
+    edits.extend_from_slice(&object.edits)?;
+    Ok(Patch {
+        of: object.of,
+        edits,
+    })
+}
+
+/// Has the value of an object come to be there.
+pub(crate) fn finish<R: Runner>(
+    alloc: Global,
+    runner: &mut R,
+    object: &mut Kept<R>,
+) -> Result<(), Refusal>
+    ensures ends { Finishes object.old object.new result }
+{
+    if is_told(object) {
+        return Err(Refusal::Failed);
+    }
+    if !object.edits.is_empty() && !edit_in_place(alloc, runner, object)? {
+        give(alloc, runner, object).map_err(|_| Refusal::NoMemory)?;
+    }
+    value::fetch(runner, object.of, &mut object.value).map_err(|_| Refusal::Failed)
+}
+
+/// Does the edits that wait on an object in place, where its store is there and nobody shares it. Says whether it
+/// could.
+fn edit_in_place<R: Runner>(
+    alloc: Global,
+    runner: &mut R,
+    object: &mut Kept<R>,
+) -> Result<bool, Refusal>
+    requires waits { object.old.edits.items ≢ [] }
+    ensures object { object_in object.new ≡ object_in object.old }
+    ensures done { IfOk result (λ did. did ≡ true → object.new.edits.items ≡ []) }
+    ensures left { IfOk result (λ did. did ≡ false → mark_in object.new ≡ mark_in object.old) }
+    ensures told { is_told (mark_in object.new) ≡ is_told (mark_in object.old) }
+    ensures err { IfErr result (λ e. (e ≡ refusal.NoMemory)
+        × MayBecome (mark_in object.old) (mark_in object.new)) }
+{
+    value::take_ticket(runner, object.of, &mut object.value);
+    let Value::Here(shared) = &mut object.value else {
+        return Ok(false);
+    };
+    let Some(store) = Arc::get_mut(shared) else {
+        return Ok(false);
+    };
+    match apply_edits(alloc, store, &mut object.edits) {
+        Ok(()) => Ok(true),
+        Err(_) => Err(Refusal::NoMemory),
+    }
+}
+
+/// Puts another value into an object, of which this is known then, and on which no edits wait.
+pub(crate) fn replace<R: Runner>(
+    alloc: Global,
+    runner: &mut R,
+    object: &mut Kept<R>,
+    of: Signature,
+    value: Value<R::Ticket>,
+)
+    requires value { IsValueOf R.object_of of value }
+    ensures object { object_in object.new ≡ object_with of (map_with R.object_of [] value) }
+    ensures mark { mark_in object.new ≡ mark_with [] value }
+{
+    let old = mem::replace(object, new(alloc, of, value));
+    value::release(runner, old.value);
+}
+
+/// The store of an object whose value is there.
+pub(crate) fn store<R: Runner>(object: &Kept<R>) -> &Store
+    requires unmarked { mark_in object.now ≡ Unmarked }
+    ensures object { object_in object.now ≡ object_with object.now.of (content_of result.now) }
+    ensures store { IsStoreOf object.now.of result.now }
+{
+    match &object.value {
+        Value::Here(store) => store,
+        Value::Both(store, _) => store,
+        _ => unreachable!(),
+    }
+}
+
+/// The ticket that stands for an object.
+pub(crate) fn ticket<R: Runner>(object: &Kept<R>) -> &R::Ticket
+    requires ready { is_ready object.now ≡ true }
+    ensures object { R.object_of result.now ≡ object_in object.now }
+{
+    match &object.value {
+        Value::Both(_, ticket) => ticket,
+        Value::Open(ticket) => ticket,
+        _ => unreachable!(),
+    }
+}

@@ -1,0 +1,199 @@
+//! Objects by their numbers.
+ghost use Rattle.std.specs.Prelude.{◌≡◌, ◌+◌, [], None, OnErr, OnOk, false, if◌then◌else◌};
+ghost use Rattle.std.specs.Prelude.{is_some, true};
+ghost use Rattle.std.specs.Option.{option_map};
+ghost use Rattle.calls.specs.declared.obj.Obj.{Obj as AnyObj};
+ghost use Rattle.calls.specs.Stores.{IsStoreOf, object_with};
+ghost use Rattle.model.specs.Marks.{Open, Unmarked, first_state, told, with_mark};
+ghost use Rattle.model.specs.Object.{cols_of, rows_of, signature_of};
+ghost use Rattle.model.specs.Run.{object_at, with_object, without_object};
+ghost use Rattle.objects.specs.Values.{IsValueOf, map_with, mark_with};
+ghost use Rattle.objects.specs.Tables.{Reads, is_ready_at, same_object, state_in, with_kept};
+ghost use Rattle.objects.specs.Waiting.{IsEditOf, edited_object};
+ghost use Rattle.patch.specs.Edits.{IsInside};
+ghost use Rattle.store.specs.Stored.{content_of};
+
+use crate::kept::{Kept, Refusal};
+use crate::object;
+use crate::value::{self, Value};
+use calls::{Obj, Signature};
+use model::NoMemory;
+use patch::Edit;
+use runner::Runner;
+use std::alloc::Global;
+use std::collections::BTreeMap;
+use store::Store;
+
+/// Objects by their numbers.
+#[derive(Drop)]
+pub struct Table<R: Runner> {
+    pub by_number: BTreeMap<u64, Kept<R>>,
+}
+
+impl<R: Runner> Table<R> {
+    /// No objects. It takes no memory.
+    pub fn new(alloc: Global) -> Table<R>
+        ensures { state_in result ≡ first_state }
+    {
+        Table {
+            by_number: BTreeMap::new(alloc),
+        }
+    }
+
+    /// How many objects there are.
+    pub fn len(&self) -> u64
+        ensures { result ≡ (state_in self.now).environment.count }
+    {
+        self.by_number.len() as u64
+    }
+}
+
+/// What is known of an object.
+pub fn signature<R: Runner>(table: &Table<R>, object: Obj) -> Option<Signature>
+    ensures { result ≡ option_map signature_of ((state_in table.now).environment.find_object object) }
+{
+    let kept = table.by_number.get(&object.0)?;
+    Some(kept.of)
+}
+
+/// Has a ticket stand for an object that is there, unless it was told to have failed. Refused, all objects stay.
+pub fn give<R: Runner>(
+    alloc: Global,
+    runner: &mut R,
+    table: &mut Table<R>,
+    object: Obj,
+) -> Result<(), NoMemory>
+    requires there { is_some ((state_in table.old).environment.find_object object) ≡ true }
+    ensures state { state_in table.new ≡ state_in table.old }
+    ensures ready { OnOk result (told (state_in table.old) object ≡ false
+        → is_ready_at table.new object ≡ true) }
+    ensures still { (other : AnyObj) → is_ready_at table.old other ≡ true → is_ready_at table.new other ≡ true }
+{
+    match table.by_number.get_mut(&object.0) {
+        Some(kept) => object::give(alloc, runner, kept),
+        None => unreachable!(),
+    }
+}
+
+/// Has the value of an object come to be there, which is there.
+pub fn finish<R: Runner>(
+    alloc: Global,
+    runner: &mut R,
+    table: &mut Table<R>,
+    object: Obj,
+) -> Result<(), Refusal>
+    requires there { is_some ((state_in table.old).environment.find_object object) ≡ true }
+    ensures ends { Reads (state_in table.old) object (state_in table.new) result }
+{
+    match table.by_number.get_mut(&object.0) {
+        Some(kept) => object::finish(alloc, runner, kept),
+        None => unreachable!(),
+    }
+}
+
+/// Puts a value into an object that is there, of which this is known then.
+pub fn put<R: Runner>(
+    alloc: Global,
+    runner: &mut R,
+    table: &mut Table<R>,
+    object: Obj,
+    of: Signature,
+    value: Value<R::Ticket>,
+)
+    requires there { is_some ((state_in table.old).environment.find_object object) ≡ true }
+    requires value { IsValueOf R.object_of of value }
+    ensures state { state_in table.new ≡ with_kept (state_in table.old) object
+        (object_with of (map_with R.object_of [] value)) (mark_with [] value) }
+{
+    match table.by_number.get_mut(&object.0) {
+        Some(kept) => object::replace(alloc, runner, kept, of, value),
+        None => unreachable!(),
+    }
+}
+
+/// Has an edit inside an object done that is there and wasn't told to have failed. Refused, all objects stay.
+pub fn edit<R: Runner>(
+    alloc: Global,
+    runner: &mut R,
+    table: &mut Table<R>,
+    object: Obj,
+    edit: Edit,
+) -> Result<(), NoMemory>
+    requires there { is_some ((state_in table.old).environment.find_object object) ≡ true }
+    requires untold { told (state_in table.old) object ≡ false }
+    requires inside { IsInside (rows_of (object_at (state_in table.old).environment object).shape)
+        (cols_of (object_at (state_in table.old).environment object).shape) edit }
+    requires word { IsEditOf (object_at (state_in table.old).environment object).domain edit }
+    ensures edited { OnOk result (state_in table.new ≡ with_kept (state_in table.old) object
+        (edited_object (object_at (state_in table.old).environment object) edit) Open) }
+    ensures refused { OnErr result (state_in table.new ≡ state_in table.old) }
+{
+    match table.by_number.get_mut(&object.0) {
+        Some(kept) => object::edit(alloc, runner, kept, edit),
+        None => unreachable!(),
+    }
+}
+
+/// Puts an object under a new number.
+pub fn insert<R: Runner>(
+    alloc: Global,
+    runner: &mut R,
+    table: &mut Table<R>,
+    object: Obj,
+    of: Signature,
+    value: Value<R::Ticket>,
+) -> Result<(), NoMemory>
+    requires new { (state_in table.old).environment.find_object object ≡ None }
+    requires value { IsValueOf R.object_of of value }
+    ensures made { OnOk result (state_in table.new ≡ with_mark same_object (state_in table.old)
+        (with_object same_object (state_in table.old).environment object
+        (object_with of (map_with R.object_of [] value)) ((state_in table.old).environment.count + 1))
+        object (mark_with [] value)) }
+    ensures refused { OnErr result (state_in table.new ≡ state_in table.old) }
+{
+    let kept = object::new(alloc, of, value);
+    table.by_number.insert(object.0, kept)?;
+    Ok(())
+}
+
+/// Takes an object out, and says whether it was there.
+pub fn remove<R: Runner>(runner: &mut R, table: &mut Table<R>, object: Obj) -> bool
+    ensures there { result ≡ is_some ((state_in table.old).environment.find_object object) }
+    ensures left { state_in table.new ≡ (if result
+        then with_mark same_object (state_in table.old)
+        (without_object same_object (state_in table.old).environment object) object Unmarked
+        else state_in table.old) }
+{
+    match table.by_number.remove(&object.0) {
+        Some(kept) => {
+            value::release(runner, kept.value);
+            true
+        }
+        None => false,
+    }
+}
+
+/// The store of an object whose value is there.
+pub fn store<R: Runner>(table: &Table<R>, object: Obj) -> &Store
+    requires there { is_some ((state_in table.now).environment.find_object object) ≡ true }
+    requires unmarked { (state_in table.now).marks object ≡ Unmarked }
+    ensures object { object_at (state_in table.now).environment object
+        ≡ object_with (signature_of (object_at (state_in table.now).environment object)) (content_of result.now) }
+    ensures store { IsStoreOf (signature_of (object_at (state_in table.now).environment object)) result.now }
+{
+    match table.by_number.get(&object.0) {
+        Some(kept) => object::store(kept),
+        None => unreachable!(),
+    }
+}
+
+/// The ticket that stands for an object.
+pub fn ticket<R: Runner>(table: &Table<R>, object: Obj) -> &R::Ticket
+    requires ready { is_ready_at table.now object ≡ true }
+    ensures object { R.object_of result.now ≡ object_at (state_in table.now).environment object }
+{
+    match table.by_number.get(&object.0) {
+        Some(kept) => object::ticket(kept),
+        None => unreachable!(),
+    }
+}

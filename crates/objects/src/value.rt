@@ -1,0 +1,109 @@
+//! What is there of an object's value.
+ghost use Rattle.std.specs.Prelude.{◌≡◌, [], List, OnErr, OnOk, false};
+ghost use Rattle.model.specs.Marks.{Told, Unmarked, is_told, is_unmarked};
+ghost use Rattle.model.specs.Object.{no_content};
+ghost use Rattle.objects.specs.Values.{HasTicket, IsValueOf, map_with, mark_with};
+ghost use Rattle.patch.specs.declared.edits.Edit.{Edit as AnyEdit};
+
+use calls::{Given, Recipe, Roles, Signature};
+use model::NoMemory;
+use runner::{Failed, Runner};
+use std::mem;
+use std::sync::Arc;
+use store::Store;
+
+/// What is there of an object's value, where the tickets of a runner stand for values that may not be there yet.
+#[derive(Drop)]
+pub enum Value<T> {
+    /// Its store.
+    Here(Arc<Store>),
+    /// Its store, and a ticket that stands for it.
+    Both(Arc<Store>, T),
+    /// A ticket alone: nobody asked for its store yet.
+    Open(T),
+    /// It was asked for, and there was no memory.
+    Failed,
+}
+
+/// Gives a value's ticket back.
+pub(crate) fn release<R: Runner>(runner: &mut R, value: Value<R::Ticket>) {
+    match value {
+        Value::Both(_store, ticket) => runner.let_go(ticket),
+        Value::Open(ticket) => runner.let_go(ticket),
+        Value::Here(_store) => {}
+        Value::Failed => {}
+    }
+}
+
+/// Gives the ticket of a value back whose store is there.
+pub(crate) fn take_ticket<R: Runner>(runner: &mut R, of: Signature, value: &mut Value<R::Ticket>)
+    requires sound { IsValueOf R.object_of of value.old }
+    ensures sound { IsValueOf R.object_of of value.new }
+    ensures map { (edits : List AnyEdit) → map_with R.object_of edits value.new ≡ map_with R.object_of edits value.old }
+    ensures mark { (edits : List AnyEdit) → mark_with edits value.new ≡ mark_with edits value.old }
+{
+    match mem::replace(value, Value::Failed) {
+        Value::Both(store, ticket) => {
+            runner.let_go(ticket);
+            *value = Value::Here(store);
+        }
+        other => *value = other,
+    }
+}
+
+/// Gives a ticket to a value that has its store alone. Refused, it stays as it was.
+pub(crate) fn give_ticket<R: Runner>(
+    runner: &mut R,
+    of: Signature,
+    value: &mut Value<R::Ticket>,
+) -> Result<(), NoMemory>
+    requires sound { IsValueOf R.object_of of value.old }
+    ensures sound { IsValueOf R.object_of of value.new }
+    ensures map { (edits : List AnyEdit) → map_with R.object_of edits value.new ≡ map_with R.object_of edits value.old }
+    ensures mark { (edits : List AnyEdit) → mark_with edits value.new ≡ mark_with edits value.old }
+    ensures ticket { OnOk result (HasTicket value.new) }
+    ensures left { OnErr result (value.new ≡ value.old) }
+{
+    let Value::Here(store) = &*value else {
+        return Ok(());
+    };
+    let shared = Arc::try_clone(store).map_err(|_| NoMemory)?;
+    let store = Arc::try_clone(store).map_err(|_| NoMemory)?;
+    let given = Given { of, store: shared };
+    let ticket = runner.submit(Recipe::Given(given), Roles::none())?;
+    *value = Value::Both(store, ticket);
+    Ok(())
+}
+
+/// Has the store fetched for which a ticket stands. Where none comes the value failed.
+pub(crate) fn fetch<R: Runner>(
+    runner: &mut R,
+    of: Signature,
+    value: &mut Value<R::Ticket>,
+) -> Result<(), Failed>
+    requires sound { IsValueOf R.object_of of value.old }
+    ensures sound { IsValueOf R.object_of of value.new }
+    ensures map { OnOk result ((edits : List AnyEdit)
+        → map_with R.object_of edits value.new ≡ map_with R.object_of edits value.old) }
+    ensures mark { OnOk result (is_told (mark_with [] value.old) ≡ false → mark_with [] value.new ≡ Unmarked) }
+    ensures open { OnErr result (is_unmarked (mark_with [] value.old) ≡ false) }
+    ensures failed { OnErr result ((edits : List AnyEdit) → (map_with R.object_of edits value.new ≡ no_content)
+        × (mark_with edits value.new ≡ Told)) }
+{
+    match mem::replace(value, Value::Failed) {
+        Value::Open(ticket) => match runner.fetch(&ticket) {
+            Ok(store) => {
+                *value = Value::Both(store, ticket);
+                Ok(())
+            }
+            Err(failed) => {
+                runner.let_go(ticket);
+                Err(failed)
+            }
+        },
+        other => {
+            *value = other;
+            Ok(())
+        }
+    }
+}
