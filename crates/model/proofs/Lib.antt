@@ -5,6 +5,7 @@ pub mod EditLaws
 pub mod ElementWiseLaws
 pub mod EntryLaws
 pub mod EnvironmentLaws
+pub mod FateLaws
 pub mod FileRows
 pub mod IndexLaws
 pub mod MarketLaws

@@ -1,6 +1,7 @@
 pub mod Builds
 pub mod ElementWise
 pub mod Entries
+pub mod Fates
 pub mod Fault
 pub mod Grammar
 pub mod Indices
