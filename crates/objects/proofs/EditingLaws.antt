@@ -1,5 +1,5 @@
 -- Objects whose edits were done in place, or handed on.
-use Rattle.std.proofs.Common.{◌≡◌, ◌≢◌, ◌<◌, ◌∙◌, ℕ, [], ◌∷◌, List, Some, Result, Ok, Err, take, refl, sym, ap, inl, inr}
+use Rattle.std.proofs.Common.{◌≡◌, ◌<◌, ◌∙◌, ℕ, [], List, Some, Result, Ok, Err, take, refl, sym, ap}
 use Rattle.std.specs.Prelude.{IsPermutation, OnErr, OnOk}
 use Rattle.std.specs.List.{All}
 use Rattle.std.proofs.lemmas.List.Elements.{All-nil, All-take}
@@ -7,12 +7,11 @@ use Rattle.std.proofs.lemmas.List.Sorted.{All-permutation}
 use Rattle.algebra.specs.Value.{IsWordOf}
 use Rattle.calls.specs.Stores.{AreInside, object_with}
 use Rattle.model.specs.declared.shape.Signature.{Signature}
-use Rattle.model.specs.Marks.{Mark, MayBecome}
 use Rattle.model.specs.Object.{Content, IsObject, Object, cols_of, rows_of}
 use Rattle.model.proofs.ObjectLaws.{objects_equal}
 use Rattle.objects.specs.declared.value.Value.{Value}
-use Rattle.objects.specs.declared.value.Value.TheVariants.{Here, Both, Open, Failed}
-use Rattle.objects.specs.Values.{IsValueOf, map_with, mark_by, ticket_in}
+use Rattle.objects.specs.declared.value.Value.TheVariants.{New, Here, Both, Open, Failed}
+use Rattle.objects.specs.Values.{IsValueOf, map_with, ticket_in}
 use Rattle.objects.proofs.WaitingLaws.{edits-keep}
 use Rattle.patch.specs.declared.edits.Edit.{Edit}
 use Rattle.patch.specs.Edits.{edited, place_of, set_entry}
@@ -24,6 +23,7 @@ pub patched-object : {T : Type 0} (object_of : T → Object) (of : Signature) (v
     (t new : T) → ticket_in value ≡ Some t → IsValueOf object_of of value
     → object_of new ≡ object_with of (edited es (object_of t).content)
     → object_with of (object_of new).content ≡ object_with of (map_with object_of es value)
+patched-object object_of of New es t new has sound is = absurd (cc)
 patched-object object_of of (Here store) es t new has sound is = absurd (cc)
 patched-object object_of of Failed es t new has sound is = absurd (cc)
 patched-object object_of of (Open ticket) es t new has sound is =
@@ -56,9 +56,3 @@ left-is_object (Err e) of es new old left none (n, some) means inside words is =
     let same = objects_equal (object_with of left) (object_with of (edited (take n es) old)) refl refl some in
     rw same (edits-keep of (take n es) (All-take (λ e. ((place_of e).0 < rows_of of.shape) × ((place_of e).1 < cols_of of.shape)) n es inside)
     (All-take (λ e. IsWordOf of.domain (set_entry e).word) n es words) old is)
-
--- where edits waited, none may wait now
-pub may_be_done : (es new : List Edit) (m : Mark) → m ≡ mark_by es → es ≢ [] → MayBecome m (mark_by new)
-may_be_done [] new m is waits = absurd (waits refl)
-may_be_done (e ∷ es) [] m is waits = inr (is, refl)
-may_be_done (e ∷ es) (x ∷ xs) m is waits = inl (sym is)

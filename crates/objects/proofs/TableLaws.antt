@@ -127,7 +127,7 @@ module _ {R T : Type 0} {g : Ghosts R T} (m n : Table R T g) (o : Obj) (old new 
 
   pub finishes_reads : (result : Result (Unit {0}) Refusal) → Finishes old new result
       → Reads (state_in m) o (state_in n) result
-  finishes_reads (Ok done) (untold, is, mark) =
+  finishes_reads (Ok done) (untold, is, mark, finished) =
       (ap is_told mark_there ∙ untold, state_marked is ∙ ap (λ (k : Mark). with_mark same_object (state_in m) (state_in m).environment o k) mark)
   finishes_reads (Err refusal.NoMemory) (is, may) = settles_written is may
   finishes_reads (Err refusal.Failed) (waits, is, mark) = (

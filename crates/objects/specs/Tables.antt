@@ -10,7 +10,7 @@ use Rattle.model.specs.Run.{with_object}
 use Rattle.objects.specs.declared.kept.Refusal.{Refusal}
 use Rattle.objects.specs.declared.kept.Refusal.TheVariants as refusal
 use Rattle.objects.specs.declared.table.Table.{Table}
-use Rattle.objects.specs.Kept.{is_ready, mark_in, object_in}
+use Rattle.objects.specs.Kept.{is_finished, is_ready, mark_in, object_in}
 use Rattle.runner.specs.declared.runner.Runner.{Ghosts}
 
 -- the objects that are kept, and their marks
@@ -26,6 +26,10 @@ state_in table = record {
 -- a ticket stands for an object
 abbrev pub is_ready_at : {R T : Type 0} {g : Ghosts R T} → Table R T g → Obj → Bool
 is_ready_at table o = option_map_or is_ready (get nat_cmp table.by_number o.0) false
+
+-- its store is there
+abbrev pub is_finished_at : {R T : Type 0} {g : Ghosts R T} → Table R T g → Obj → Bool
+is_finished_at table o = option_map_or is_finished (get nat_cmp table.by_number o.0) false
 
 -- whether two numbers are one object's
 abbrev pub same_object : Obj → Obj → Bool

@@ -7,13 +7,14 @@ use Rattle.model.specs.Marks.{Mark, Unmarked, Told}
 use Rattle.model.specs.Marks as mark
 use Rattle.model.specs.Object.{Content, IsObject, Object, no_content, signature_of}
 use Rattle.objects.specs.declared.value.Value.{Value}
-use Rattle.objects.specs.declared.value.Value.TheVariants.{Here, Both, Open, Failed}
+use Rattle.objects.specs.declared.value.Value.TheVariants.{New, Here, Both, Open, Failed}
 use Rattle.patch.specs.declared.edits.Edit.{Edit}
 use Rattle.patch.specs.Edits.{edited}
 use Rattle.store.specs.Stored.{Stored, content_of}
 
 -- the map of a value once edits of it are done, where tickets stand for objects; a failed one has none, by agreement
 abbrev pub map_with : {T : Type 0} → (T → Object) → List Edit → Value T → Content
+map_with object_of edits New = edited edits no_content
 map_with object_of edits (Here store) = edited edits (content_of (arc_value store))
 map_with object_of edits (Both store ticket) = edited edits (content_of (arc_value store))
 map_with object_of edits (Open ticket) = edited edits (object_of ticket).content
@@ -25,6 +26,7 @@ mark_by (e ∷ es) = mark.Open
 
 -- whether a value is there once edits of it are done
 abbrev pub mark_with : {T : Type 0} → List Edit → Value T → Mark
+mark_with edits New = mark_by edits
 mark_with edits (Here store) = mark_by edits
 mark_with edits (Both store ticket) = mark_by edits
 mark_with edits (Open ticket) = mark.Open
@@ -32,12 +34,14 @@ mark_with edits Failed = Told
 
 -- what there is of it
 abbrev pub stored_in : {T : Type 0} → Value T → Option Stored
+stored_in New = None
 stored_in (Here store) = Some (arc_value store)
 stored_in (Both store ticket) = Some (arc_value store)
 stored_in (Open ticket) = None
 stored_in Failed = None
 
 abbrev pub ticket_in : {T : Type 0} → Value T → Option T
+ticket_in New = None
 ticket_in (Here store) = None
 ticket_in (Both store ticket) = Some ticket
 ticket_in (Open ticket) = Some ticket
@@ -59,8 +63,20 @@ is_ready_with [] (Both store ticket) = true
 is_ready_with [] (Open ticket) = true
 is_ready_with edits value = false
 
+-- its store is there, and no edits wait
+abbrev pub is_finished_with : {T : Type 0} → List Edit → Value T → Bool
+is_finished_with [] (Here store) = true
+is_finished_with [] (Both store ticket) = true
+is_finished_with edits value = false
+
+-- there is more to it than that it has no entries
+abbrev pub IsMade : {T : Type 0} → Value T → Type 0
+IsMade New = ⊥
+IsMade value = Unit {0}
+
 -- a value that didn't fail has a ticket
 abbrev pub HasTicket : {T : Type 0} → Value T → Type 0
+HasTicket New = ⊥
 HasTicket (Both store ticket) = Unit {0}
 HasTicket (Open ticket) = Unit {0}
 HasTicket Failed = Unit {0}

@@ -1,11 +1,10 @@
 //! One object.
-ghost use Rattle.std.specs.Prelude.{◌≡◌, ◌≢◌, [], IfErr, IfOk, OnErr, OnOk, false, true};
+ghost use Rattle.std.specs.Prelude.{◌≡◌, ◌≢◌, [], IfOk, OnErr, OnOk, false, true};
 ghost use Rattle.calls.specs.Stores.{IsStoreOf, object_with};
-ghost use Rattle.model.specs.Marks.{MayBecome, Open, Unmarked, is_told};
+ghost use Rattle.model.specs.Marks.{MayBecome, Open, is_told};
 ghost use Rattle.model.specs.Object.{cols_of, rows_of};
-ghost use Rattle.objects.specs.declared.kept.Refusal.TheVariants as refusal;
-ghost use Rattle.objects.specs.Kept.{Finishes, is_ready, mark_in, object_in};
-ghost use Rattle.objects.specs.Values.{HasTicket, IsValueOf, map_with, mark_with};
+ghost use Rattle.objects.specs.Kept.{Finishes, is_finished, is_ready, mark_in, object_in};
+ghost use Rattle.objects.specs.Values.{HasTicket, IsMade, IsValueOf, map_with, mark_with};
 ghost use Rattle.objects.specs.Waiting.{IsEditOf, edited_object};
 ghost use Rattle.patch.specs.Edits.{IsInside};
 ghost use Rattle.store.specs.Stored.{content_of};
@@ -90,6 +89,7 @@ pub(crate) fn give<R: Runner>(
     if is_told(object) {
         return Ok(());
     }
+    value::make(alloc, runner, object.of, &mut object.value)?;
     value::give_ticket(runner, object.of, &mut object.value)?;
     if object.edits.is_empty() {
         return Ok(());
@@ -134,7 +134,7 @@ fn patch_of<R: Runner>(alloc: Global, object: &Kept<R>) -> Result<Patch, NoMemor
     })
 }
 
-/// Has the value of an object come to be there.
+/// Has the value of an object come to be there, with its store.
 pub(crate) fn finish<R: Runner>(
     alloc: Global,
     runner: &mut R,
@@ -145,10 +145,24 @@ pub(crate) fn finish<R: Runner>(
     if is_told(object) {
         return Err(Refusal::Failed);
     }
-    if !object.edits.is_empty() && !edit_in_place(alloc, runner, object)? {
-        give(alloc, runner, object).map_err(|_| Refusal::NoMemory)?;
-    }
+    value::make(alloc, runner, object.of, &mut object.value).map_err(|_| Refusal::NoMemory)?;
+    do_edits(alloc, runner, object).map_err(|_| Refusal::NoMemory)?;
     value::fetch(runner, object.of, &mut object.value).map_err(|_| Refusal::Failed)
+}
+
+/// Does the edits that wait on an object, in place where that can be, or later.
+fn do_edits<R: Runner>(alloc: Global, runner: &mut R, object: &mut Kept<R>) -> Result<(), NoMemory>
+    requires untold { is_told (mark_in object.old) ≡ false }
+    requires made { IsMade object.old.value }
+    ensures object { object_in object.new ≡ object_in object.old }
+    ensures mark { MayBecome (mark_in object.old) (mark_in object.new) }
+    ensures done { OnOk result (object.new.edits.items ≡ []) }
+    ensures made { OnOk result (IsMade object.new.value) }
+{
+    if object.edits.is_empty() || edit_in_place(alloc, runner, object)? {
+        return Ok(());
+    }
+    give(alloc, runner, object)
 }
 
 /// Does the edits that wait on an object in place, where its store is there and nobody shares it. Says whether it
@@ -157,14 +171,13 @@ fn edit_in_place<R: Runner>(
     alloc: Global,
     runner: &mut R,
     object: &mut Kept<R>,
-) -> Result<bool, Refusal>
+) -> Result<bool, NoMemory>
     requires waits { object.old.edits.items ≢ [] }
+    requires made { IsMade object.old.value }
     ensures object { object_in object.new ≡ object_in object.old }
+    ensures mark { MayBecome (mark_in object.old) (mark_in object.new) }
     ensures done { IfOk result (λ did. did ≡ true → object.new.edits.items ≡ []) }
-    ensures left { IfOk result (λ did. did ≡ false → mark_in object.new ≡ mark_in object.old) }
-    ensures told { is_told (mark_in object.new) ≡ is_told (mark_in object.old) }
-    ensures err { IfErr result (λ e. (e ≡ refusal.NoMemory)
-        × MayBecome (mark_in object.old) (mark_in object.new)) }
+    ensures made { IsMade object.new.value }
 {
     value::take_ticket(runner, object.of, &mut object.value);
     let Value::Here(shared) = &mut object.value else {
@@ -173,10 +186,8 @@ fn edit_in_place<R: Runner>(
     let Some(store) = Arc::get_mut(shared) else {
         return Ok(false);
     };
-    match apply_edits(alloc, store, &mut object.edits) {
-        Ok(()) => Ok(true),
-        Err(_) => Err(Refusal::NoMemory),
-    }
+    apply_edits(alloc, store, &mut object.edits)?;
+    Ok(true)
 }
 
 /// Puts another value into an object, of which this is known then, and on which no edits wait.
@@ -197,7 +208,7 @@ pub(crate) fn replace<R: Runner>(
 
 /// The store of an object whose value is there.
 pub(crate) fn store<R: Runner>(object: &Kept<R>) -> &Store
-    requires unmarked { mark_in object.now ≡ Unmarked }
+    requires finished { is_finished object.now ≡ true }
     ensures object { object_in object.now ≡ object_with object.now.of (content_of result.now) }
     ensures store { IsStoreOf object.now.of result.now }
 {

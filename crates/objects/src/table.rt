@@ -8,7 +8,7 @@ ghost use Rattle.model.specs.Marks.{Open, Unmarked, first_state, told, with_mark
 ghost use Rattle.model.specs.Object.{cols_of, rows_of, signature_of};
 ghost use Rattle.model.specs.Run.{object_at, with_object, without_object};
 ghost use Rattle.objects.specs.Values.{IsValueOf, map_with, mark_with};
-ghost use Rattle.objects.specs.Tables.{Reads, is_ready_at, same_object, state_in, with_kept};
+ghost use Rattle.objects.specs.Tables.{Reads, is_finished_at, is_ready_at, same_object, state_in, with_kept};
 ghost use Rattle.objects.specs.Waiting.{IsEditOf, edited_object};
 ghost use Rattle.patch.specs.Edits.{IsInside};
 ghost use Rattle.store.specs.Stored.{content_of};
@@ -84,6 +84,7 @@ pub fn finish<R: Runner>(
 ) -> Result<(), Refusal>
     requires there { is_some ((state_in table.old).environment.find_object object) ≡ true }
     ensures ends { Reads (state_in table.old) object (state_in table.new) result }
+    ensures finished { OnOk result (is_finished_at table.new object ≡ true) }
 {
     match table.by_number.get_mut(&object.0) {
         Some(kept) => object::finish(alloc, runner, kept),
@@ -173,10 +174,9 @@ pub fn remove<R: Runner>(runner: &mut R, table: &mut Table<R>, object: Obj) -> b
     }
 }
 
-/// The store of an object whose value is there.
+/// The store of an object that is finished.
 pub fn store<R: Runner>(table: &Table<R>, object: Obj) -> &Store
-    requires there { is_some ((state_in table.now).environment.find_object object) ≡ true }
-    requires unmarked { (state_in table.now).marks object ≡ Unmarked }
+    requires finished { is_finished_at table.now object ≡ true }
     ensures object { object_at (state_in table.now).environment object
         ≡ object_with (signature_of (object_at (state_in table.now).environment object)) (content_of result.now) }
     ensures store { IsStoreOf (signature_of (object_at (state_in table.now).environment object)) result.now }

@@ -1,13 +1,15 @@
 //! What is there of an object's value.
-ghost use Rattle.std.specs.Prelude.{◌≡◌, [], List, OnErr, OnOk, false};
+ghost use Rattle.std.specs.Prelude.{◌≡◌, [], List, OnErr, OnOk, false, true};
 ghost use Rattle.model.specs.Marks.{Told, Unmarked, is_told, is_unmarked};
 ghost use Rattle.model.specs.Object.{no_content};
-ghost use Rattle.objects.specs.Values.{HasTicket, IsValueOf, map_with, mark_with};
+ghost use Rattle.objects.specs.Values.{HasTicket, IsMade, IsValueOf, is_finished_with, is_ready_with, map_with};
+ghost use Rattle.objects.specs.Values.{mark_with};
 ghost use Rattle.patch.specs.declared.edits.Edit.{Edit as AnyEdit};
 
 use calls::{Given, Recipe, Roles, Signature};
 use model::NoMemory;
 use runner::{Failed, Runner};
+use std::alloc::Global;
 use std::mem;
 use std::sync::Arc;
 use store::Store;
@@ -15,6 +17,8 @@ use store::Store;
 /// What is there of an object's value, where the tickets of a runner stand for values that may not be there yet.
 #[derive(Drop)]
 pub enum Value<T> {
+    /// No entries: a store is made when it is asked for.
+    New,
     /// Its store.
     Here(Arc<Store>),
     /// Its store, and a ticket that stands for it.
@@ -30,8 +34,7 @@ pub(crate) fn release<R: Runner>(runner: &mut R, value: Value<R::Ticket>) {
     match value {
         Value::Both(_store, ticket) => runner.let_go(ticket),
         Value::Open(ticket) => runner.let_go(ticket),
-        Value::Here(_store) => {}
-        Value::Failed => {}
+        Value::New | Value::Here(_) | Value::Failed => {}
     }
 }
 
@@ -41,6 +44,7 @@ pub(crate) fn take_ticket<R: Runner>(runner: &mut R, of: Signature, value: &mut 
     ensures sound { IsValueOf R.object_of of value.new }
     ensures map { (edits : List AnyEdit) → map_with R.object_of edits value.new ≡ map_with R.object_of edits value.old }
     ensures mark { (edits : List AnyEdit) → mark_with edits value.new ≡ mark_with edits value.old }
+    ensures made { IsMade value.old → IsMade value.new }
 {
     match mem::replace(value, Value::Failed) {
         Value::Both(store, ticket) => {
@@ -51,6 +55,28 @@ pub(crate) fn take_ticket<R: Runner>(runner: &mut R, of: Signature, value: &mut 
     }
 }
 
+/// Makes the store of a value that has no entries. Refused, it stays as it was.
+pub(crate) fn make<R: Runner>(
+    alloc: Global,
+    _runner: &R,
+    of: Signature,
+    value: &mut Value<R::Ticket>,
+) -> Result<(), NoMemory>
+    requires sound { IsValueOf R.object_of of value.old }
+    ensures sound { IsValueOf R.object_of of value.new }
+    ensures map { (edits : List AnyEdit) → map_with R.object_of edits value.new ≡ map_with R.object_of edits value.old }
+    ensures mark { (edits : List AnyEdit) → mark_with edits value.new ≡ mark_with edits value.old }
+    ensures made { OnOk result (IsMade value.new) }
+    ensures left { OnErr result (value.new ≡ value.old) }
+    ensures still { (edits : List AnyEdit) → is_ready_with edits value.old ≡ true → is_ready_with edits value.new ≡ true }
+{
+    if let Value::New = value {
+        let store = Store::new(alloc, of.shape.rows(), of.shape.cols());
+        *value = Value::Here(Arc::new(alloc, store)?);
+    }
+    Ok(())
+}
+
 /// Gives a ticket to a value that has its store alone. Refused, it stays as it was.
 pub(crate) fn give_ticket<R: Runner>(
     runner: &mut R,
@@ -58,6 +84,7 @@ pub(crate) fn give_ticket<R: Runner>(
     value: &mut Value<R::Ticket>,
 ) -> Result<(), NoMemory>
     requires sound { IsValueOf R.object_of of value.old }
+    requires made { IsMade value.old }
     ensures sound { IsValueOf R.object_of of value.new }
     ensures map { (edits : List AnyEdit) → map_with R.object_of edits value.new ≡ map_with R.object_of edits value.old }
     ensures mark { (edits : List AnyEdit) → mark_with edits value.new ≡ mark_with edits value.old }
@@ -82,10 +109,13 @@ pub(crate) fn fetch<R: Runner>(
     value: &mut Value<R::Ticket>,
 ) -> Result<(), Failed>
     requires sound { IsValueOf R.object_of of value.old }
+    requires made { IsMade value.old }
     ensures sound { IsValueOf R.object_of of value.new }
     ensures map { OnOk result ((edits : List AnyEdit)
         → map_with R.object_of edits value.new ≡ map_with R.object_of edits value.old) }
     ensures mark { OnOk result (is_told (mark_with [] value.old) ≡ false → mark_with [] value.new ≡ Unmarked) }
+    ensures finished { OnOk result (is_told (mark_with [] value.old) ≡ false
+        → is_finished_with [] value.new ≡ true) }
     ensures open { OnErr result (is_unmarked (mark_with [] value.old) ≡ false) }
     ensures failed { OnErr result ((edits : List AnyEdit) → (map_with R.object_of edits value.new ≡ no_content)
         × (mark_with edits value.new ≡ Told)) }

@@ -1,11 +1,10 @@
 -- The edits that are left are some of those that waited, and the store is one of the object.
-use Rattle.std.proofs.Common.{◌<◌, ◌∙◌, ap, refl, sym}
+use Rattle.std.proofs.Common.{◌<◌, ◌∙◌}
 use Rattle.std.specs.Arc.{arc_value}
 use Rattle.algebra.specs.Value.{IsWordOf}
 use Rattle.calls.specs.Stores.{IsStoreOf}
 use Rattle.model.specs.Object.{cols_of, rows_of}
-use Rattle.objects.proofs.EditingLaws.{left-all, left-is_object, may_be_done}
-use Rattle.objects.specs.Values.{mark_with}
+use Rattle.objects.proofs.EditingLaws.{left-all, left-is_object}
 use Rattle.patch.specs.Edits.{place_of, set_entry}
 use Rattle.store.specs.Stored.{content_of}
 use Rattle.objects.proofs.object.edit_in_place.Goals as goal
@@ -26,11 +25,3 @@ invariant_of-object-2 g c =
       inside = left-all c.apply_edits.result (λ e. ((place_of e).0 < rows_of kept.of.shape) × ((place_of e).1 < cols_of kept.of.shape)) kept.edits.items c.apply_edits.new.edits.items done.done done.left kept.inside;
       words = left-all c.apply_edits.result (λ e. IsWordOf kept.of.domain (set_entry e).word) kept.edits.items c.apply_edits.new.edits.items done.done done.left kept.words;
     }
-
-pub returns-in-Err-clause-err : goal.returns-in-Err-clause-err
-returns-in-Err-clause-err g c =
-    let edits = c.args.object.now.edits.items in (
-      refl,
-      may_be_done edits c.apply_edits.new.edits.items (mark_with edits c.args.object.now.value)
-          (sym (c.take_ticket.ensures.mark edits) ∙ ap (mark_with edits) c.in-Here.is) c.requires.waits,
-    )
