@@ -1,4 +1,5 @@
 pub mod Kept
+pub mod Refusals
 pub mod Tables
 pub mod Values
 pub mod Waiting

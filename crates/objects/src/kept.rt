@@ -1,5 +1,6 @@
 //! An object as it is kept.
 ghost use Rattle.std.proofs.Props.{props};
+ghost use Rattle.std.specs.Prelude.{◌≡◌};
 ghost use Rattle.std.specs.List.{All};
 ghost use Rattle.algebra.specs.Value.{IsWordOf};
 ghost use Rattle.calls.specs.Stores.{AreInside};
@@ -9,6 +10,7 @@ ghost use Rattle.patch.specs.Edits.{set_entry};
 
 use crate::value::Value;
 use calls::Signature;
+use model::Status;
 use patch::Edit;
 use runner::Runner;
 
@@ -30,4 +32,17 @@ pub enum Refusal {
     NoMemory,
     /// Memory was refused to what makes it.
     Failed,
+}
+
+impl From<Refusal> for Status {
+    ghost use Rattle.objects.specs.Refusals.{status_of};
+
+    ghost from_gives = { λ refusal status. status ≡ status_of refusal };
+
+    fn from(refusal: Refusal) -> Status {
+        match refusal {
+            Refusal::NoMemory => Status::OutOfMemory,
+            Refusal::Failed => Status::InvalidObject,
+        }
+    }
 }

@@ -7,5 +7,7 @@ mod table;
 mod value;
 
 pub use kept::{Kept, Refusal};
-pub use table::{Table, edit, finish, give, insert, put, remove, signature, store, ticket};
+pub use table::{
+    Table, edit, finish, give, insert, is_told, put, remove, signature, store, ticket,
+};
 pub use value::Value;

@@ -56,6 +56,16 @@ pub fn signature<R: Runner>(table: &Table<R>, object: Obj) -> Option<Signature>
     Some(kept.of)
 }
 
+/// Whether a call was told that an object failed.
+pub fn is_told<R: Runner>(table: &Table<R>, object: Obj) -> bool
+    ensures { result ≡ told (state_in table.now) object }
+{
+    match table.by_number.get(&object.0) {
+        Some(kept) => object::is_told(kept),
+        None => false,
+    }
+}
+
 /// Has a ticket stand for an object that is there, unless it was told to have failed. Refused, all objects stay.
 pub fn give<R: Runner>(
     alloc: Global,
