@@ -1,3 +1,4 @@
+pub mod Gaps
 pub mod LineLaws
 pub mod LoadLaws
 pub mod Names

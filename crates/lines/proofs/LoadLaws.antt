@@ -86,13 +86,19 @@ pub reads_command : (line : List ℕ) (r : Result Line LineFault) → is_silent 
     → is_well_formed line ≡ true → IsRead reading_in (command_of (words_of line)) r → Reads r (reading_of line)
 reads_command line r loud formed is = rw (reading-command line loud formed) (read_command (command_of (words_of line)) r (answered_command (words_of line)) is)
 
-pub unread_command : (line : List ℕ) → is_silent (words_of line) ≡ false → is_well_formed line ≡ true
-    → IsAnswered (reading_of line)
-unread_command line loud formed = rw (reading-command line loud formed) (answered_command (words_of line))
+answered_line : (line : List ℕ) → is_silent (words_of line) ≡ false → IsAnswered (reading_of line)
+unfolding reading_of
+answered_line line loud = elim (cases_Bool (is_well_formed line)) [
+  | inl formed ↦ rw (reading-command line loud formed) (answered_command (words_of line))
+  | inr malformed ↦ rw (loud, malformed) tt
+]
 
-pub unread_where : (r : Result Line LineFault) (reading : Reading (List ℕ)) → r ≡ Err fault.NoMemory
-    → IsAnswered reading → Reads r reading
-unread_where r reading is h = rw is h
+-- a line whose words weren't read
+pub unread : (line : List ℕ) (why : LineFault) (r : Result Line LineFault) → is_silent (words_of line) ≡ false
+    → r ≡ Err why → (why ≡ fault.Syntax → is_well_formed line ≡ false) → Reads r (reading_of line)
+unfolding reading_of
+unread line fault.Syntax r loud is none = rw (is, loud, none refl) refl
+unread line fault.NoMemory r loud is none = rw is (answered_line line loud)
 
 -- ---- the file that a line names
 

@@ -1,17 +1,23 @@
 -- Rows of the grammar, by the words that they begin with.
-use Rattle.std.proofs.Common.{◌≡◌, ℕ, ◌+◌, ◌-◌, ◌<◌, ◌≤◌, true, false, not, List, [], ◌∷◌, drop, length, map, nat_le, take, Option, Some, None, Result, Ok, Err, refl, sym, ◌∙◌, ap, arith, inl, inr}
+use Rattle.std.proofs.Common.{◌≡◌, ℕ, ◌+◌, ◌-◌, ◌<◌, ◌≤◌, ◌==◌, ◌&&◌, ◌||◌, Bool, true, false, not, List, [], ◌∷◌, drop, codes, length, map, nat_le, take, Option, Some, None, Result, Err, refl, sym, ◌∙◌, ap, arith, inl, inr}
 use Rattle.std.specs.List.{drop-map, list_all, take-map}
 use Rattle.std.specs.Option.{ok_or, option_and_then, option_map, option_map_or}
 use Rattle.std.specs.Str.{bytes_eq}
-use Rattle.std.proofs.lemmas.Bool.{and_parts, cases_Bool}
+use Rattle.std.proofs.lemmas.Bool.{and_parts, cases_Bool, not-true, or_parts}
 use Rattle.std.proofs.lemmas.Bool.Decides.{nat_tests}
-use Rattle.std.proofs.lemmas.List.{drop-take, length-map, take_rest}
+use Rattle.std.proofs.lemmas.List.{drop-take, length-drop, length-map, take_rest}
+use Rattle.std.proofs.Math.Bool.{and-false}
 use Rattle.std.proofs.lemmas.Slice.Eq.{bytes_eq-Decides}
 use Rattle.lines.specs.declared.fault.LineFault.{LineFault}
-use Rattle.lines.specs.declared.fault.LineFault.TheVariants.{Syntax}
-use Rattle.lines.specs.Meaning.{IsRead}
+use Rattle.lines.specs.declared.fault.LineFault.TheVariants.{Syntax, NoMemory}
+use Rattle.lines.specs.declared.operations.Joining.{Joining}
+use Rattle.lines.specs.declared.operations.Joining.TheVariants.{Product, Combination}
+use Rattle.lines.specs.Joining.{joining_word, joins}
+use Rattle.lines.specs.Meaning.{IsRead, bare_calls, reading_in, unlisted_operations}
 use Rattle.model.specs.declared.call.Call.{Call}
-use Rattle.model.specs.Grammar.{Name, Row, call_of, calls, middle_of, nth_word, operate_of, operations, out_of_words, said_by}
+use Rattle.model.specs.declared.call.Form.TheVariants.{MatrixMatrix, MatrixVector, VectorMatrix}
+use Rattle.model.specs.declared.call.Positions.TheVariants.{Union, Intersection}
+use Rattle.model.specs.Grammar.{Called, Name, Row, are_as_many, call_of, calls, command_of, is_called, middle_of, nth_word, operate_of, operations, out_of_words, said_by}
 
 module _ {A B : Type 0} (rows : List (Row A)) (view : B → A) (called word : List ℕ) (words : List (List ℕ)) where
   -- what is read as one word is read as a word that is the same
@@ -19,11 +25,16 @@ module _ {A B : Type 0} (rows : List (Row A)) (view : B → A) (called word : Li
       → IsRead view (said_by rows called words) r
   said_as r same is = let e : called ≡ word = (bytes_eq-Decides called word).0 same in rw e is
 
-  -- ..also where nothing is read of the words
-  pub said_or_syntax : (o : Option B) (r : Result B LineFault) → r ≡ ok_or o Syntax → bytes_eq called word ≡ true
-      → option_map view o ≡ said_by rows word words → IsRead view (said_by rows called words) r
-  said_or_syntax None r e same is = rw e (said_as (Err Syntax) same (sym is))
-  said_or_syntax (Some x) r e same is = rw e (said_as (Ok x) same (sym is))
+-- what an option holds is what a word says, and so what a word that is the same says
+pub said_same : {A : Type 0} (rows : List (Row A)) (called word : List ℕ) (words : List (List ℕ)) (o : Option A)
+    → bytes_eq called word ≡ true → o ≡ said_by rows word words → o ≡ said_by rows called words
+said_same rows called word words o same is = let e : called ≡ word = (bytes_eq-Decides called word).0 same in rw e is
+
+-- an option is read as it is, with a fault for none
+pub read_or_syntax : {A B : Type 0} (view : B → A) (said : Option A) (o : Option B) (r : Result B LineFault)
+    → r ≡ ok_or o Syntax → option_map view o ≡ said → IsRead view said r
+read_or_syntax view said None r e is = rw e (sym is)
+read_or_syntax view said (Some x) r e is = rw e (sym is)
 
 -- a word of no row says nothing
 pub none_said : {A : Type 0} (rows : List (Row A)) (called : List ℕ) (words : List (List ℕ))
@@ -37,6 +48,18 @@ none_said (row ∷ rows) called words none =
       | inr other ↦ other
     ] in
     rw other (none_said rows called words parts.1)
+
+-- nor does one of rows with more words or fewer
+abbrev fits : {A : Type 0} → List ℕ → List (List ℕ) → Row A → Bool
+fits called words row = bytes_eq called row.word && are_as_many row.forms (length words) 0
+
+none_fits : {A : Type 0} (rows : List (Row A)) (called : List ℕ) (words : List (List ℕ))
+    → list_all (λ row. not (fits called words row)) rows ≡ true → said_by rows called words ≡ None
+unfolding said_by
+none_fits [] called words none = refl
+none_fits (row ∷ rows) called words none =
+    let parts = and_parts (not (fits called words row)) (list_all (λ row. not (fits called words row)) rows) none in
+    rw (not-true (fits called words row) parts.0) (none_fits rows called words parts.1)
 
 -- ---- calls
 
@@ -57,20 +80,103 @@ module _ {B : Type 0} (words : List (List ℕ)) (view : B → Call Name Name) (c
       let none : said_by operations word (middle_of words) ≡ None = none_said operations word (middle_of words) apart in
       rw (here, none, ← rest) (second_or (said_by calls word others) r is)
 
-  -- ..also where nothing is read of the words
-  pub call_or_syntax : (word : List ℕ) (o : Option B) (r : Result B LineFault) → r ≡ ok_or o Syntax → bytes_eq called word ≡ true
-      → list_all (λ row. not (bytes_eq word row.word)) operations ≡ true
-      → option_map view o ≡ said_by calls word others → IsRead view (call_of words) r
-  call_or_syntax word None r e same apart is = rw e (call_as word (Err Syntax) same apart (sym is))
-  call_or_syntax word (Some x) r e same apart is = rw e (call_as word (Ok x) same apart (sym is))
-
-  -- one that no call has is an operation's
-  pub call_else : (r : Result B LineFault) → list_all (λ row. not (bytes_eq called row.word)) calls ≡ true
-      → IsRead view (operate_of words) r → IsRead view (call_of words) r
+  -- where none says anything, an operation is called
+  pub call_else : (r : Result B LineFault) → None ≡ said_by calls called others → IsRead view (operate_of words) r
+      → IsRead view (call_of words) r
   unfolding call_of
-  call_else r apart is =
-      let none : said_by calls (nth_word words 0) (drop 1 words) ≡ None = rw (← first) (none_said calls called (drop 1 words) apart) in
-      rw none is
+  call_else r none is = rw (← first, ← rest, ← none) is
+
+-- a word of an operation of two inputs is no call's
+joining_no_call : (joining : Joining) → list_all (λ row. not (bytes_eq (joining_word joining) row.word)) calls ≡ true
+joining_no_call (Product MatrixMatrix) = refl
+joining_no_call (Product MatrixVector) = refl
+joining_no_call (Product VectorMatrix) = refl
+joining_no_call (Combination Union) = refl
+joining_no_call (Combination Intersection) = refl
+
+joining_no_load : (joining : Joining) → bytes_eq (joining_word joining) (codes "load") ≡ false
+joining_no_load (Product MatrixMatrix) = refl
+joining_no_load (Product MatrixVector) = refl
+joining_no_load (Product VectorMatrix) = refl
+joining_no_load (Combination Union) = refl
+joining_no_load (Combination Intersection) = refl
+
+-- a line that is no load asks for what it calls
+module _ (words : List (List ℕ)) (other : is_called words (codes "load") ≡ false) where
+  pub called_command : (said : Option (Call Name Name)) → call_of words ≡ said
+      → command_of words ≡ option_and_then (λ call. Some (Called call)) said
+  unfolding command_of
+  called_command said is = rw (other, is) refl
+
+  pub called_fault : {B : Type 0} (view : B → Call Name Name) (why : LineFault) → IsRead view (call_of words) (Err why)
+      → IsRead reading_in (command_of words) (Err why)
+  called_fault view Syntax is = called_command None is
+  called_fault view NoMemory is = tt
+
+-- behind a word of an operation of two inputs such an operation is asked for
+module _ (words : List (List ℕ)) (joining : Joining) (first : nth_word words 0 ≡ joining_word joining) where
+  joined_call : call_of words ≡ operate_of words
+  unfolding call_of
+  joined_call =
+      let none : said_by calls (nth_word words 0) (drop 1 words) ≡ None = rw first (none_said calls (joining_word joining) (drop 1 words) (joining_no_call joining)) in
+      rw none refl
+
+  no_load : is_called words (codes "load") ≡ false
+  no_load = rw first (joining_no_load joining)
+
+  pub joined_command : (said : Option (Call Name Name)) → operate_of words ≡ said
+      → command_of words ≡ option_and_then (λ call. Some (Called call)) said
+  joined_command said is = called_command words no_load said (joined_call ∙ is)
+
+-- what a call's row says is called
+pub call_first : (words : List (List ℕ)) (called : List ℕ) (others : List (List ℕ)) (call : Call Name Name)
+    → called ≡ nth_word words 0 → others ≡ drop 1 words → Some call ≡ said_by calls called others
+    → call_of words ≡ Some call
+unfolding call_of
+call_first words called others call first rest is = rw (← first, ← rest, ← is) refl
+
+-- none but `build` has more than five words
+pub long_no_call : (words : List (List ℕ)) → 5 < length words → bytes_eq (nth_word words 0) (codes "build") ≡ false
+    → None ≡ said_by calls (nth_word words 0) (drop 1 words)
+long_no_call words long other =
+    let size : length (drop 1 words) ≡ length words - 1 = length-drop 1 words in
+    let one : (length (drop 1 words) == 1) ≡ false = grind (arith, nat_tests) in
+    let two : (length (drop 1 words) == 2) ≡ false = grind (arith, nat_tests) in
+    let three : (length (drop 1 words) == 3) ≡ false = grind (arith, nat_tests) in
+    let four : (length (drop 1 words) == 4) ≡ false = grind (arith, nat_tests) in
+    sym (none_fits calls (nth_word words 0) (drop 1 words) (simp (and-false, one, two, three, four, other) refl))
+
+-- ---- parts of the tables
+
+pub said_bare : (called : List ℕ) (words : List (List ℕ)) → bytes_eq called (codes "matrix") ≡ false
+    → bytes_eq called (codes "vector") ≡ false → bytes_eq called (codes "dup") ≡ false
+    → bytes_eq called (codes "resize") ≡ false → bytes_eq called (codes "build") ≡ false
+    → bytes_eq called (codes "set") ≡ false → bytes_eq called (codes "remove") ≡ false
+    → bytes_eq called (codes "get") ≡ false → bytes_eq called (codes "reduce") ≡ false
+    → said_by calls called words ≡ said_by bare_calls called words
+unfolding said_by
+said_bare called words a b c d e f g h i = rw (a, b, c, d, e, f, g, h, i) refl
+
+said_of_entries : (called : List ℕ) (words : List (List ℕ)) → bytes_eq called (codes "mxm") ≡ false
+    → bytes_eq called (codes "mxv") ≡ false → bytes_eq called (codes "vxm") ≡ false
+    → bytes_eq called (codes "ewiseadd") ≡ false → bytes_eq called (codes "ewisemult") ≡ false
+    → bytes_eq called (codes "extract") ≡ false → bytes_eq called (codes "assign") ≡ false
+    → bytes_eq called (codes "fill") ≡ false
+    → said_by operations called words ≡ said_by unlisted_operations called words
+unfolding said_by
+said_of_entries called words a b c d e f g h = rw (a, b, c, d, e, f, g, h) refl
+
+pub said_unlisted : (called : List ℕ) (words : List (List ℕ)) → joins called ≡ false
+    → bytes_eq called (codes "extract") ≡ false → bytes_eq called (codes "assign") ≡ false
+    → bytes_eq called (codes "fill") ≡ false
+    → said_by operations called words ≡ said_by unlisted_operations called words
+said_unlisted called words none a b c =
+    let is = bytes_eq called in
+    let d = or_parts (is (codes "mxm") || is (codes "mxv") || is (codes "vxm") || is (codes "ewiseadd")) (is (codes "ewisemult")) none in
+    let e = or_parts (is (codes "mxm") || is (codes "mxv") || is (codes "vxm")) (is (codes "ewiseadd")) d.0 in
+    let f = or_parts (is (codes "mxm") || is (codes "mxv")) (is (codes "vxm")) e.0 in
+    let g = or_parts (is (codes "mxm")) (is (codes "mxv")) f.0 in
+    said_of_entries called words g.0 g.1 f.1 e.1 d.1 a b c
 
 -- ---- operations
 

@@ -1,10 +1,14 @@
 -- What the code reads of a line.
-use Rattle.std.specs.Prelude.{ℕ, ◌≡◌, List, [], ◌∷◌, Option, Some, None, Result, Ok, Err}
+use Rattle.std.specs.Prelude.{ℕ, ◌≡◌, List, [], ◌∷◌, Option, Some, None, Result, Ok, Err, codes, drop, take}
 use Rattle.lines.specs.declared.fault.LineFault.{LineFault}
 use Rattle.lines.specs.declared.fault.LineFault.TheVariants.{Syntax, NoMemory}
 use Rattle.lines.specs.declared.line.Line.{Line}
 use Rattle.lines.specs.declared.line.Load.{Load as LoadLine}
 use Rattle.lines.specs.declared.line.Line.TheVariants.{Silent, Call, Load}
+use Rattle.model.specs.declared.call.Act.TheVariants.{Free, Clear, Nvals, Print}
+use Rattle.model.specs.declared.call.Call.{Call as ACall}
+use Rattle.model.specs.declared.call.Call.TheVariants.{On}
+use Rattle.model.specs.declared.call.Operation.{Operation}
 use Rattle.model.specs.declared.call.Region.{Region}
 use Rattle.model.specs.declared.call.Region.TheVariants as region
 use Rattle.model.specs.declared.shape.Place.{Place}
@@ -61,3 +65,18 @@ regions =
     grammar.row [] (grammar.AList ∷ []) region.One
     ∷ grammar.row [] (grammar.AList ∷ grammar.AList ∷ []) region.Two
     ∷ []
+
+-- ---- parts of the grammar's tables
+
+-- the calls of a name alone
+abbrev pub bare_calls : List (grammar.Row (ACall grammar.Name grammar.Name))
+bare_calls =
+    grammar.row (codes "free") (grammar.AName ∷ []) (λ object. On object Free)
+    ∷ grammar.row (codes "clear") (grammar.AName ∷ []) (λ object. On object Clear)
+    ∷ grammar.row (codes "nvals") (grammar.AName ∷ []) (λ object. On object Nvals)
+    ∷ grammar.row (codes "print") (grammar.AName ∷ []) (λ object. On object Print)
+    ∷ []
+
+-- the operations of one input but for those that have lists
+abbrev pub unlisted_operations : List (grammar.Row (Operation grammar.Name))
+unlisted_operations = take 7 (drop 5 grammar.operations)

@@ -1,57 +1,74 @@
 //! Calls by their first words: each row of the grammar has an arm here, or in the calls of operations.
-ghost use Rattle.std.specs.Prelude.{◌≡◌, ◌<◌, [], ◌∷◌, codes, drop, length, map};
+ghost use Rattle.std.specs.Prelude.{◌≡◌, ◌<◌, [], ◌∷◌, codes, drop, false, length, map};
 ghost use Rattle.std.specs.Option.{option_map};
-ghost use Rattle.lines.specs.Meaning.{IsRead, places, shapes};
+ghost use Rattle.std.specs.Str.{bytes_eq};
+ghost use Rattle.lines.specs.Meaning.{IsRead, bare_calls, places, shapes};
 ghost use Rattle.model.specs.declared.call.Call.TheVariants.{On};
-ghost use Rattle.model.specs.Grammar.{AName, call_of, calls, nth_word, row, said_by};
+ghost use Rattle.model.specs.Grammar.{AName, calls, nth_word, row, said_by};
 ghost use Rattle.model.specs.Renamed.{renamed};
 
-use crate::operations::{accum, operate};
+use crate::operations::accum;
 use crate::{LineFault, kinds, lists, words};
 use model::{Act, Call, Place, Shape};
 use std::alloc::Global;
 
-/// What the words of a line call.
-pub fn call<'a>(alloc: Global, words: &[&'a [u8]]) -> Result<Call<&'a str, &'a str>, LineFault>
-    requires { 0 < length words.now }
-    ensures { IsRead (renamed (λ name. name.now) (λ name. name.now)) (call_of (map (λ word. word.now) words.now))
-        result }
+/// What these call by a first word that is no operation's, nor `build`, which alone has a list.
+#[inline(never)]
+pub fn unlisted<'a>(called: &[u8], words: &[&'a [u8]]) -> Option<Call<&'a str, &'a str>>
+    requires { bytes_eq called.now (codes "build") ≡ false }
+    ensures { option_map (renamed (λ name. name.now) (λ name. name.now)) result
+        ≡ said_by calls called.now (map (λ word. word.now) words.now) }
 {
-    let called = first(words);
-    let others = others(words);
     if called == b"matrix".as_slice() {
-        matrix(others).ok_or(LineFault::Syntax)
-    } else if called == b"vector".as_slice() {
-        vector(others).ok_or(LineFault::Syntax)
-    } else if called == b"dup".as_slice() {
-        dup(others).ok_or(LineFault::Syntax)
-    } else if called == b"free".as_slice() {
-        act(others, Act::Free).ok_or(LineFault::Syntax)
-    } else if called == b"clear".as_slice() {
-        act(others, Act::Clear).ok_or(LineFault::Syntax)
-    } else if called == b"resize".as_slice() {
-        resize(others).ok_or(LineFault::Syntax)
-    } else if called == b"build".as_slice() {
-        build(alloc, others)
-    } else if called == b"set".as_slice() {
-        set(others).ok_or(LineFault::Syntax)
-    } else if called == b"remove".as_slice() {
-        remove(others).ok_or(LineFault::Syntax)
-    } else if called == b"get".as_slice() {
-        get(others).ok_or(LineFault::Syntax)
-    } else if called == b"nvals".as_slice() {
-        act(others, Act::Nvals).ok_or(LineFault::Syntax)
-    } else if called == b"print".as_slice() {
-        act(others, Act::Print).ok_or(LineFault::Syntax)
-    } else if called == b"reduce".as_slice() {
-        reduce(others).ok_or(LineFault::Syntax)
-    } else {
-        operate(alloc, words)
+        return matrix(words);
     }
+    if called == b"vector".as_slice() {
+        return vector(words);
+    }
+    if called == b"dup".as_slice() {
+        return dup(words);
+    }
+    if called == b"resize".as_slice() {
+        return resize(words);
+    }
+    if called == b"set".as_slice() {
+        return set(words);
+    }
+    if called == b"remove".as_slice() {
+        return remove(words);
+    }
+    if called == b"get".as_slice() {
+        return get(words);
+    }
+    if called == b"reduce".as_slice() {
+        return reduce(words);
+    }
+    bare(called, words)
+}
+
+/// What these call by a first word behind which there is a name alone.
+#[inline(always)]
+fn bare<'a>(called: &[u8], words: &[&'a [u8]]) -> Option<Call<&'a str, &'a str>>
+    ensures { option_map (renamed (λ name. name.now) (λ name. name.now)) result
+        ≡ said_by bare_calls called.now (map (λ word. word.now) words.now) }
+{
+    if called == b"free".as_slice() {
+        return act(words, Act::Free);
+    }
+    if called == b"clear".as_slice() {
+        return act(words, Act::Clear);
+    }
+    if called == b"nvals".as_slice() {
+        return act(words, Act::Nvals);
+    }
+    if called == b"print".as_slice() {
+        return act(words, Act::Print);
+    }
+    None
 }
 
 /// The first word.
-fn first<'a>(words: &[&'a [u8]]) -> &'a [u8]
+pub fn first<'a>(words: &[&'a [u8]]) -> &'a [u8]
     requires { 0 < length words.now }
     ensures { result.now ≡ nth_word (map (λ word. word.now) words.now) 0 }
 {
@@ -59,7 +76,7 @@ fn first<'a>(words: &[&'a [u8]]) -> &'a [u8]
 }
 
 /// The words behind the first one.
-fn others<'w, 'a>(words: &'w [&'a [u8]]) -> &'w [&'a [u8]]
+pub fn others<'w, 'a>(words: &'w [&'a [u8]]) -> &'w [&'a [u8]]
     requires { 0 < length words.now }
     ensures { map (λ word. word.now) result.now ≡ drop 1 (map (λ word. word.now) words.now) }
 {
@@ -148,7 +165,7 @@ fn resize<'a>(words: &[&'a [u8]]) -> Option<Call<&'a str, &'a str>>
 
 /// `build NAME DUP TUPLE..`
 #[tactic(auto, unfolding(model::specs::Grammar::said_by))]
-fn build<'a>(alloc: Global, words: &[&'a [u8]]) -> Result<Call<&'a str, &'a str>, LineFault>
+pub fn build<'a>(alloc: Global, words: &[&'a [u8]]) -> Result<Call<&'a str, &'a str>, LineFault>
     ensures { IsRead (renamed (λ name. name.now) (λ name. name.now))
         (said_by calls (codes "build") (map (λ word. word.now) words.now)) result }
 {

@@ -6,9 +6,10 @@ ghost use Rattle.lines.specs.Meaning.{load_in};
 ghost use Rattle.model.specs.Grammar.{command_of, file_name_of, is_called, is_file_name, load_of, reading_of, words_of};
 ghost use Rattle.model.specs.Loads.{file_named};
 
-use crate::parse::{first_byte, is_well_formed};
-use crate::{Load, words};
+use crate::parse::first_byte;
+use crate::{LineFault, Load, words};
 use model::{LONGEST_FILE_NAME, NoMemory};
+use smallvec::SmallVec;
 use std::alloc::Global;
 
 /// `load NAME DOMAIN FILE`
@@ -58,11 +59,12 @@ pub fn loaded_file(alloc: Global, line: &[u8]) -> Result<Option<&str>, NoMemory>
     if !may_load(line) {
         return Ok(None);
     }
-    if !is_well_formed(line) {
-        return Ok(None);
+    let mut words = SmallVec::new(alloc);
+    match words::add_words(&mut words, line) {
+        Ok(()) => Ok(file_of(words.as_slice())),
+        Err(LineFault::Syntax) => Ok(None),
+        Err(LineFault::NoMemory) => Err(NoMemory),
     }
-    let words = words::words_of(alloc, line)?;
-    Ok(file_of(words.as_slice()))
 }
 
 /// The file that the words of a line load.

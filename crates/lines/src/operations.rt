@@ -1,9 +1,10 @@
 //! The calls of operations: C, MASK, ACCUM and DESC are read here for all of them.
-ghost use Rattle.std.specs.Prelude.{◌≡◌, ◌<◌, ◌≤◌, [], codes, length, map};
+ghost use Rattle.std.specs.Prelude.{◌≡◌, ◌<◌, ◌≤◌, [], MatchOption, codes, false, length, map};
 ghost use Rattle.std.specs.Option.{option_map};
-ghost use Rattle.lines.specs.Meaning.{IsRead, regions};
+ghost use Rattle.lines.specs.Joining.{joining_word, joins};
+ghost use Rattle.lines.specs.Meaning.{IsRead, regions, unlisted_operations};
 ghost use Rattle.model.specs.Grammar.{is_none_word, middle_of, name_of, op_name_of, operate_of, operations};
-ghost use Rattle.model.specs.Grammar.{out_of_words, perhaps, said_by};
+ghost use Rattle.model.specs.Grammar.{nth_word, out_of_words, perhaps, said_by};
 ghost use Rattle.model.specs.Renamed.{renamed, renamed_operation, renamed_out};
 ghost use Rattle.model.specs.Written.{form_word, positions_word};
 
@@ -40,6 +41,7 @@ pub(crate) fn accum(word: &[u8]) -> Option<Option<OpName>>
 }
 
 /// `C MASK ACCUM .. DESC`
+#[inline(always)]
 #[tactic(auto, unfolding(model::specs::Grammar::out_of_words))]
 fn out<'a>(words: &[&'a [u8]]) -> Option<Out<&'a str>>
     ensures { option_map (renamed_out (λ name. name.now)) result ≡ out_of_words (map (λ word. word.now) words.now) }
@@ -59,10 +61,26 @@ fn out<'a>(words: &[&'a [u8]]) -> Option<Out<&'a str>>
     })
 }
 
-/// An operation's call.
+/// The call of an operation of two inputs.
+#[tactic(auto, unfolding(model::specs::Grammar::operate_of))]
+pub fn join<'a>(joining: Joining, words: &[&'a [u8]]) -> Option<Call<&'a str, &'a str>>
+    requires { nth_word (map (λ word. word.now) words.now) 0 ≡ joining_word joining }
+    ensures { option_map (renamed (λ name. name.now) (λ name. name.now)) result
+        ≡ operate_of (map (λ word. word.now) words.now) }
+{
+    if words.len() < 5 {
+        return None;
+    }
+    let operation = joined(joining, middle(words))?;
+    let out = out(words)?;
+    Some(Call::Operate { out, operation })
+}
+
+/// The call of another operation.
 #[tactic(auto, unfolding(model::specs::Grammar::operate_of))]
 pub fn operate<'a>(alloc: Global, words: &[&'a [u8]]) -> Result<Call<&'a str, &'a str>, LineFault>
-    requires { 0 < length words.now }
+    requires some { 0 < length words.now }
+    requires called { joins (nth_word (map (λ word. word.now) words.now) 0) ≡ false }
     ensures { IsRead (renamed (λ name. name.now) (λ name. name.now)) (operate_of (map (λ word. word.now) words.now))
         result }
 {
@@ -70,7 +88,9 @@ pub fn operate<'a>(alloc: Global, words: &[&'a [u8]]) -> Result<Call<&'a str, &'
         return Err(LineFault::Syntax);
     }
     let operation = operation(alloc, words[0], middle(words))?;
-    let out = out(words).ok_or(LineFault::Syntax)?;
+    let Some(out) = out(words) else {
+        return Err(LineFault::Syntax);
+    };
     Ok(Call::Operate { out, operation })
 }
 
@@ -82,48 +102,87 @@ fn middle<'w, 'a>(words: &'w [&'a [u8]]) -> &'w [&'a [u8]]
     &words[4..words.len() - 1]
 }
 
-/// What these say, by the first word.
+/// What joins two inputs.
+#[derive(Clone, Copy)]
+pub enum Joining {
+    Product(Form),
+    Combination(Positions),
+}
+
+/// What joins two inputs under this first word.
+pub fn joining_of(called: &[u8]) -> Option<Joining>
+    ensures { MatchOption result (joins called.now ≡ false) (λ joining. called.now ≡ joining_word joining) }
+{
+    match called {
+        b"mxm" => Some(Joining::Product(Form::MatrixMatrix)),
+        b"mxv" => Some(Joining::Product(Form::MatrixVector)),
+        b"vxm" => Some(Joining::Product(Form::VectorMatrix)),
+        b"ewiseadd" => Some(Joining::Combination(Positions::Union)),
+        b"ewisemult" => Some(Joining::Combination(Positions::Intersection)),
+        _ => None,
+    }
+}
+
+/// `SEMIRING A B` or `OP A B`
+fn joined<'a>(joining: Joining, words: &[&'a [u8]]) -> Option<Operation<&'a str>>
+    ensures { option_map (renamed_operation (λ name. name.now)) result
+        ≡ said_by operations (joining_word joining) (map (λ word. word.now) words.now) }
+{
+    match joining {
+        Joining::Product(form) => multiply(form, words),
+        Joining::Combination(positions) => combine(positions, words),
+    }
+}
+
+/// What these say by a first word that joins no two inputs.
 fn operation<'a>(
     alloc: Global,
     called: &[u8],
     words: &[&'a [u8]],
 ) -> Result<Operation<&'a str>, LineFault>
+    requires { joins called.now ≡ false }
     ensures { IsRead (renamed_operation (λ name. name.now))
         (said_by operations called.now (map (λ word. word.now) words.now)) result }
 {
-    if called == b"mxm".as_slice() {
-        multiply(Form::MatrixMatrix, words).ok_or(LineFault::Syntax)
-    } else if called == b"mxv".as_slice() {
-        multiply(Form::MatrixVector, words).ok_or(LineFault::Syntax)
-    } else if called == b"vxm".as_slice() {
-        multiply(Form::VectorMatrix, words).ok_or(LineFault::Syntax)
-    } else if called == b"ewiseadd".as_slice() {
-        combine(Positions::Union, words).ok_or(LineFault::Syntax)
-    } else if called == b"ewisemult".as_slice() {
-        combine(Positions::Intersection, words).ok_or(LineFault::Syntax)
-    } else if called == b"apply".as_slice() {
-        apply(words).ok_or(LineFault::Syntax)
-    } else if called == b"applyindex".as_slice() {
-        apply_index(words).ok_or(LineFault::Syntax)
-    } else if called == b"applyfirst".as_slice() {
-        apply_first(words).ok_or(LineFault::Syntax)
-    } else if called == b"applysecond".as_slice() {
-        apply_second(words).ok_or(LineFault::Syntax)
-    } else if called == b"select".as_slice() {
-        select(words).ok_or(LineFault::Syntax)
-    } else if called == b"reducerows".as_slice() {
-        reduce_rows(words).ok_or(LineFault::Syntax)
-    } else if called == b"transpose".as_slice() {
-        transpose(words).ok_or(LineFault::Syntax)
-    } else if called == b"extract".as_slice() {
-        extract(alloc, words)
-    } else if called == b"assign".as_slice() {
-        assign(alloc, words)
-    } else if called == b"fill".as_slice() {
-        fill(alloc, words)
-    } else {
-        Err(LineFault::Syntax)
+    if called == b"extract".as_slice() {
+        return extract(alloc, words);
     }
+    if called == b"assign".as_slice() {
+        return assign(alloc, words);
+    }
+    if called == b"fill".as_slice() {
+        return fill(alloc, words);
+    }
+    unlisted(called, words).ok_or(LineFault::Syntax)
+}
+
+/// What these say by the first word of an operation of one input that has no list.
+fn unlisted<'a>(called: &[u8], words: &[&'a [u8]]) -> Option<Operation<&'a str>>
+    ensures { option_map (renamed_operation (λ name. name.now)) result
+        ≡ said_by unlisted_operations called.now (map (λ word. word.now) words.now) }
+{
+    if called == b"apply".as_slice() {
+        return apply(words);
+    }
+    if called == b"applyindex".as_slice() {
+        return apply_index(words);
+    }
+    if called == b"applyfirst".as_slice() {
+        return apply_first(words);
+    }
+    if called == b"applysecond".as_slice() {
+        return apply_second(words);
+    }
+    if called == b"select".as_slice() {
+        return select(words);
+    }
+    if called == b"reducerows".as_slice() {
+        return reduce_rows(words);
+    }
+    if called == b"transpose".as_slice() {
+        return transpose(words);
+    }
+    None
 }
 
 /// `SEMIRING A B`

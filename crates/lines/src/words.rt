@@ -1,16 +1,17 @@
 //! The words of a line, and what each says alone.
-ghost use Rattle.std.specs.Prelude.{◌≡◌, ◌+◌, ◌-◌, ◌*◌, ◌<◌, ◌≤◌, ◌^◌, ◌==◌, ◌||◌, IfOk, map, length, filter, not};
-ghost use Rattle.std.specs.Prelude.{IsTrue, if◌then◌else◌, ◌&&◌, nat_le, neg_ℤ, pos, ◌++◌, ◌∷◌, [], IfSome};
-ghost use Rattle.std.specs.Prelude.{MatchOption, OnOk};
-ghost use Rattle.std.specs.List.{list_all, position, slice_split};
+ghost use Rattle.std.specs.Prelude.{◌≡◌, ◌+◌, ◌-◌, ◌*◌, ◌<◌, ◌≤◌, ◌^◌, ◌==◌, ◌||◌, map, length, filter, not};
+ghost use Rattle.std.specs.Prelude.{IsTrue, if◌then◌else◌, ◌&&◌, nat_le, neg_ℤ, pos, ◌++◌, ◌∷◌, []};
+ghost use Rattle.std.specs.Prelude.{MatchResult, OnOk, false, true};
+ghost use Rattle.std.specs.List.{list_all};
 ghost use Rattle.std.specs.Option.{option_map};
 ghost use Rattle.model.specs.Grammar.{digits_value, domain_of, is_blank, is_digit, is_letter, is_name, is_number};
-ghost use Rattle.model.specs.Grammar.{name_of, number_of, value_of_word, words_of};
+ghost use Rattle.model.specs.Grammar.{is_well_formed, name_of, number_of, value_of_word, words_of};
+ghost use Rattle.lines.specs.declared.fault.LineFault.TheVariants.{Syntax};
 
+use crate::LineFault;
 use algebra::Domain;
-use model::{LONGEST_NAME, NoMemory};
+use model::{LONGEST_LINE, LONGEST_NAME, NoMemory};
 use smallvec::SmallVec;
-use std::alloc::Global;
 
 /// Whether a byte parts words.
 pub const fn is_blank(byte: u8) -> bool
@@ -19,37 +20,30 @@ pub const fn is_blank(byte: u8) -> bool
     byte == b' ' || byte == b'\t'
 }
 
-/// The words of a line, parted by blanks. Those of a call but for `build` need no memory.
-pub fn words_of(alloc: Global, line: &[u8]) -> Result<SmallVec<&[u8], 8>, NoMemory>
-    ensures { IfOk result (λ words. map (λ word. word.now) words.items ≡ words_of line.now) }
+/// Adds the words of a well-formed line, parted by blanks. Eight need no memory, as those of a call but for
+/// `build`.
+pub fn add_words<'a>(words: &mut SmallVec<&'a [u8], 8>, line: &'a [u8]) -> Result<(), LineFault>
+    ensures added { OnOk result (map (λ word. word.now) words.new.items
+        ≡ map (λ word. word.now) words.old.items ++ words_of line.now) }
+    ensures formed { MatchResult result (λ _. is_well_formed line.now ≡ true)
+        (λ fault. fault ≡ Syntax → is_well_formed line.now ≡ false) }
 {
-    let mut words = SmallVec::new(alloc);
-    let mut rest = line;
-    while let Some((word, others)) = cut_at_blank(rest) {
-        add(&mut words, word)?;
-        rest = others;
+    if line.len() > LONGEST_LINE {
+        return Err(LineFault::Syntax);
     }
-    add(&mut words, rest)?;
-    Ok(words)
-}
-
-/// What stands before the first blank, and what stands after it.
-fn cut_at_blank(line: &[u8]) -> Option<(&[u8], &[u8])>
-    ensures parts { MatchOption result (slice_split is_blank line.now ≡ line.now ∷ [])
-        (λ parts. slice_split is_blank line.now ≡ parts.0.now ∷ slice_split is_blank parts.1.now) }
-    ensures shorter { IfSome result (λ parts. length parts.1.now < length line.now) }
-{
-    match first_blank(line) {
-        Some(at) => Some((&line[..at], &line[at + 1..])),
-        None => None,
+    let mut start = 0;
+    for (at, byte) in line.iter().enumerate() {
+        if byte.is_ascii_graphic() {
+            continue;
+        }
+        if !is_blank(*byte) {
+            return Err(LineFault::Syntax);
+        }
+        add(words, &line[start..at])?;
+        start = at + 1;
     }
-}
-
-/// Where the first blank is.
-fn first_blank(line: &[u8]) -> Option<usize>
-    ensures { result ≡ position is_blank line.now }
-{
-    line.iter().position(|byte| is_blank(*byte))
+    add(words, &line[start..])?;
+    Ok(())
 }
 
 /// Adds what stands between two blanks, if anything does.
@@ -57,9 +51,15 @@ fn add<'a>(words: &mut SmallVec<&'a [u8], 8>, word: &'a [u8]) -> Result<(), NoMe
     ensures { OnOk result (map (λ word. word.now) words.new.items
         ≡ map (λ word. word.now) words.old.items ++ filter (λ word. not (length word == 0)) (word.now ∷ [])) }
 {
-    if !word.is_empty() {
-        words.push(word)?;
+    if word.is_empty() {
+        return Ok(());
     }
+    // Most lines have few words, and `push` would look twice at where they lie.
+    if !words.spilled() && words.len() < words.inline_size() {
+        words.push_reserved(word);
+        return Ok(());
+    }
+    words.push(word)?;
     Ok(())
 }
 

@@ -19,13 +19,13 @@ returns-then-not-may_load c =
       | inr malformed ↦ rw malformed refl
     ])
 
-pub returns-then-not-is_well_formed : goal.returns-then-not-is_well_formed
-returns-then-not-is_well_formed c =
-    let malformed : is_well_formed c.args.line.now ≡ false = search rules in
+pub returns-in-Err-Syntax : goal.returns-in-Err-Syntax
+returns-in-Err-Syntax c =
+    let malformed : is_well_formed c.args.line.now ≡ false = c.in-Err-Syntax.ensures.formed c.in-Err-Syntax.field-0-is in
     sym (rw malformed at (line_file c.args.line.now))
 
-pub returns : goal.returns
-returns c =
-    let formed : is_well_formed c.args.line.now ≡ true = search rules in
+pub returns-in-Ok : goal.returns-in-Ok
+returns-in-Ok c =
+    let formed : is_well_formed c.args.line.now ≡ true = c.in-Ok.ensures.formed in
     let words : map (λ word. word.now) c.as_slice.result.now ≡ words_of c.args.line.now = search rules in
     c.file_of.ensures ∙ ap (λ words. option_and_then file_named (command_of words)) words ∙ sym (rw formed at (line_file c.args.line.now))
