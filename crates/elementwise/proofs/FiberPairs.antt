@@ -1,5 +1,5 @@
 -- Fibers walked side by side for the positions that both sides have.
-use Rattle.std.proofs.Common.{◌≡◌, ◌≢◌, ℕ, ◌+◌, ◌-◌, ◌<◌, ◌≤◌, List, [], ◌∷◌, ◌++◌, length, get_or, take, refl, sym, ◌∙◌, ap, subst, arith, append_assoc, length-append, length-take}
+use Rattle.std.proofs.Common.{◌≡◌, ◌≢◌, ℕ, ◌+◌, ◌-◌, ◌<◌, ◌≤◌, List, [], ◌∷◌, ◌++◌, length, take, refl, sym, ◌∙◌, ap, subst, arith, append_assoc, length-append, length-take}
 use Rattle.std.specs.Prelude.{replicate}
 use Rattle.std.specs.List.{All, zip}
 use Rattle.std.proofs.lemmas.List.{append-nil, length-map}
@@ -7,7 +7,7 @@ use Rattle.std.proofs.lemmas.List.Elements.{All-nil, All-cons, All-head, All-app
 use Rattle.std.proofs.lemmas.Slice.Zip.{length-zip}
 use Rattle.lanes.specs.Lists.{zip_with}
 use Rattle.model.specs.declared.entry.Entry.{Entry}
-use Rattle.model.specs.Entries.{InOrder, Precedes, entry_at, word_at}
+use Rattle.model.specs.Entries.{InOrder, word_at}
 use Rattle.store.specs.declared.lists.FiberEnd.{FiberEnd}
 use Rattle.store.specs.Fibers.{AreApart, AreFlat, Rises, end_at, entries_along, entries_from, last_end, outers, placed}
 use Rattle.store.proofs.FlatLaws.{last_more, placed_at_one, placed_both, rises_more}
@@ -15,7 +15,7 @@ use Rattle.store.proofs.Order.{all_append_right, all_pairs_append, all_pairs_con
 use Rattle.store.proofs.PartLaws.{word_before, word_behind}
 use Rattle.store.proofs.Places.{length_outers, outers_append}
 use Rattle.elementwise.specs.Meets.{AreMet, met}
-use Rattle.elementwise.proofs.Meets.{met_all, met_append, met_none, met_order, met_same}
+use Rattle.elementwise.proofs.Meets.{met_append, met_none, met_order, met_same}
 
 -- x and y are left of a and b, and so many positions were found
 pub record IsPaired (a b x y : List Entry) (count : ℕ) (ends : List FiberEnd) (inner lefts rights : List ℕ) (room : ℕ) : Type 0 where
@@ -219,13 +219,3 @@ pub entries_met : (f : ℕ → ℕ → ℕ) (a b : List Entry) (count : ℕ) (en
     → words ≡ zip_with f (take count lefts) (take count rights)
     → entries_from 0 ends (take count inner) words ≡ met f a b
 entries_met f a b count ends inner lefts rights words m is = rw is (m.each f)
-
--- what stands in front of one side stands in front of what both have
-pub order_met : (f : ℕ → ℕ → ℕ) (front a b : List Entry) (count : ℕ) (ends : List FiberEnd)
-    (inner lefts rights words : List ℕ) → AreMet a b count ends inner lefts rights
-    → words ≡ zip_with f (take count lefts) (take count rights)
-    → All (λ e. All (Precedes e) a) front
-    → All (λ e. All (Precedes e) (entries_from 0 ends (take count inner) words)) front
-order_met f front a b count ends inner lefts rights words m is before n d within =
-    subst (All (Precedes (get_or front n d))) (sym (entries_met f a b count ends inner lefts rights words m is))
-    (met_all f (λ row col. Precedes (get_or front n d) (entry_at row col 0)) a b (before n d within))

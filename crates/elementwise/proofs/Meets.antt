@@ -17,14 +17,12 @@ use Rattle.store.proofs.Order.{all_pairs_cons, all_pairs_head, all_pairs_nil, al
 use Rattle.algebra.specs.Operators.{eval_of}
 use Rattle.algebra.specs.declared.binary.BinaryOp.{BinaryOp}
 use Rattle.model.specs.Object.{Content}
-use Rattle.store.specs.declared.lists.FiberLists.{FiberLists}
-use Rattle.store.specs.Parts.{HasPart}
 use Rattle.store.specs.Stored.{AreIn, along}
 use Rattle.store.proofs.Contents.{as_column, by_rows, word_at-transposed}
 use Rattle.store.proofs.PartLaws.{LiesIn, are_in, lies_in}
 use Rattle.masks.specs.Joins.{HaveSamePlaces, beside}
 use Rattle.masks.proofs.SamePlaces.{beside_both}
-use Rattle.elementwise.specs.Meets.{HasMeet, met, met_content}
+use Rattle.elementwise.specs.Meets.{met, met_content}
 
 -- what is made of an entry, by the word of the other side
 abbrev pub meets : (ℕ → ℕ → ℕ) → Entry → Option ℕ → List Entry → List Entry
@@ -141,20 +139,18 @@ beside_along f cols a b i j same =
     ]
 
 -- the intersection of the rows of two sides, from that of their fibers
-pub part_met : (op : BinaryOp) (first past cols : ℕ) (a b : List Entry) (c d : Content) (old new : FiberLists)
-    → HasMeet op a b old new → AreIn first past cols (along cols a)
+pub rows_met : (op : BinaryOp) (first past cols : ℕ) (a b part : List Entry) (c d : Content)
+    → part ≡ met (eval_of op.kind op.domain) a b → AreIn first past cols (along cols a)
     → ((i j : ℕ) → first ≤ i → i < past → word_at (along cols a) i j ≡ c i j)
     → ((i j : ℕ) → first ≤ i → i < past → word_at (along cols b) i j ≡ d i j)
-    → HasPart (met_content op c d) first past cols old new
-part_met op first past cols a b c d old new h in_a words_a words_b =
+    → AreIn first past cols (along cols part)
+    × ((i j : ℕ) → first ≤ i → i < past → word_at (along cols part) i j ≡ met_content op c d i j)
+rows_met op first past cols a b part c d is in_a words_a words_b =
     let f = eval_of op.kind op.domain in
-    record {
-      flat = h.flat;
-      part = met f a b;
-      whole = h.whole;
-      inside = are_in first past cols (met f a b) (met_all f (LiesIn (eqb cols 1) first past cols) a b (lies_in first past cols a in_a));
-      words = λ i j low high. met_along f cols a b i j ∙ rw (words_a i j low high, words_b i j low high) refl;
-    }
+    rw is (
+      are_in first past cols (met f a b) (met_all f (LiesIn (eqb cols 1) first past cols) a b (lies_in first past cols a in_a)),
+      λ i j low high. met_along f cols a b i j ∙ rw (words_a i j low high, words_b i j low high) refl,
+    )
 
 -- ---- fibers with the same inner indices
 

@@ -1,5 +1,5 @@
 -- The entries that two lists have at the same positions.
-use Rattle.std.specs.Prelude.{ℕ, ◌≡◌, List, ◌++◌, take}
+use Rattle.std.specs.Prelude.{ℕ, ◌≡◌, List, take}
 use Rattle.std.specs.List.{filter_map}
 use Rattle.std.specs.Option.{option_map}
 use Rattle.algebra.specs.Operators.{eval_of}
@@ -10,8 +10,7 @@ use Rattle.model.specs.ElementWise.{of_both}
 use Rattle.model.specs.Entries.{entry_at, word_at}
 use Rattle.model.specs.Object.{Content}
 use Rattle.store.specs.declared.lists.FiberEnd.{FiberEnd}
-use Rattle.store.specs.declared.lists.FiberLists.{FiberLists}
-use Rattle.store.specs.Fibers.{AreApart, AreFlat, Rises, entries_along, entries_in, last_end, outers, placed}
+use Rattle.store.specs.Fibers.{AreApart, AreFlat, Rises, entries_along, entries_from, last_end, outers, placed}
 
 -- what a function gives for both words at each position of a that b has too
 abbrev pub met : (ℕ → ℕ → ℕ) → List Entry → List Entry → List Entry
@@ -37,7 +36,7 @@ pub record AreMet (a b : List Entry) (count : ℕ) (ends : List FiberEnd) (inner
   pub each : (f : ℕ → ℕ → ℕ) → placed (outers 0 ends) (take count inner)
       (zip_with f (take count lefts) (take count rights)) ≡ met f a b
 
--- the new lists have what an operator gives for the entries of two sides behind what the old ones have
-pub record HasMeet (op : BinaryOp) (a b : List Entry) (old new : FiberLists) : Type 0 where
-  pub flat : AreFlat new.ends.items new.inner.items new.words.items
-  pub whole : entries_in new ≡ entries_in old ++ met (eval_of op.kind op.domain) a b
+-- fibers that lie flat have what an operator gives for the entries of two sides
+pub record HasMeet (op : BinaryOp) (a b : List Entry) (ends : List FiberEnd) (inner words : List ℕ) : Type 0 where
+  pub flat : AreFlat ends inner words
+  pub whole : entries_from 0 ends inner words ≡ met (eval_of op.kind op.domain) a b

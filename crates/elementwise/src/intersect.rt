@@ -10,7 +10,7 @@ ghost use Rattle.store.specs.Parts.{HasPart, HasRows};
 ghost use Rattle.store.specs.Stored.{AreIn, along, block_content, content_of};
 ghost use Rattle.elementwise.specs.Meets.{HasMeet, met_content};
 
-use crate::pairs::Pairs;
+use crate::pairs::{Pairs, pair_fibers};
 use algebra::BinaryOp;
 use lanes::zip_words;
 use masks::{Joining, append_fibers, are_alike, join_alike};
@@ -41,38 +41,39 @@ pub fn intersect_rows(
         ≡ of_both (eval_of op.kind op.domain) (content_of a.now i j) (content_of b.now i j)) }
 {
     let (first, past) = (range.start, range.end);
-    let left_count = a.fibers_in(first..past).len();
-    let right_count = b.fibers_in(first..past).len();
-    let room = left_count.min(right_count);
-    let lists = intersect_lists(alloc, a, b, op, first..past, room)?;
+    let lists = intersect_lists(alloc, a, b, op, first..past)?;
     Ok(RowBlock::of_fibers(first, past, a.cols(), lists))
 }
 
-/// The lists of the intersection of the rows in a range. There is room for so many entries where the sides have
-/// entries at different positions.
+/// The lists of the intersection of the rows in a range.
 fn intersect_lists(
     alloc: Global,
     a: &Store,
     b: &Store,
     op: BinaryOp,
     range: Range<u64>,
-    room: usize,
 ) -> Result<FiberLists, NoMemory>
     requires cols { a.now.cols ≡ b.now.cols }
     requires range { range.start ≤ range.end }
-    ensures { IfOk result (λ lists. HasRows (met_content op (content_of a.now) (content_of b.now))
-        range.start range.end a.now.cols lists) }
+    ensures { IfOk result (HasRows (met_content op (content_of a.now) (content_of b.now))
+        range.start range.end a.now.cols) }
 {
     let lefts = a.fibers_in(range.start..range.end);
     let rights = b.fibers_in(range.start..range.end);
     if are_alike(&lefts, &rights) {
         return join_alike(alloc, &lefts, &rights, Joining::Accumulate(op));
     }
-    intersect_parts(alloc, a, b, op, range, room)
+    if lefts.len().max(rights.len()) > PART {
+        let room = lefts.len().min(rights.len());
+        return intersect_parts(alloc, a, b, op, range, room);
+    }
+    let mut pairs = Pairs::new(alloc);
+    let count = intersect_fibers(&mut pairs, lefts, rights, op)?;
+    Ok(pairs.into_lists(count))
 }
 
-/// The same, part by part. There is room for so many entries from
-/// the start, so that none is moved; what isn't used is let go.
+/// The same, part by part. There is room for so many entries from the start, so that none is moved; what isn't used
+/// is let go.
 fn intersect_parts(
     alloc: Global,
     a: &Store,
@@ -114,47 +115,30 @@ fn intersect_part(
         range.start range.end a.now.cols lists.old lists.new) }
 {
     let (first, past) = (range.start, range.end);
-    intersect_fibers(
-        lists,
-        pairs,
-        a.fibers_in(first..past),
-        b.fibers_in(first..past),
-        op,
-    )
+    let (lefts, rights) = (a.fibers_in(first..past), b.fibers_in(first..past));
+    let count = intersect_fibers(pairs, lefts, rights, op)?;
+    let FiberLists { ends, inner, words } = &pairs.lists;
+    append_fibers(lists, ends, &inner[..count], words)
 }
 
-/// Puts the intersection of two sides' fibers behind those in the lists.
+/// Makes the first pairs the intersection of two sides' fibers, and answers how many there are.
 fn intersect_fibers(
-    lists: &mut FiberLists,
     pairs: &mut Pairs,
     left: Fibers<'_>,
     right: Fibers<'_>,
     op: BinaryOp,
-) -> Result<(), NoMemory>
-    requires flat { AreFlat lists.old.ends.items lists.old.inner.items lists.old.words.items }
-    requires before { All (λ e. All (Precedes e) left.entries) (entries_in lists.old) }
-    ensures { OnOk result (HasMeet op left.entry.entries right.entry.entries lists.old lists.new) }
+) -> Result<usize, NoMemory>
+    ensures bound { IfOk result (λ count. count ≤ length pairs.new.lists.inner.items) }
+    ensures met { IfOk result (λ count. HasMeet op left.entry.entries right.entry.entries
+        pairs.new.lists.ends.items (take count pairs.new.lists.inner.items) pairs.new.lists.words.items) }
 {
-    let count = pairs.find(left, right)?;
-    combine_pairs(pairs, count, op)?;
-    append_fibers(lists, &pairs.ends, &pairs.inner[..count], &pairs.words)
-}
-
-/// Makes the words of the first pairs by an operator.
-fn combine_pairs(pairs: &mut Pairs, count: usize, op: BinaryOp) -> Result<(), NoMemory>
-    requires lefts { count ≤ length pairs.old.lefts.items }
-    requires rights { count ≤ length pairs.old.rights.items }
-    ensures ends { pairs.new.ends.items ≡ pairs.old.ends.items }
-    ensures inner { pairs.new.inner.items ≡ pairs.old.inner.items }
-    ensures words { OnOk result (pairs.new.words.items ≡ zip_with (eval_of op.kind op.domain)
-        (take count pairs.old.lefts.items) (take count pairs.old.rights.items)) }
-{
-    pairs.words.resize(count, 0)?;
-    zip_words(
-        op,
-        &pairs.lefts[..count],
-        &pairs.rights[..count],
-        &mut pairs.words,
-    );
-    Ok(())
+    let most = left.len();
+    pairs.make_room(most)?;
+    let Pairs { lists, sources } = pairs;
+    let (lefts, rights) = sources[..2 * most].split_at_mut(most);
+    let FiberLists { ends, inner, words } = lists;
+    let count = pair_fibers(left, right, ends, inner, lefts, rights)?;
+    words.resize(count, 0)?;
+    zip_words(op, &lefts[..count], &rights[..count], words);
+    Ok(count)
 }

@@ -1,76 +1,64 @@
 //! Positions that two sides have both, with the words of each side by side.
-ghost use Rattle.std.specs.Prelude.{◌≡◌, ℕ, ◌<◌, ◌≤◌, length, take, [], IfOk, OnOk};
+ghost use Rattle.std.specs.Prelude.{◌≡◌, ℕ, ◌<◌, ◌≤◌, ◌*◌, ◌^◌, length, take, [], IfOk, OnOk};
 ghost use Rattle.std.specs.List.{AllPairs};
 ghost use Rattle.lanes.specs.Lists.{zip_with};
-ghost use Rattle.model.specs.Entries.{InOrder};
 ghost use Rattle.store.specs.Fibers.{entries_along};
 ghost use Rattle.elementwise.specs.Meets.{AreFiberPairs, AreMet};
 
 use model::NoMemory;
 use std::alloc::Global;
-use store::{FiberEnd, Fibers};
+use store::{FiberEnd, FiberLists, Fibers};
 
-/// Positions that two sides have both, in memory that one search after another uses: where their fibers end,
-/// and of each its inner index, the word of each side, and the word that is made of these.
+/// Positions that two sides have both, in memory that one search after another uses.
 #[derive(Drop)]
 pub(crate) struct Pairs {
-    pub(crate) ends: Vec<FiberEnd>,
-    pub(crate) inner: Vec<u64>,
-    pub(crate) lefts: Vec<u64>,
-    pub(crate) rights: Vec<u64>,
-    pub(crate) words: Vec<u64>,
+    /// The fibers of the positions, with the words that are made. Behind its positions the list of inner indices has
+    /// room.
+    pub(crate) lists: FiberLists,
+    /// What the words are made of: the left words, and the right ones.
+    pub(crate) sources: Vec<u64>,
 }
 
 impl Pairs {
     /// No positions. They take no memory.
     pub(crate) fn new(alloc: Global) -> Pairs {
         Pairs {
-            ends: Vec::new(alloc),
-            inner: Vec::new(alloc),
-            lefts: Vec::new(alloc),
-            rights: Vec::new(alloc),
-            words: Vec::new(alloc),
+            lists: FiberLists::new(alloc),
+            sources: Vec::new(alloc),
         }
     }
 
-    /// Finds the positions that both sides have, and answers how many there are: the first of the lists.
-    pub(crate) fn find(&mut self, left: Fibers<'_>, right: Fibers<'_>) -> Result<usize, NoMemory>
-        ensures order { InOrder left.entry.entries }
-        ensures inner_room { IfOk result (λ count. count ≤ length self.new.inner.items) }
-        ensures lefts_room { IfOk result (λ count. count ≤ length self.new.lefts.items) }
-        ensures rights_room { IfOk result (λ count. count ≤ length self.new.rights.items) }
-        ensures met { IfOk result (λ count. AreMet left.entry.entries right.entry.entries count
-            self.new.ends.items self.new.inner.items self.new.lefts.items self.new.rights.items) }
+    /// Makes room for so many positions, and forgets where fibers end.
+    pub(crate) fn make_room(&mut self, count: usize) -> Result<(), NoMemory>
+        requires { 2 * count < 2 ^ 64 }
+        ensures ends { self.new.lists.ends.items ≡ [] }
+        ensures inner { OnOk result (length self.new.lists.inner.items ≡ count) }
+        ensures sources { OnOk result (2 * count ≤ length self.new.sources.items) }
     {
-        self.make_room(left.len())?;
-        pair_fibers(
-            left,
-            right,
-            &mut self.ends,
-            &mut self.inner,
-            &mut self.lefts,
-            &mut self.rights,
-        )
+        self.lists.ends.clear();
+        self.lists.inner.resize(count, 0)?;
+        if self.sources.len() < 2 * count {
+            self.sources.resize(2 * count, 0)?;
+        }
+        Ok(())
     }
 
-    /// Makes room for so many positions, and forgets where fibers end.
-    fn make_room(&mut self, count: usize) -> Result<(), NoMemory>
-        ensures ends { self.new.ends.items ≡ [] }
-        ensures inner { OnOk result (length self.new.inner.items ≡ count) }
-        ensures lefts { OnOk result (length self.new.lefts.items ≡ count) }
-        ensures rights { OnOk result (length self.new.rights.items ≡ count) }
+    /// The fibers of so many positions; room that they don't use is let go.
+    pub(crate) fn into_lists(self, count: usize) -> FiberLists
+        ensures ends { result.ends.items ≡ self.lists.ends.items }
+        ensures inner { result.inner.items ≡ take count self.lists.inner.items }
+        ensures words { result.words.items ≡ self.lists.words.items }
     {
-        self.ends.clear();
-        self.inner.resize(count, 0)?;
-        self.lefts.resize(count, 0)?;
-        self.rights.resize(count, 0)?;
-        Ok(())
+        let mut lists = self.lists;
+        lists.inner.truncate(count);
+        lists.shrink_to_fit();
+        lists
     }
 }
 
 /// Finds the positions that fibers have on both sides, one outer index after another, and answers how many
 /// there are.
-fn pair_fibers<'a>(
+pub(crate) fn pair_fibers<'a>(
     mut left: Fibers<'a>,
     mut right: Fibers<'a>,
     ends: &mut Vec<FiberEnd>,

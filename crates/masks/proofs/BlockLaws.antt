@@ -6,6 +6,9 @@ use Rattle.std.proofs.lemmas.Bool.Decides.{nat_tests}
 use Rattle.std.proofs.lemmas.List.Elements.{All-filter}
 use Rattle.model.specs.declared.entry.Entry.{Entry}
 use Rattle.model.specs.Entries.{entry_at, word_at}
+use Rattle.model.specs.Object.{Content}
+use Rattle.store.specs.declared.lists.FiberLists.{FiberLists}
+use Rattle.store.specs.Parts.{HasRows}
 use Rattle.store.specs.Stored.{AreIn, along}
 use Rattle.store.proofs.Contents.{as_column, by_rows, length_along, word_at-transposed}
 use Rattle.store.proofs.PartLaws.{LiesIn, are_in, lies_in}
@@ -73,6 +76,15 @@ no_fibers_word cols es i j word none is = sym is ∙ no_word (along cols es) i j
 
 pub empty_fibers : (cols : ℕ) (es all : List Entry) → length es ≡ 0 → along cols es ≡ all → length all ≡ 0
 empty_fibers cols es all none is = sym (ap length is) ∙ length_along cols es ∙ none
+
+-- the rows of an equal map
+pub rows_equal : (c d : Content) (first past cols : ℕ) (lists : FiberLists) → HasRows c first past cols lists
+    → ((i j : ℕ) → first ≤ i → i < past → c i j ≡ d i j) → HasRows d first past cols lists
+rows_equal c d first past cols lists rows same = record {
+  flat = rows.flat;
+  inside = rows.inside;
+  words = λ i j low high. rows.words i j low high ∙ same i j low high;
+}
 
 -- where there is an entry there is a row
 pub some_between : (first past cols : ℕ) (es all : List Entry) → 0 < length es → along cols es ≡ all

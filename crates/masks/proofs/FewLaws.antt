@@ -11,9 +11,7 @@ use Rattle.model.specs.declared.entry.Entry.{Entry}
 use Rattle.model.specs.ElementWise.{of_either}
 use Rattle.model.specs.Entries.{InOrder, Precedes, entry_at, word_at}
 use Rattle.store.specs.declared.lists.FiberEnd.{FiberEnd}
-use Rattle.store.specs.Fibers.{AreFlat, entries_along, entries_from, entries_in, outers}
-use Rattle.store.specs.declared.lists.FiberLists.{FiberLists}
-use Rattle.store.specs.Parts.{HasRows}
+use Rattle.store.specs.Fibers.{AreFlat, entries_along, entries_from, outers}
 use Rattle.store.specs.Stored.{AreIn, along}
 use Rattle.model.specs.Object.{Content}
 use Rattle.masks.proofs.Joins.{join_along}
@@ -443,14 +441,13 @@ join_inside by P a b part here all_a all_b k d within =
     (λ v is. word_holds P a e.row e.col v all_a is) (λ v is. word_holds P b e.row e.col v all_b is)
 
 -- the rows of the join of both sides
-pub rows_joined : (by : Joining) (c d : Content) (first past cols : ℕ) (a b : List Entry) (lists : FiberLists)
-    → AreFlat lists.ends.items lists.inner.items lists.words.items → IsJoin by a b (entries_in lists)
+pub rows_joined : (by : Joining) (c d : Content) (first past cols : ℕ) (a b part : List Entry) → IsJoin by a b part
     → AreIn first past cols (along cols a) → AreIn first past cols (along cols b)
     → ((i j : ℕ) → first ≤ i → i < past → word_at (along cols a) i j ≡ c i j)
     → ((i j : ℕ) → first ≤ i → i < past → word_at (along cols b) i j ≡ d i j)
-    → HasRows (joined by c d) first past cols lists
-rows_joined by c d first past cols a b lists flat here in_a in_b words_a words_b = record {
-  flat = flat;
-  inside = are_in first past cols (entries_in lists) (join_inside by (LiesIn (eqb cols 1) first past cols) a b (entries_in lists) here (lies_in first past cols a in_a) (lies_in first past cols b in_b));
-  words = λ i j low high. join_along (alone_of by) (both_of by) cols a b (entries_in lists) here.words i j ∙ rw (words_a i j low high, words_b i j low high) refl;
-}
+    → AreIn first past cols (along cols part)
+    × ((i j : ℕ) → first ≤ i → i < past → word_at (along cols part) i j ≡ joined by c d i j)
+rows_joined by c d first past cols a b part here in_a in_b words_a words_b = (
+  are_in first past cols part (join_inside by (LiesIn (eqb cols 1) first past cols) a b part here (lies_in first past cols a in_a) (lies_in first past cols b in_b)),
+  λ i j low high. join_along (alone_of by) (both_of by) cols a b part here.words i j ∙ rw (words_a i j low high, words_b i j low high) refl,
+)

@@ -10,7 +10,7 @@ use Rattle.algebra.specs.Value.{cast_of}
 use Rattle.lanes.specs.Lists.{united, united_word, zip_with}
 use Rattle.std.proofs.lemmas.Bool.Decides.{nat_tests}
 use Rattle.std.proofs.lemmas.List.{ext_get_or, get_or-map, get_or-set_other, get_or-set_same, length-map}
-use Rattle.std.proofs.lemmas.List.Elements.{All-nil, All-cons, All-head, All-tail, All-map}
+use Rattle.std.proofs.lemmas.List.Elements.{All-head, All-tail, All-map}
 use Rattle.model.specs.declared.entry.Entry.{Entry}
 use Rattle.model.specs.Entries.{InOrder, Precedes, entry_at, word_at}
 use Rattle.model.specs.ElementWise.{of_either}
@@ -101,27 +101,6 @@ joined_words alone f (p ∷ ps) i j order =
       | inr away ↦ rw (away_from 2 (λ p. p.left) i j p ps away, away_from 1 (λ p. p.right) i j p ps away, away) rest
     ]
 
--- what holds of each position on both sides holds of each place
-pub all_places : (alone : ℕ → ℕ) (f : ℕ → ℕ → ℕ) (P : ℕ → ℕ → Type 0) (ps : List Place)
-    → All (λ e. P e.row e.col) (filter_map left_entry ps) → All (λ e. P e.row e.col) (filter_map right_entry ps)
-    → All (λ e. P e.row e.col) (map (entry_of alone f) ps)
-all_places alone f P [] h g = All-nil (λ e. P e.row e.col)
-all_places alone f P (p ∷ ps) h g =
-    let Q : Entry → Type 0 = λ e. P e.row e.col in
-    elim (cases_Bool (eqb p.side 2)) [
-      | inl two ↦
-          let left : All Q (filter_map left_entry ps) = rw two at h in
-          let right : All Q (entry_at p.row p.col p.right ∷ filter_map right_entry ps) = rw (not_both p.side two) at g in
-          All-cons Q (entry_of alone f p) (map (entry_of alone f) ps) (All-head Q (entry_at p.row p.col p.right) (filter_map right_entry ps) right) (all_places alone f P ps left (All-tail Q (entry_at p.row p.col p.right) (filter_map right_entry ps) right))
-      | inr other ↦
-          let left : All Q (entry_at p.row p.col p.left ∷ filter_map left_entry ps) = rw other at h in
-          let right : All Q (filter_map right_entry ps) = elim (cases_Bool (eqb p.side 1)) [
-            | inl one ↦ rw one at g
-            | inr both ↦ All-tail Q (entry_at p.row p.col p.right) (filter_map right_entry ps) (rw both at g)
-          ] in
-          All-cons Q (entry_of alone f p) (map (entry_of alone f) ps) (All-head Q (entry_at p.row p.col p.left) (filter_map left_entry ps) left) (all_places alone f P ps (All-tail Q (entry_at p.row p.col p.left) (filter_map left_entry ps) left) right)
-    ]
-
 pub places_in_order : (alone : ℕ → ℕ) (f : ℕ → ℕ → ℕ) (ps : List Place) → Stand ps → InOrder (map (entry_of alone f) ps)
 places_in_order alone f [] h = all_pairs_nil Precedes
 places_in_order alone f (p ∷ ps) h =
@@ -156,14 +135,6 @@ pub placed_order : (alone : ℕ → ℕ) (f : ℕ → ℕ → ℕ) (a b : List E
     (m : IsMerge a b rows cols lefts rights sides) → AreJoined alone f sides lefts rights words
     → InOrder (placed rows cols words)
 placed_order alone f a b rows cols lefts rights sides words m u = subst InOrder (sym (placed_is alone f a b rows cols lefts rights sides words m u)) (places_in_order alone f m.places m.order)
-
-pub placed_all : (alone : ℕ → ℕ) (f : ℕ → ℕ → ℕ) (P : ℕ → ℕ → Type 0) (a b : List Entry)
-    (rows cols lefts rights sides words : List ℕ) (m : IsMerge a b rows cols lefts rights sides)
-    → AreJoined alone f sides lefts rights words → All (λ e. P e.row e.col) a → All (λ e. P e.row e.col) b
-    → All (λ e. P e.row e.col) (placed rows cols words)
-placed_all alone f P a b rows cols lefts rights sides words m u h g =
-    subst (All (λ e. P e.row e.col)) (sym (placed_is alone f a b rows cols lefts rights sides words m u))
-    (all_places alone f P m.places (subst (All (λ e. P e.row e.col)) (sym m.left) h) (subst (All (λ e. P e.row e.col)) (sym m.right) g))
 
 pub placed_words : (alone : ℕ → ℕ) (f : ℕ → ℕ → ℕ) (a b : List Entry) (rows cols lefts rights sides words : List ℕ)
     (m : IsMerge a b rows cols lefts rights sides) → AreJoined alone f sides lefts rights words → (i j : ℕ)

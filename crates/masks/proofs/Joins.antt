@@ -1,23 +1,18 @@
 -- The lists of a join are fibers.
-use Rattle.std.proofs.Common.{◌≡◌, ℕ, ◌<◌, ◌≤◌, eqb, List, ◌++◌, length, get_or, take, drop, refl, sym, ◌∙◌, inl, inr, arith, length-take, Result, Ok, Err, IfOk, OnOk}
-use Rattle.std.specs.List.{All}
+use Rattle.std.proofs.Common.{◌≡◌, ℕ, ◌≤◌, eqb, List, ◌++◌, length, take, drop, refl, sym, ◌∙◌, inl, inr, arith, length-take, Result, Ok, Err, IfOk, OnOk}
 use Rattle.std.proofs.Math.Seq.{drop-append_seam, take-append_seam}
 use Rattle.std.proofs.lemmas.Bool.{cases_Bool}
 use Rattle.model.specs.declared.entry.Entry.{Entry}
 use Rattle.model.specs.ElementWise.{of_either}
-use Rattle.model.specs.Entries.{Precedes, entry_at, word_at}
-use Rattle.model.specs.Object.{Content}
+use Rattle.model.specs.Entries.{word_at}
 use Rattle.store.specs.declared.lists.FiberEnd.{FiberEnd}
-use Rattle.store.specs.declared.lists.FiberLists.{FiberLists}
 use Rattle.store.specs.Fibers.{AreFlat, entries_from, outers}
-use Rattle.store.specs.Parts.{HasPart}
-use Rattle.store.specs.Stored.{AreIn, along}
+use Rattle.store.specs.Stored.{along}
 use Rattle.store.proofs.Contents.{as_column, by_rows, word_at-transposed}
-use Rattle.store.proofs.PartLaws.{LiesIn, are_in, lies_in}
 use Rattle.masks.specs.declared.join.Joining.{Joining}
-use Rattle.masks.specs.Joins.{AreJoined, HasJoin, alone_of, both_of, joined}
+use Rattle.masks.specs.Joins.{AreJoined, HasJoin, alone_of, both_of}
 use Rattle.masks.specs.Merges.{AreMerged}
-use Rattle.masks.proofs.JoinedWords.{lengths, placed_all, placed_order, placed_words}
+use Rattle.masks.proofs.JoinedWords.{lengths, placed_order, placed_words}
 
 -- the first places of a merge, so many, lie in lists of their own
 pub flat_join : (alone : ℕ → ℕ) (f : ℕ → ℕ → ℕ) (a b : List Entry) (count : ℕ) (ends : List FiberEnd)
@@ -46,23 +41,21 @@ pub words_join : (alone : ℕ → ℕ) (f : ℕ → ℕ → ℕ) (a b : List Ent
     (word_at b i j)
 words_join alone f a b count ends inner lefts rights sides words m u = placed_words alone f a b (outers 0 ends) (take count inner) (take count lefts) (take count rights) (take count sides) words m.merge u
 
-pub inside_join : (alone : ℕ → ℕ) (f : ℕ → ℕ → ℕ) (a b : List Entry) (count : ℕ) (ends : List FiberEnd)
+-- the first places of a merge, so many, with the words of the join
+pub places_joined : (by : Joining) (a b : List Entry) (count : ℕ) (ends : List FiberEnd)
     (inner lefts rights sides words : List ℕ) → AreMerged a b count ends inner lefts rights sides
-    → AreJoined alone f (take count sides) (take count lefts) (take count rights) words → (first past cols : ℕ)
-    → AreIn first past cols (along cols a) → AreIn first past cols (along cols b)
-    → AreIn first past cols (along cols (entries_from 0 ends (take count inner) words))
-inside_join alone f a b count ends inner lefts rights sides words m u first past cols in_a in_b =
-    are_in first past cols (entries_from 0 ends (take count inner) words)
-    (placed_all alone f (LiesIn (eqb cols 1) first past cols) a b (outers 0 ends) (take count inner) (take count lefts) (take count rights) (take count sides) words m.merge u (lies_in first past cols a in_a) (lies_in first past cols b in_b))
-
--- what stands in front of both sides stands in front of their join
-pub order_join : (alone : ℕ → ℕ) (f : ℕ → ℕ → ℕ) (front a b : List Entry) (count : ℕ) (ends : List FiberEnd)
-    (inner lefts rights sides words : List ℕ) → AreMerged a b count ends inner lefts rights sides
-    → AreJoined alone f (take count sides) (take count lefts) (take count rights) words
-    → All (λ e. All (Precedes e) a) front → All (λ e. All (Precedes e) b) front
-    → All (λ e. All (Precedes e) (entries_from 0 ends (take count inner) words)) front
-order_join alone f front a b count ends inner lefts rights sides words m u before_a before_b n d within =
-    placed_all alone f (λ row col. Precedes (get_or front n d) (entry_at row col 0)) a b (outers 0 ends) (take count inner) (take count lefts) (take count rights) (take count sides) words m.merge u (before_a n d within) (before_b n d within)
+    → count ≤ length inner
+    → AreJoined (alone_of by) (both_of by) (take count sides) (take count lefts) (take count rights) words
+    → HasJoin by a b ends (take count inner) words
+places_joined by a b count ends inner lefts rights sides words m room u =
+    let flat = flat_join (alone_of by) (both_of by) a b count ends inner lefts rights sides words m room u in
+    record {
+      flat = flat;
+      joined = record {
+        order = flat.order;
+        words = words_join (alone_of by) (both_of by) a b count ends inner lefts rights sides words m u;
+      };
+    }
 
 pub join_along : (alone : ℕ → ℕ) (f : ℕ → ℕ → ℕ) (cols : ℕ) (a b es : List Entry)
     → ((i j : ℕ) → word_at es i j ≡ of_either alone alone f (word_at a i j) (word_at b i j))
@@ -90,17 +83,3 @@ if_ok_both (Err e) P Q R f p q = tt
 pub on_ok_both : {T E P Q R : Type 0} (r : Result T E) → (P → Q → R) → OnOk r P → OnOk r Q → OnOk r R
 on_ok_both (Ok x) f p q = f p q
 on_ok_both (Err e) f p q = tt
-
--- the join of the rows of two sides, from that of their fibers
-pub part_joined : (by : Joining) (first past cols : ℕ) (a b : List Entry) (c d : Content) (old new : FiberLists)
-    → HasJoin by a b old new → AreIn first past cols (along cols a) → AreIn first past cols (along cols b)
-    → ((i j : ℕ) → first ≤ i → i < past → word_at (along cols a) i j ≡ c i j)
-    → ((i j : ℕ) → first ≤ i → i < past → word_at (along cols b) i j ≡ d i j)
-    → HasPart (joined by c d) first past cols old new
-part_joined by first past cols a b c d old new h in_a in_b words_a words_b = record {
-  flat = h.flat;
-  part = h.part;
-  whole = h.whole;
-  inside = h.inside first past cols in_a in_b;
-  words = λ i j low high. join_along (alone_of by) (both_of by) cols a b h.part h.words i j ∙ rw (words_a i j low high, words_b i j low high) refl;
-}

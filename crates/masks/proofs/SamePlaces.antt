@@ -1,5 +1,5 @@
 -- Entries of two sides at the same positions.
-use Rattle.std.proofs.Common.{◌≡◌, ℕ, ◌<◌, ◌≤◌, ◌&&◌, eqb, List, [], ◌∷◌, length, map, refl, sym, ◌∙◌, ap, subst, inl, inr, arith}
+use Rattle.std.proofs.Common.{◌≡◌, ℕ, ◌<◌, ◌≤◌, true, false, cond, ◌&&◌, eqb, List, [], ◌∷◌, length, map, refl, sym, ◌∙◌, ap, subst, inl, inr, arith}
 use Rattle.std.specs.List.{All, AllPairs}
 use Rattle.std.proofs.lemmas.Bool.{cases_Bool}
 use Rattle.std.proofs.lemmas.List.Elements.{All-map}
@@ -10,9 +10,14 @@ use Rattle.model.specs.Entries.{InOrder, Precedes, entry_at, word_at}
 use Rattle.store.specs.declared.lists.FiberEnd.{FiberEnd}
 use Rattle.store.specs.declared.lists.FiberLists.{FiberLists}
 use Rattle.model.specs.Object.{Content}
-use Rattle.store.specs.Fibers.{AreFlat, entries_from, entries_in, placed}
+use Rattle.store.specs.Fibers.{AreFlat, entries_from, entries_in, outers, placed}
+use Rattle.store.proofs.Contents.{transposed_twice, words_placed}
+use Rattle.store.proofs.Places.{length_placed, long_outers}
+use Rattle.std.specs.List.{zip}
+use Rattle.std.proofs.lemmas.List.{length-map}
+use Rattle.std.proofs.lemmas.Slice.Zip.{length-zip}
 use Rattle.store.specs.Parts.{HasRows}
-use Rattle.store.specs.Stored.{AreIn, along}
+use Rattle.store.specs.Stored.{AreIn, along, transposed}
 use Rattle.store.proofs.PartLaws.{LiesIn, are_in, lies_in}
 use Rattle.store.proofs.Order.{all_from_map, all_pairs_from_map, all_pairs_map}
 use Rattle.masks.specs.Joins.{HaveSamePlaces, beside, place_of}
@@ -110,6 +115,58 @@ flat_beside f ends inner words made a b flat long was is same =
       order = subst InOrder (sym is) (places_order (beside f a b) a (beside_places f a b same) (subst InOrder was flat.order));
     }
 
+-- the words of one side at the places of the other
+placed_other : (os is ws : List ℕ) (a : List Entry) → HaveSamePlaces a (placed os is ws)
+    → placed os is (map (λ e. e.word) a) ≡ a
+placed_other [] is ws [] same = refl
+placed_other [] is ws (e ∷ es) same = cc
+placed_other (o ∷ os) [] ws [] same = refl
+placed_other (o ∷ os) [] ws (e ∷ es) same = cc
+placed_other (o ∷ os) (i ∷ is) [] [] same = refl
+placed_other (o ∷ os) (i ∷ is) [] (e ∷ es) same = cc
+placed_other (o ∷ os) (i ∷ is) (w ∷ ws) [] same = cc
+placed_other (o ∷ os) (i ∷ is) (w ∷ ws) (e ∷ es) same =
+    let row : o ≡ e.row = sym (ap row_of same) in
+    let col : i ≡ e.col = sym (ap col_of same) in
+    rw (row, col) (ap (λ rest. e ∷ rest) (placed_other os is ws es (ap rest_of same)))
+
+-- fibers with what is made of the words of the other side and their own
+pub flat_over : (f : ℕ → ℕ → ℕ) (a : List Entry) (ends : List FiberEnd) (inner words : List ℕ)
+    → AreFlat ends inner words → HaveSamePlaces a (entries_from 0 ends inner words)
+    → let made = zip_with f (map (λ e. e.word) a) words in
+    AreFlat ends inner made × (entries_from 0 ends inner made ≡ beside f a (entries_from 0 ends inner words))
+flat_over f a ends inner words flat same =
+    let os = outers 0 ends in
+    let b = entries_from 0 ends inner words in
+    let lefts = map (λ (e : Entry). e.word) a in
+    let made = zip_with f lefts words in
+    let long = long_outers ends inner words flat in
+    let count = ap length same in
+    let count_b = length_placed os inner words long.0 long.1 in
+    let own : map (λ (e : Entry). e.word) b ≡ words = words_placed os inner words long.0 long.1 in
+    let is : entries_from 0 ends inner made ≡ beside f a b = rw own at (placed_beside f os inner a b (placed_other os inner words a same) same) in
+    let same_length = flat.same_length in (
+      record {
+        same_length = omega (arith, length-map (zip lefts words) (λ (p : ℕ × ℕ). f p.0 p.1), length-zip lefts words, length-map a (λ (e : Entry). e.word), length-map a place_of, length-map b place_of);
+        rises = flat.rises;
+        whole = flat.whole;
+        apart = flat.apart;
+        order = subst InOrder (sym is) (places_order (beside f a b) b (beside_places f a b same ∙ same) flat.order);
+      },
+      is,
+    )
+
+pub count_over : (a : List Entry) (ends : List FiberEnd) (inner words : List ℕ) → AreFlat ends inner words
+    → HaveSamePlaces a (entries_from 0 ends inner words) → length words ≡ length (map (λ e. e.word) a)
+count_over a ends inner words flat same =
+    let os = outers 0 ends in
+    let b = entries_from 0 ends inner words in
+    let long = long_outers ends inner words flat in
+    let count = ap length same in
+    let count_b = length_placed os inner words long.0 long.1 in
+    let long_words = long.1 in
+    omega (arith, length-map a (λ (e : Entry). e.word), length-map a place_of, length-map b place_of)
+
 pub zip_right : (xs ys : List ℕ) → length xs ≡ length ys → zip_with (λ x y. y) xs ys ≡ ys
 zip_right [] [] same = refl
 zip_right [] (y ∷ ys) same = absurd (omega arith)
@@ -127,3 +184,10 @@ rows_beside made f first past cols a b lists same flat is inside words = record 
   inside = rw is (are_in first past cols (beside f a b) (places_all (λ row col. LiesIn (eqb cols 1) first past cols row col) (beside f a b) a (beside_places f a b same) (lies_in first past cols a inside)));
   words = λ i j low high. rw is (words i j low high);
 }
+
+-- the entries as they lie, exchanged twice
+pub along_twice : (cols : ℕ) (es : List Entry) → along cols (along cols es) ≡ es
+along_twice cols es = elim (eqb cols 1) as (λ b. cond b (transposed (cond b (transposed es) es)) (cond b (transposed es) es) ≡ es) [
+  | true ↦ transposed_twice es
+  | false ↦ refl
+]

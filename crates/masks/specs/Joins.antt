@@ -1,6 +1,6 @@
 -- The join of two maps: where both have a word what is made of both, and where one has, what is made of it alone.
 use Rattle.std.specs.Prelude.{ℕ, ◌≡◌, ◌<◌, ◌≤◌, ◌+◌, ◌==◌, if◌then◌else◌, List, drop, length, map, slice_index, take}
-use Rattle.std.specs.Prelude.{Option, ◌++◌}
+use Rattle.std.specs.Prelude.{Option}
 use Rattle.std.specs.List.{All, zip}
 use Rattle.algebra.specs.Operators.{answer_domain, eval_of}
 use Rattle.algebra.specs.Value.{cast_of}
@@ -8,9 +8,8 @@ use Rattle.model.specs.declared.entry.Entry.{Entry}
 use Rattle.model.specs.ElementWise.{of_either}
 use Rattle.model.specs.Entries.{InOrder, entry_at, word_at}
 use Rattle.model.specs.Object.{Content}
-use Rattle.store.specs.declared.lists.FiberLists.{FiberLists}
-use Rattle.store.specs.Fibers.{AreFlat, entries_along, entries_in}
-use Rattle.store.specs.Stored.{AreIn, along}
+use Rattle.store.specs.declared.lists.FiberEnd.{FiberEnd}
+use Rattle.store.specs.Fibers.{AreFlat, entries_along, entries_from}
 use Rattle.masks.specs.declared.full.Side.{Side}
 use Rattle.masks.specs.declared.full.Side.TheVariants as sides
 use Rattle.masks.specs.declared.join.Joining.{Joining}
@@ -47,15 +46,6 @@ pub record AreJoined (alone : ℕ → ℕ) (both : ℕ → ℕ → ℕ) (sides l
   pub each : (k : ℕ) → k < length words → slice_index words k
       ≡ joined_word alone both (slice_index sides k) (slice_index lefts k) (slice_index rights k)
 
--- the new lists have the join of the entries of two sides behind what the old ones have
-pub record HasJoin (by : Joining) (a b : List Entry) (old new : FiberLists) : Type 0 where
-  pub flat : AreFlat new.ends.items new.inner.items new.words.items
-  pub part : List Entry
-  pub whole : entries_in new ≡ entries_in old ++ part
-  pub words : (i j : ℕ) → word_at part i j ≡ joined by (word_at a) (word_at b) i j
-  pub inside : (first past cols : ℕ) → AreIn first past cols (along cols a) → AreIn first past cols (along cols b)
-      → AreIn first past cols (along cols part)
-
 -- where an entry stands
 abbrev pub place_of : Entry → Entry
 place_of e = entry_at e.row e.col 0
@@ -72,6 +62,11 @@ beside f a b = map (λ p. entry_at p.0.row p.0.col (f p.0.word p.1.word)) (zip a
 pub record IsJoin (by : Joining) (a b part : List Entry) : Type 0 where
   pub order : InOrder part
   pub words : (i j : ℕ) → word_at part i j ≡ joined by (word_at a) (word_at b) i j
+
+-- fibers that lie flat have the join of the entries of two sides
+pub record HasJoin (by : Joining) (a b : List Entry) (ends : List FiberEnd) (inner words : List ℕ) : Type 0 where
+  pub flat : AreFlat ends inner words
+  pub joined : IsJoin by a b (entries_from 0 ends inner words)
 
 -- each number of a list is less than each of another
 abbrev pub AreBelow : List ℕ → List ℕ → Type 0

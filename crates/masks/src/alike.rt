@@ -1,15 +1,17 @@
 //! Fibers whose entries stand at the same positions.
-ghost use Rattle.std.specs.Prelude.{◌≡◌, ◌↔◌, ◌≤◌, ◌∷◌, length, map, IfOk, IsTrue};
+ghost use Rattle.std.specs.Prelude.{◌≡◌, ◌↔◌, ◌≤◌, ◌∷◌, ℕ, length, map, IfOk, IsTrue};
 ghost use Rattle.std.specs.List.{All};
 ghost use Rattle.lanes.specs.Lists.{zip_with};
+ghost use Rattle.model.specs.Entries.{word_at};
 ghost use Rattle.store.specs.Fibers.{AreFlat, end_back, entries_in};
-ghost use Rattle.masks.specs.Joins.{HaveSamePlaces, beside, both_of};
+ghost use Rattle.store.specs.Stored.{along, block_content};
+ghost use Rattle.masks.specs.Joins.{HaveSamePlaces, beside, both_of, join_word};
 
 use crate::join::Joining;
 use lanes::zip_words;
 use model::NoMemory;
 use std::alloc::Global;
-use store::{FiberEnd, FiberLists, Fibers, FlatFibers};
+use store::{FiberEnd, FiberLists, Fibers, FlatFibers, RowBlock};
 
 /// Whether fibers have their entries at the same positions. Where they have, that takes time for the entries;
 /// else it ends at the first position that differs.
@@ -23,7 +25,7 @@ pub fn are_alike(left: &Fibers<'_>, right: &Fibers<'_>) -> bool
     if a.inner.is_empty() {
         return true;
     }
-    have_same_ends(&a, &b) && a.inner == b.inner
+    a.inner == b.inner && have_same_ends(&a, &b)
 }
 
 /// Whether fibers are at the same indices and have as many entries each.
@@ -82,6 +84,35 @@ pub fn join_alike(
     words.resize(lefts.len(), 0)?;
     join_both(by, lefts, rights, &mut words);
     Ok(FiberLists { ends, inner, words })
+}
+
+/// The rows of a block with what is made of each word of the left side and of the one that they have there. It takes
+/// time for the entries, and memory for their words: their places are taken over.
+pub(crate) fn join_over(
+    alloc: Global,
+    left: &Fibers<'_>,
+    right: RowBlock,
+    by: Joining,
+) -> Result<RowBlock, NoMemory>
+    requires { HaveSamePlaces left.now.entries (along right.cols right.entries) }
+    ensures first { IfOk result (λ block. block.first ≡ right.first) }
+    ensures past { IfOk result (λ block. block.past ≡ right.past) }
+    ensures cols { IfOk result (λ block. block.cols ≡ right.cols) }
+    ensures words { IfOk result (λ block. (i j : ℕ) → block_content block i j
+        ≡ join_word by (word_at (along right.cols left.now.entries) i j) (block_content right i j)) }
+{
+    let (first, past, cols) = (right.first(), right.past(), right.cols());
+    let FiberLists {
+        ends,
+        inner,
+        words: rights,
+    } = right.into_lists();
+    let lefts = left.words();
+    let mut words = Vec::new(alloc);
+    words.resize(lefts.len(), 0)?;
+    join_both(by, lefts, &rights, &mut words);
+    let lists = FiberLists { ends, inner, words };
+    Ok(RowBlock::of_fibers(first, past, cols, lists))
 }
 
 /// Makes each word what is made of two words side by side.

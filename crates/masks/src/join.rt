@@ -1,6 +1,6 @@
 //! Joins of stores: where both have a word what is made of both, and where one has, its word.
 ghost use Rattle.std.specs.Prelude.{◌≡◌, ℕ, ◌<◌, ◌≤◌, ◌==◌, ◌++◌, if◌then◌else◌, length, slice_index, take, true};
-ghost use Rattle.std.specs.Prelude.{IfOk, OnOk};
+ghost use Rattle.std.specs.Prelude.{IfOk, IfSome, OnOk};
 ghost use Rattle.std.specs.List.{All};
 ghost use Rattle.std.specs.Option.{option_map};
 ghost use Rattle.model.specs.ElementWise.{of_either};
@@ -14,7 +14,7 @@ use crate::alike::{are_alike, join_alike};
 use crate::append::append_fibers;
 use crate::few::{has_few, join_few};
 use crate::full::{full_side, join_full};
-use crate::merge::Places;
+use crate::merge::{Places, merge_fibers, most_places};
 use crate::pair::pair_of;
 use algebra::BinaryOp;
 use lanes::{unite_words, zip_words};
@@ -56,76 +56,84 @@ pub fn join_rows(
         ≡ of_either (alone_of by) (alone_of by) (both_of by) (content_of left.now i j) (content_of right.now i j)) }
 {
     let (first, past) = (range.start, range.end);
-    let left_count = left.fibers_in(first..past).len();
-    let right_count = right.fibers_in(first..past).len();
-    if right_count == 0 {
-        return copy_alone(alloc, left, by, first..past);
-    }
-    if left_count == 0 {
-        return copy_alone(alloc, right, by, first..past);
-    }
-    let lists = join_lists(
-        alloc,
-        left,
-        right,
-        by,
-        first..past,
-        left_count + right_count,
-    )?;
+    let lists = join_lists(alloc, left, right, by, first..past)?;
     Ok(RowBlock::of_fibers(first, past, left.cols(), lists))
 }
 
-/// The rows in a range of one side that has entries alone.
-fn copy_alone(
-    alloc: Global,
-    side: &Store,
-    by: Joining,
-    range: Range<u64>,
-) -> Result<RowBlock, NoMemory>
-    ensures first { IfOk result (λ block. block.first ≡ range.start) }
-    ensures past { IfOk result (λ block. block.past ≡ range.end) }
-    ensures cols { IfOk result (λ block. block.cols ≡ side.now.cols) }
-    ensures words { IfOk result (λ block. (i j : ℕ) → range.start ≤ i → i < range.end
-        → block_content block i j ≡ option_map (alone_of by) (content_of side.now i j)) }
-{
-    let mut rows = side.copy_rows(alloc, range)?;
-    if let Joining::Unite(op) = by {
-        rows.cast(op.domain, op.answer());
-    }
-    Ok(rows)
-}
-
-/// The lists of the join of the rows in a range. There is room for so many entries where the sides have entries at
-/// different positions.
+/// The lists of the join of the rows in a range.
 fn join_lists(
     alloc: Global,
     left: &Store,
     right: &Store,
     by: Joining,
     range: Range<u64>,
-    room: usize,
 ) -> Result<FiberLists, NoMemory>
     requires cols { left.now.cols ≡ right.now.cols }
     requires range { range.start ≤ range.end }
-    ensures { IfOk result (λ lists. HasRows (joined by (content_of left.now) (content_of right.now))
-        range.start range.end left.now.cols lists) }
+    ensures { IfOk result (HasRows (joined by (content_of left.now) (content_of right.now))
+        range.start range.end left.now.cols) }
 {
     let lefts = left.fibers_in(range.start..range.end);
     let rights = right.fibers_in(range.start..range.end);
+    if rights.len() == 0 {
+        return copy_alone(alloc, left, by, range);
+    }
+    if lefts.len() == 0 {
+        return copy_alone(alloc, right, by, range);
+    }
+    let room = lefts.len() + rights.len();
+    match join_whole(alloc, lefts, rights, by)? {
+        Some(lists) => Ok(lists),
+        None => join_parts(alloc, left, right, by, range, room),
+    }
+}
+
+/// The lists of the rows in a range of one side that has entries alone.
+fn copy_alone(
+    alloc: Global,
+    side: &Store,
+    by: Joining,
+    range: Range<u64>,
+) -> Result<FiberLists, NoMemory>
+    ensures { IfOk result (HasRows (λ i j. option_map (alone_of by) (content_of side.now i j))
+        range.start range.end side.now.cols) }
+{
+    let mut rows = side.copy_rows(alloc, range)?;
+    if let Joining::Unite(op) = by {
+        rows.cast(op.domain, op.answer());
+    }
+    Ok(rows.into_lists())
+}
+
+/// The join of two sides' fibers, where it isn't made part by part.
+fn join_whole(
+    alloc: Global,
+    lefts: Fibers<'_>,
+    rights: Fibers<'_>,
+    by: Joining,
+) -> Result<Option<FiberLists>, NoMemory>
+    ensures { IfOk result (λ whole. IfSome whole (λ lists. HasJoin by lefts.entry.entries rights.entry.entries
+        lists.ends.items lists.inner.items lists.words.items)) }
+{
     if are_alike(&lefts, &rights) {
-        return join_alike(alloc, &lefts, &rights, by);
+        return Ok(Some(join_alike(alloc, &lefts, &rights, by)?));
     }
     if keeps_alone(by)
-        && let Some(pair) = pair_of(lefts, rights)
+        && let Some(pair) = pair_of(&lefts, &rights)
     {
         if let Some(side) = full_side(pair) {
-            return join_full(alloc, pair, side, by);
+            return Ok(Some(join_full(alloc, pair, side, by)?));
         }
         if has_few(pair) {
-            return join_few(alloc, pair, by);
+            return Ok(Some(join_few(alloc, pair, by)?));
         }
     }
-    join_parts(alloc, left, right, by, range, room)
+    if lefts.len().max(rights.len()) > PART {
+        return Ok(None);
+    }
+    let mut places = Places::new(alloc);
+    let count = join_fibers(&mut places, lefts, rights, by)?;
+    Ok(Some(places.into_lists(count)))
 }
 
 /// Whether the word of an entry that one side has alone stays as it is.
@@ -138,7 +146,7 @@ fn keeps_alone(by: Joining) -> bool
     }
 }
 
-/// The same, part by part. There is room for so many entries from the
+/// The same as `join_lists`, part by part. There is room for so many entries from the
 /// start, so that none is moved; what isn't used is let go.
 fn join_parts(
     alloc: Global,
@@ -183,52 +191,39 @@ fn join_part(
         range.start range.end left.now.cols lists.old lists.new) }
 {
     let (first, past) = (range.start, range.end);
-    join_fibers(
-        lists,
-        places,
-        left.fibers_in(first..past),
-        right.fibers_in(first..past),
-        by,
-    )
+    let (lefts, rights) = (left.fibers_in(first..past), right.fibers_in(first..past));
+    let count = join_fibers(places, lefts, rights, by)?;
+    let FiberLists { ends, inner, words } = &places.lists;
+    append_fibers(lists, ends, &inner[..count], words)
 }
 
-/// Puts the join of two sides' fibers behind those in the lists.
+/// Makes the first places the join of two sides' fibers, and answers how many there are.
 fn join_fibers(
-    lists: &mut FiberLists,
     places: &mut Places,
     left: Fibers<'_>,
     right: Fibers<'_>,
     by: Joining,
-) -> Result<(), NoMemory>
-    requires flat { AreFlat lists.old.ends.items lists.old.inner.items lists.old.words.items }
-    requires left { All (λ e. All (Precedes e) left.entries) (entries_in lists.old) }
-    requires right { All (λ e. All (Precedes e) right.entries) (entries_in lists.old) }
-    ensures { OnOk result (HasJoin by left.entry.entries right.entry.entries lists.old lists.new) }
+) -> Result<usize, NoMemory>
+    ensures bound { IfOk result (λ count. count ≤ length places.new.lists.inner.items) }
+    ensures joined { IfOk result (λ count. HasJoin by left.entry.entries right.entry.entries
+        places.new.lists.ends.items (take count places.new.lists.inner.items) places.new.lists.words.items) }
 {
-    let count = places.merge(left, right)?;
-    join_places(places, count, by)?;
-    append_fibers(lists, &places.ends, &places.inner[..count], &places.words)
-}
-
-/// Makes the words of the first places by a joining.
-fn join_places(places: &mut Places, count: usize, by: Joining) -> Result<(), NoMemory>
-    requires lefts { count ≤ length places.old.lefts.items }
-    requires rights { count ≤ length places.old.rights.items }
-    requires sides { count ≤ length places.old.sides.items }
-    ensures ends { places.new.ends.items ≡ places.old.ends.items }
-    ensures inner { places.new.inner.items ≡ places.old.inner.items }
-    ensures words { OnOk result (AreJoined (alone_of by) (both_of by) (take count places.old.sides.items)
-        (take count places.old.lefts.items) (take count places.old.rights.items) places.new.words.items) }
-{
-    places.words.resize(count, 0)?;
+    let most = most_places(&left, &right);
+    places.make_room(most)?;
+    let Places { lists, sources } = places;
+    let (lefts, others) = sources[..3 * most].split_at_mut(most);
+    let (rights, sides) = others.split_at_mut(most);
+    let FiberLists { ends, inner, words } = lists;
+    let count = merge_fibers(left, right, ends, inner, lefts, rights, sides)?;
+    words.resize(count, 0)?;
     join_words(
         by,
-        &places.sides[..count],
-        &places.lefts[..count],
-        &places.rights[..count],
-        &mut places.words,
+        &sides[..count],
+        &lefts[..count],
+        &rights[..count],
+        words,
     );
-    Ok(())
+    Ok(count)
 }
 
 /// Makes each word that of the place of a merge.

@@ -1,75 +1,66 @@
 //! Fibers merged: at each place of two sides the inner index, the word of each side, and which sides are
 //! there.
-ghost use Rattle.std.specs.Prelude.{◌≡◌, ℕ, ◌<◌, ◌≤◌, ◌+◌, length, take, replicate, [], IfOk, OnOk};
+ghost use Rattle.std.specs.Prelude.{◌≡◌, ℕ, ◌<◌, ◌≤◌, ◌+◌, ◌*◌, ◌^◌, length, take, replicate, [], IfOk, OnOk};
 ghost use Rattle.std.specs.List.{All, AllPairs};
 ghost use Rattle.store.specs.Fibers.{entries_along};
 ghost use Rattle.masks.specs.Merges.{AreMerged, IsFiberMerge};
 
 use model::NoMemory;
 use std::alloc::Global;
-use store::{FiberEnd, Fibers};
+use store::{FiberEnd, FiberLists, Fibers};
 
-/// Places of a merge, in memory that one merge after another uses: where their fibers end, and of each its
-/// inner index, the word of each side, which sides are there, and the word that is made of these.
+/// Places of a merge, in memory that one merge after another uses.
 #[derive(Drop)]
 pub(crate) struct Places {
-    pub(crate) ends: Vec<FiberEnd>,
-    pub(crate) inner: Vec<u64>,
-    pub(crate) lefts: Vec<u64>,
-    pub(crate) rights: Vec<u64>,
-    pub(crate) sides: Vec<u64>,
-    pub(crate) words: Vec<u64>,
+    /// The fibers of the places, with the words that are made. Behind its places the list of inner indices has room.
+    pub(crate) lists: FiberLists,
+    /// What the words are made of: the left words, the right ones, and which sides are there.
+    pub(crate) sources: Vec<u64>,
 }
 
 impl Places {
     /// No places. They take no memory.
     pub(crate) fn new(alloc: Global) -> Places {
         Places {
-            ends: Vec::new(alloc),
-            inner: Vec::new(alloc),
-            lefts: Vec::new(alloc),
-            rights: Vec::new(alloc),
-            sides: Vec::new(alloc),
-            words: Vec::new(alloc),
+            lists: FiberLists::new(alloc),
+            sources: Vec::new(alloc),
         }
     }
 
-    /// Merges fibers, and answers how many places there are: the first of the lists.
-    pub(crate) fn merge(&mut self, left: Fibers<'_>, right: Fibers<'_>) -> Result<usize, NoMemory>
-        ensures inner_room { IfOk result (λ count. count ≤ length self.new.inner.items) }
-        ensures lefts_room { IfOk result (λ count. count ≤ length self.new.lefts.items) }
-        ensures rights_room { IfOk result (λ count. count ≤ length self.new.rights.items) }
-        ensures sides_room { IfOk result (λ count. count ≤ length self.new.sides.items) }
-        ensures merged { IfOk result (λ count. AreMerged left.entry.entries right.entry.entries count
-            self.new.ends.items self.new.inner.items self.new.lefts.items self.new.rights.items self.new.sides.items) }
-    {
-        self.make_room(left.len() + right.len())?;
-        merge_fibers(
-            left,
-            right,
-            &mut self.ends,
-            &mut self.inner,
-            &mut self.lefts,
-            &mut self.rights,
-            &mut self.sides,
-        )
-    }
-
     /// Makes room for so many places, and forgets where fibers end.
-    fn make_room(&mut self, count: usize) -> Result<(), NoMemory>
-        ensures ends { self.new.ends.items ≡ [] }
-        ensures inner { OnOk result (length self.new.inner.items ≡ count) }
-        ensures lefts { OnOk result (length self.new.lefts.items ≡ count) }
-        ensures rights { OnOk result (length self.new.rights.items ≡ count) }
-        ensures sides { OnOk result (length self.new.sides.items ≡ count) }
+    pub(crate) fn make_room(&mut self, count: usize) -> Result<(), NoMemory>
+        requires { 3 * count < 2 ^ 64 }
+        ensures ends { self.new.lists.ends.items ≡ [] }
+        ensures inner { OnOk result (length self.new.lists.inner.items ≡ count) }
+        ensures sources { OnOk result (3 * count ≤ length self.new.sources.items) }
     {
-        self.ends.clear();
-        self.inner.resize(count, 0)?;
-        self.lefts.resize(count, 0)?;
-        self.rights.resize(count, 0)?;
-        self.sides.resize(count, 0)?;
+        self.lists.ends.clear();
+        self.lists.inner.resize(count, 0)?;
+        if self.sources.len() < 3 * count {
+            self.sources.resize(3 * count, 0)?;
+        }
         Ok(())
     }
+
+    /// The fibers of so many places; room that they don't use is let go.
+    pub(crate) fn into_lists(self, count: usize) -> FiberLists
+        ensures ends { result.ends.items ≡ self.lists.ends.items }
+        ensures inner { result.inner.items ≡ take count self.lists.inner.items }
+        ensures words { result.words.items ≡ self.lists.words.items }
+    {
+        let mut lists = self.lists;
+        lists.inner.truncate(count);
+        lists.shrink_to_fit();
+        lists
+    }
+}
+
+/// How many places a merge has at most.
+pub(crate) fn most_places(left: &Fibers<'_>, right: &Fibers<'_>) -> usize
+    ensures count { result ≡ length left.now.entries + length right.now.entries }
+    ensures room { 3 * result < 2 ^ 64 }
+{
+    left.words().len() + right.words().len()
 }
 
 /// Merges two fibers, and answers how many places there are. The side of a place is 1 where the left is
@@ -210,7 +201,7 @@ fn merge_same(
 }
 
 /// Merges fibers, one outer index after another, and answers how many places there are.
-fn merge_fibers<'a>(
+pub(crate) fn merge_fibers<'a>(
     mut left: Fibers<'a>,
     mut right: Fibers<'a>,
     ends: &mut Vec<FiberEnd>,

@@ -5,7 +5,7 @@ ghost use Rattle.store.specs.Fibers.{entries_along};
 
 use model::NoMemory;
 use std::ops::Range;
-use store::{FiberLists, Fibers};
+use store::{FiberLists, Fibers, FlatFibers};
 
 /// The inner indices of a fiber, which rise, and its words.
 #[derive(Clone, Copy)]
@@ -23,10 +23,10 @@ pub(crate) struct Pair<'a> {
 }
 
 /// The two fibers where each side has one, and both are at one outer index.
-pub(crate) fn pair_of<'a>(left: Fibers<'a>, right: Fibers<'a>) -> Option<Pair<'a>>
-    ensures left { IfSome result (λ pair. left.entry.entries
+pub(crate) fn pair_of<'a>(left: &Fibers<'a>, right: &Fibers<'a>) -> Option<Pair<'a>>
+    ensures left { IfSome result (λ pair. left.now.entries
         ≡ entries_along pair.outer pair.left.inner.now pair.left.words.now) }
-    ensures right { IfSome result (λ pair. right.entry.entries
+    ensures right { IfSome result (λ pair. right.now.entries
         ≡ entries_along pair.outer pair.right.inner.now pair.right.words.now) }
     ensures left_words { IfSome result (λ pair. length pair.left.words.now ≡ length pair.left.inner.now) }
     ensures right_words { IfSome result (λ pair. length pair.right.words.now ≡ length pair.right.inner.now) }
@@ -34,32 +34,38 @@ pub(crate) fn pair_of<'a>(left: Fibers<'a>, right: Fibers<'a>) -> Option<Pair<'a
     ensures right_rises { IfSome result (λ pair. AllPairs (λ x y. x < y) pair.right.inner.now) }
 
     // No two fibers with entries at one outer index are passed over.
-    ensures none { IfNone result ((outer : ℕ) → 0 < length left.entry.entries → 0 < length right.entry.entries
-        → All (λ e. e.row ≡ outer) left.entry.entries → All (λ e. e.row ≡ outer) right.entry.entries → ⊥) }
+    ensures none { IfNone result ((outer : ℕ) → 0 < length left.now.entries → 0 < length right.now.entries
+        → All (λ e. e.row ≡ outer) left.now.entries → All (λ e. e.row ≡ outer) right.now.entries → ⊥) }
 {
-    let outer = left.outer();
-    if right.outer() != outer {
+    let (outer, left) = only_fiber(left)?;
+    let (right_outer, right) = only_fiber(right)?;
+    if right_outer != outer {
         return None;
     }
-    let left = only_fiber(left, outer)?;
-    let right = only_fiber(right, outer)?;
     Some(Pair { outer, left, right })
 }
 
-/// The one fiber at an outer index, where there is no other.
-fn only_fiber<'a>(fibers: Fibers<'a>, outer: u64) -> Option<Fiber<'a>>
-    requires { All (λ e. outer ≤ e.row) fibers.entries }
-    ensures entries { IfSome result (λ fiber. fibers.entry.entries
-        ≡ entries_along outer fiber.inner.now fiber.words.now) }
-    ensures words { IfSome result (λ fiber. length fiber.words.now ≡ length fiber.inner.now) }
-    ensures rises { IfSome result (λ fiber. AllPairs (λ x y. x < y) fiber.inner.now) }
-    ensures none { IfNone result (All (λ e. e.row ≡ outer) fibers.entry.entries → ⊥) }
+/// The one fiber and its outer index, where there is no other.
+fn only_fiber<'a>(fibers: &Fibers<'a>) -> Option<(u64, Fiber<'a>)>
+    ensures some { IfSome result (λ found. 0 < length fibers.now.entries) }
+    ensures entries { IfSome result (λ found. fibers.now.entries
+        ≡ entries_along found.0 found.1.inner.now found.1.words.now) }
+    ensures words { IfSome result (λ found. length found.1.words.now ≡ length found.1.inner.now) }
+    ensures rises { IfSome result (λ found. AllPairs (λ x y. x < y) found.1.inner.now) }
+    ensures none { IfNone result ((outer : ℕ) → 0 < length fibers.now.entries
+        → All (λ e. e.row ≡ outer) fibers.now.entries → ⊥) }
 {
-    let (inner, words, others) = fibers.split(outer);
-    if others.len() > 0 {
+    let FlatFibers {
+        head,
+        others,
+        inner,
+        words,
+        ..
+    } = fibers.flat();
+    if inner.is_empty() || !others.is_empty() {
         return None;
     }
-    Some(Fiber { inner, words })
+    Some((head.outer, Fiber { inner, words }))
 }
 
 /// Puts the entries of a fiber at some places behind the inner indices and words.

@@ -8,8 +8,9 @@ ghost use Rattle.store.specs.Stored.{block_content, content_of};
 ghost use Rattle.masks.specs.Masks.{IfStored, lets_word};
 ghost use Rattle.masks.specs.Writes.{written_at, written_by};
 
+use crate::alike::join_over;
 use crate::blocks::{join_blocks, keep_block};
-use crate::{Joining, Mask, StoredMask, join_rows};
+use crate::{Joining, Mask, StoredMask, are_alike, join_rows};
 use algebra::BinaryOp;
 use model::NoMemory;
 use std::alloc::Global;
@@ -21,6 +22,7 @@ use store::{RowBlock, Store};
 ///
 /// The work is over the entries of `old`, of `t` and of the mask's store in these rows; a complement never
 /// lists the grid. `t` is taken over, and what is left stands in its memory where nothing has to be merged.
+#[inline(always)]
 pub fn write_back(
     alloc: Global,
     old: &Store,
@@ -45,6 +47,7 @@ pub fn write_back(
 }
 
 /// Every position is written.
+#[inline(always)]
 fn write_all(
     alloc: Global,
     old: &Store,
@@ -152,8 +155,12 @@ fn accumulate(alloc: Global, old: &Store, t: RowBlock, op: BinaryOp) -> Result<R
     if t.fibers().len() == 0 {
         return old.copy_rows(alloc, first..past);
     }
-    if old.fibers_in(first..past).len() == 0 {
+    let olds = old.fibers_in(first..past);
+    if olds.len() == 0 {
         return Ok(t);
+    }
+    if are_alike(&olds, &t.fibers()) {
+        return join_over(alloc, &olds, t, Joining::Accumulate(op));
     }
     let t = Store::from_block(past, t);
     join_rows(alloc, old, &t, Joining::Accumulate(op), first..past)

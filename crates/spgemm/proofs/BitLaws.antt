@@ -1,12 +1,14 @@
 -- Bits of places in lists of words.
+use lib.Count.{ones_step}
 use mir.Val.{bool_byte}
-use Rattle.std.proofs.Common.{◌≡◌, ◌≢◌, ℕ, ◌*◌, ◌/◌, ◌%◌, ◌^◌, ◌<◌, ◌≤◌, ◌||◌, Bool, true, false, eqb, List, length, get_or, set, bit_and, bit_or, w64, refl, ◌∙◌, ap, inl, inr, arith}
+use Rattle.std.proofs.Common.{◌≡◌, ◌≢◌, ℕ, zero, suc, ◌+◌, ◌-◌, ◌*◌, ◌/◌, ◌%◌, ◌^◌, ◌<◌, ◌≤◌, ◌||◌, Bool, true, false, eqb, List, length, get_or, set, bit_and, bit_or, w64, refl, ◌∙◌, ap, inl, inr, arith}
 use Rattle.std.specs.Int.{bit_at, bit_not, trailing_zeros}
+use Rattle.std.specs.Prelude.{count_ones}
 use Rattle.std.specs.Int.Bits.{or_zero_r}
 use Rattle.std.proofs.lemmas.Bool.{cases_eq, eq-eqb, ne_eqb}
 use Rattle.std.proofs.lemmas.List.{get_or-set_other, get_or-set_same}
 use Rattle.std.proofs.lemmas.Nat.{and_le_l}
-use Rattle.std.proofs.lemmas.Nat.Bits.{bit_at-trailing_zeros, bit_at_clear_same, bit_at_set_other, bit_at_set_same}
+use Rattle.std.proofs.lemmas.Nat.Bits.{bit_at-suc, bit_at-trailing_zeros, bit_at_clear_same, bit_at_lowest, bit_at_set_other, bit_at_set_same}
 use Rattle.spgemm.specs.Dense.{has_bit}
 
 abbrev with_bit : ℕ → ℕ → ℕ
@@ -67,3 +69,39 @@ cleared_less n some fits =
           absurd (omega arith)
       | inr other ↦ omega arith
     ]
+
+-- ---- how many bits are set
+
+-- a number without its lowest digits, so many
+abbrev pub higher : ℕ → ℕ → ℕ
+higher zero n = n
+higher (suc k) n = higher k (n / 2)
+
+higher_step : (k n : ℕ) → higher (suc k) n ≡ higher k n / 2
+higher_step zero n = refl
+higher_step (suc k) n = higher_step k (n / 2)
+
+bit_is : (k n : ℕ) → bit_at n k ≡ higher k n % 2
+bit_is zero n = bit_at_lowest n
+bit_is (suc k) n = bit_at-suc n k ∙ bit_is k (n / 2)
+
+ones_at : (k n : ℕ) → count_ones (higher k n) ≡ bit_at n k + count_ones (higher (suc k) n)
+ones_at k n = ones_step (higher k n) ∙ rw (bit_is k n, higher_step k n) refl
+
+fewer_ones : (j k n : ℕ) → count_ones (higher (k + j) n) ≤ count_ones (higher k n)
+fewer_ones zero k n = let same : k + 0 ≡ k = omega arith in rw same (omega arith)
+fewer_ones (suc j) k n =
+    let more = fewer_ones j k n in
+    let at = ones_at (k + j) n in
+    let next : k + suc j ≡ suc (k + j) = omega arith in
+    rw next (omega arith)
+
+-- behind a bit that is set there is one fewer
+pub ones_behind : (n p k : ℕ) → p ≤ k → bit_at n k ≡ 1
+    → count_ones (higher (k + 1) n) + 1 ≤ count_ones (higher p n)
+ones_behind n p k le there =
+    let to : p + (k - p) ≡ k = omega arith in
+    let more : count_ones (higher k n) ≤ count_ones (higher p n) = rw to at (fewer_ones (k - p) p n) in
+    let at = ones_at k n in
+    let next : k + 1 ≡ suc k = omega arith in
+    rw next (omega arith)

@@ -126,7 +126,7 @@ a_word bits base words at there = rw there refl
 
 -- the lowest bit that is left is that of the next word
 pub next_word : (bits left p base : ℕ) (words : List ℕ) → AreLeft bits left p → left ≢ 0 → left < 18446744073709551616
-    → let place = trailing_zeros w64 left in (place < 64) × AreLeft bits (without_bit left place) (place + 1) × (p ≤ place) × (found (word_by bits base words) base (place + 1) ≡ found (word_by bits base words) base p ++ term_at (base + place) (get_or words (base + place) 0) ∷ [])
+    → let place = trailing_zeros w64 left in (place < 64) × AreLeft bits (without_bit left place) (place + 1) × (p ≤ place) × (bit_at bits place ≡ 1) × (found (word_by bits base words) base (place + 1) ≡ found (word_by bits base words) base p ++ term_at (base + place) (get_or words (base + place) 0) ∷ [])
 next_word bits left p base words here some fits =
     let first = bit_at-trailing_zeros w64 left (omega arith) fits in
     let place = trailing_zeros w64 left in
@@ -148,6 +148,7 @@ next_word bits left p base words here some fits =
         high = λ i low high. bit_at_clear_other w64 left place small i high (λ e. absurd (omega arith)) ∙ here.high i (omega arith) high;
       },
       not_done,
+      here_bit,
       found_up_to (word_by bits base words) base p place (get_or words (base + place) 0) not_done
           (λ at low high. no_word bits base words at (sym (here.high (at - base) (omega arith) (omega arith)) ∙ first.2 (at - base) (omega arith)))
           (a_word bits base words (base + place) (ap (bit_at bits) at_place ∙ here_bit)),

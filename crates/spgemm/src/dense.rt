@@ -107,7 +107,9 @@ fn add_terms(bits: &mut [u64], sums: &mut [u64], terms: &[Term], semiring: Semir
     ensures sums { AreColumnSums semiring.add.op terms.now bits.new sums.new }
     ensures others { (at : ℕ) → All (λ t. t.col / 64 ≢ at) terms.now → slice_index bits.new at ≡ 0 }
 {
-    with_semiring!(semiring, |own| add_terms_by(bits, sums, terms, own))
+    if !terms.is_empty() {
+        with_semiring!(semiring, |own| add_terms_by(bits, sums, terms, own))
+    }
 }
 
 /// What `add_terms` does, by one semiring of its arms.
@@ -238,8 +240,9 @@ fn gather_word(
     ensures words { OnOk result (lists.new.words.items
         ≡ lists.old.words.items ++ map (λ s. s.word) (found (word_by bits base words.now) base 64)) }
 {
-    lists.inner.reserve(64)?;
-    lists.words.reserve(64)?;
+    let count = bits.count_ones() as usize;
+    lists.inner.reserve(count)?;
+    lists.words.reserve(count)?;
     let mut left = bits;
     while left != 0 {
         let place = left.trailing_zeros();

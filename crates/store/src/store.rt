@@ -161,8 +161,25 @@ impl Store {
 
     /// The fibers of the rows in a range: these rows, or the part of the one column that lies in them.
     /// The range may be empty or reach beyond the rows. Its time grows with the logarithm of the number
-    /// of entries.
+    /// of entries; that of all rows takes no search.
+    #[inline(always)]
     pub fn fibers_in(&self, range: Range<u64>) -> Fibers<'_>
+        ensures entries { along self.now.cols result.entries
+            ≡ entries_between range.start range.end self.now.cols (content_of self.now) }
+        ensures order { InOrder (along self.now.cols result.entries) }
+        ensures inside { IsInside self.now.rows self.now.cols (along self.now.cols result.entries) }
+        ensures words { (i j : ℕ) → range.start ≤ i → i < range.end
+            → word_at (along self.now.cols result.entries) i j ≡ content_of self.now i j }
+    {
+        if range.start == 0 && self.rows <= range.end {
+            let FiberLists { ends, inner, words } = &self.lists;
+            return Fibers::of_lists(ends, inner, words);
+        }
+        self.fibers_found(range)
+    }
+
+    /// What `fibers_in` gives, found by binary searches.
+    fn fibers_found(&self, range: Range<u64>) -> Fibers<'_>
         ensures entries { along self.now.cols result.entries
             ≡ entries_between range.start range.end self.now.cols (content_of self.now) }
         ensures order { InOrder (along self.now.cols result.entries) }
@@ -219,8 +236,8 @@ impl Store {
         ensures order { InOrder result.entries }
         ensures inside { IsInside self.now.rows self.now.cols result.entries }
     {
-        let FiberLists { ends, inner, words } = &self.lists;
         if self.cols == 1 {
+            let FiberLists { inner, words, .. } = &self.lists;
             let (column, words) = column_between(inner, words, range.start, range.end);
             let fibers = Fibers::none();
             Rows {
@@ -229,7 +246,7 @@ impl Store {
                 fibers,
             }
         } else {
-            let fibers = fibers_between(ends, inner, words, range.start, range.end);
+            let fibers = self.fibers_in(range);
             Rows {
                 column: &[],
                 words: &[],

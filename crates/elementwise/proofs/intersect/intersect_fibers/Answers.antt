@@ -1,33 +1,27 @@
--- The positions that both sides have, behind the fibers so far.
-use Rattle.std.proofs.Common.{◌∙◌, ◌++◌, ap}
+-- The positions that both sides have.
+use Rattle.std.proofs.Common.{◌≡◌, take, rules, arith}
+use Rattle.std.proofs.lemmas.List.{with_items_is}
 use Rattle.algebra.specs.Operators.{eval_of}
-use Rattle.store.specs.Fibers.{entries_in}
-use Rattle.masks.proofs.Joins.{on_ok_both}
-use Rattle.elementwise.proofs.FiberPairs.{entries_met, flat_met, order_met}
+use Rattle.lanes.specs.Lists.{zip_with}
+use Rattle.elementwise.proofs.FiberPairs.{entries_met, flat_met}
 use Rattle.elementwise.proofs.intersect.intersect_fibers.Goals as goal
 
-pub append_fibers-requires-clause-behind : goal.append_fibers-requires-clause-behind
-append_fibers-requires-clause-behind c =
-    let m = c.find.new.self in
-    let words = c.combine_pairs.new.pairs.words.items in
-    rw (c.deref.ensures.value, c.deref-2.ensures.value, c.deref-3.ensures.value, c.combine_pairs.ensures.ends, c.combine_pairs.ensures.inner)
-    (flat_met (eval_of c.args.op.kind c.args.op.domain) c.args.left.entries c.args.right.entries c.in_ok-count.count m.ends.items m.inner.items m.lefts.items m.rights.items words c.in_ok-count.ensures.met c.find.ensures.order c.in_ok-count.ensures.inner_room c.in_ok-count.ensures.lefts_room c.in_ok-count.ensures.rights_room c.in_ok-combine_pairs.ensures.words)
-
-pub append_fibers-requires-clause-order : goal.append_fibers-requires-clause-order
-append_fibers-requires-clause-order c =
-    let m = c.find.new.self in
-    let words = c.combine_pairs.new.pairs.words.items in
-    rw (c.deref.ensures.value, c.deref-2.ensures.value, c.deref-3.ensures.value, c.combine_pairs.ensures.ends, c.combine_pairs.ensures.inner)
-    (order_met (eval_of c.args.op.kind c.args.op.domain) (entries_in c.args.lists.now) c.args.left.entries c.args.right.entries c.in_ok-count.count m.ends.items m.inner.items m.lefts.items m.rights.items words c.in_ok-count.ensures.met c.in_ok-combine_pairs.ensures.words c.requires.before)
-
-pub returns : goal.returns
-returns c =
-    let m = c.find.new.self in
-    let words = c.combine_pairs.new.pairs.words.items in
-    on_ok_both c.append_fibers.result
-    (λ flat entries. record {
-      flat = flat;
-      whole = (rw (c.deref.ensures.value, c.deref-2.ensures.value, c.deref-3.ensures.value, c.combine_pairs.ensures.ends, c.combine_pairs.ensures.inner) at entries)
-          ∙ ap (λ es. entries_in c.args.lists.now ++ es) (entries_met (eval_of c.args.op.kind c.args.op.domain) c.args.left.entries c.args.right.entries c.in_ok-count.count m.ends.items m.inner.items m.lefts.items m.rights.items words c.in_ok-count.ensures.met c.in_ok-combine_pairs.ensures.words);
+pub returns-clause-met : goal.returns-clause-met
+returns-clause-met c =
+    let m = c.pair_fibers.new in
+    let count = c.in_ok-count.count in
+    let f = eval_of c.args.op.kind c.args.op.domain in
+    let a = c.args.left.entries in
+    let b = c.args.right.entries in
+    let met = c.in_ok-count.ensures.met in
+    let bound = c.in_ok-count.ensures.bound in
+    let inner_long = c.in_ok-count.ensures.inner_length in
+    let lefts_long = c.in_ok-count.ensures.lefts_length in
+    let rights_long = c.in_ok-count.ensures.rights_length in
+    let inner_is = with_items_is c.make_room.new.self.lists.inner m.inner (search rules) in
+    let made : c.zip_words.new.out ≡ zip_with f (take count m.lefts) (take count m.rights) = search rules in
+    let words_are = with_items_is c.resize.new.self c.zip_words.new.out (search rules) in
+    rw (inner_is, words_are) (record {
+      flat = flat_met f a b count m.ends.items m.inner m.lefts m.rights c.zip_words.new.out met c.len-most.ensures.order (omega arith) (omega arith) (omega arith) made;
+      whole = entries_met f a b count m.ends.items m.inner m.lefts m.rights c.zip_words.new.out met made;
     })
-    c.append_fibers.ensures.flat c.append_fibers.ensures.entries

@@ -1,25 +1,51 @@
 -- Rows from here on stand behind those so far.
-use Rattle.std.proofs.Common.{rules}
-use Rattle.std.proofs.lemmas.Result.{on_ok_weaker}
-use Rattle.store.specs.Fibers.{entries_in}
+use Rattle.std.proofs.Common.{◌≡◌, ◌<◌, ◌≤◌, ℕ, List, rules, take}
+use Rattle.model.specs.declared.entry.Entry.{Entry}
+use Rattle.model.specs.Entries.{word_at}
+use Rattle.store.specs.Fibers.{entries_from, entries_in}
 use Rattle.store.specs.Stored.{AreIn, along, content_of}
 use Rattle.store.proofs.PartLaws.{part_behind}
 use Rattle.store.proofs.RowEntries.{entries_between-inside}
-use Rattle.elementwise.proofs.Meets.{part_met}
+use Rattle.masks.proofs.Joins.{on_ok_both}
+use Rattle.elementwise.specs.Meets.{met_content}
+use Rattle.elementwise.proofs.Meets.{rows_met}
 use Rattle.elementwise.proofs.intersect.intersect_part.Goals as goal
-use Rattle.elementwise.proofs.intersect.intersect_part.Goals.{After-fibers_in-2}
+use Rattle.elementwise.proofs.intersect.intersect_part.Goals.{After-deref-3}
 
-left_in : (c : After-fibers_in-2)
-    → AreIn c.args.range.start c.args.range.end c.args.a.now.cols (along c.args.a.now.cols c.fibers_in.result.entries)
-left_in c = rw c.fibers_in.ensures.entries (entries_between-inside c.args.range.start c.args.range.end c.args.a.now.cols (content_of c.args.a.now))
+-- the entries of the pairs
+abbrev made : (c : After-deref-3) → List Entry
+made c =
+    let lists = c.intersect_fibers.new.pairs.lists in
+    entries_from 0 lists.ends.items (take c.in_ok-count.count lists.inner.items) lists.words.items
 
-pub intersect_fibers-requires-clause-before : goal.intersect_fibers-requires-clause-before
-intersect_fibers-requires-clause-before c = part_behind 0 c.args.range.start c.args.range.end c.args.a.now.cols (entries_in c.args.lists.now) c.fibers_in.result.entries c.requires.front (left_in (search rules))
+-- they are the rows
+are_rows : (c : After-deref-3)
+    → AreIn c.args.range.start c.args.range.end c.args.a.now.cols (along c.args.a.now.cols (made c))
+    × ((i j : ℕ) → c.args.range.start ≤ i → i < c.args.range.end → word_at (along c.args.a.now.cols (made c)) i j
+    ≡ met_content c.args.op (content_of c.args.a.now) (content_of c.args.b.now) i j)
+are_rows c =
+    let first = c.args.range.start in
+    let past = c.args.range.end in
+    let cols = c.args.a.now.cols in
+    let a = c.fibers_in-lefts in
+    let b = c.fibers_in-rights in
+    rows_met c.args.op first past cols a.result.entries b.result.entries (made c) (content_of c.args.a.now) (content_of c.args.b.now) c.in_ok-count.ensures.met.whole
+    (rw a.ensures.entries (entries_between-inside first past cols (content_of c.args.a.now))) a.ensures.words (rw c.requires.cols b.ensures.words)
+
+pub append_fibers-requires-clause-order : goal.append_fibers-requires-clause-order
+append_fibers-requires-clause-order c =
+    rw (c.deref.ensures.value, c.deref-2.ensures.value, c.deref-3.ensures.value)
+    (part_behind 0 c.args.range.start c.args.range.end c.args.a.now.cols (entries_in c.args.lists.now) (made (search rules)) c.requires.front (are_rows (search rules)).0)
 
 pub returns : goal.returns
 returns c =
-    let cols = c.args.a.now.cols in
-    on_ok_weaker c.intersect_fibers.result
-    (λ h. part_met c.args.op c.args.range.start c.args.range.end cols c.fibers_in.result.entries c.fibers_in-2.result.entries (content_of c.args.a.now) (content_of c.args.b.now) c.args.lists.now c.intersect_fibers.new.lists h
-    (left_in (search rules)) c.fibers_in.ensures.words (rw c.requires.cols c.fibers_in-2.ensures.words))
-    c.intersect_fibers.ensures
+    let rows = are_rows (search rules) in
+    on_ok_both c.append_fibers.result
+    (λ flat entries. record {
+      flat = flat;
+      part = made (search rules);
+      whole = rw (c.deref.ensures.value, c.deref-2.ensures.value, c.deref-3.ensures.value) at entries;
+      inside = rows.0;
+      words = rows.1;
+    })
+    c.append_fibers.ensures.flat c.append_fibers.ensures.entries

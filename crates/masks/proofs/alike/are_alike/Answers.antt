@@ -37,22 +37,21 @@ have_same_ends-requires-clause-b c =
     let some : 0 < length a.inner.now = grind (arith, nat_tests) in
     ends_behind b.from (b.head ∷ b.others.now) b.from (omega arith) (c.flat-b.ensures.left.rises (omega (arith, c.if-a-b.false)))
 
-pub returns-then-have_same_ends : goal.returns-then-have_same_ends
-returns-then-have_same_ends c =
+pub returns-then-eq : goal.returns-then-eq
+returns-then-eq c =
     let a = c.flat-a.result in
     let b = c.flat-b.result in
-    let some : 0 < length a.inner.now = grind (arith, nat_tests) in
-    let ends = c.have_same_ends.ensures.0 c.if-have_same_ends.true in (
+    let some : 0 < length a.inner.now = grind (arith, nat_tests) in (
       λ yes. places_told a.from a.head a.others.now a.inner.now a.words.now b.from b.head b.others.now b.inner.now b.words.now c.args.left.now.entries c.args.right.now.entries
-          c.flat-a.ensures.left c.flat-b.ensures.left c.flat-a.ensures.entries c.flat-b.ensures.entries some ends (search rules),
+          c.flat-a.ensures.left c.flat-b.ensures.left c.flat-a.ensures.entries c.flat-b.ensures.entries some (c.have_same_ends.ensures.0 yes) (search rules),
       λ same.
           let told = ends_told a.from a.head a.others.now a.inner.now a.words.now b.from b.head b.others.now b.inner.now b.words.now c.args.left.now.entries c.args.right.now.entries
           c.flat-a.ensures.left c.flat-b.ensures.left c.flat-a.ensures.entries c.flat-b.ensures.entries some (omega (arith, c.if-a-b.false)) same in
-          search rules,
+          c.have_same_ends.ensures.1 told.0,
     )
 
-pub returns-else-have_same_ends : goal.returns-else-have_same_ends
-returns-else-have_same_ends c =
+pub returns-else-eq : goal.returns-else-eq
+returns-else-eq c =
     let a = c.flat-a.result in
     let b = c.flat-b.result in
     let some : 0 < length a.inner.now = grind (arith, nat_tests) in (
@@ -60,5 +59,5 @@ returns-else-have_same_ends c =
       λ same.
           let told = ends_told a.from a.head a.others.now a.inner.now a.words.now b.from b.head b.others.now b.inner.now b.words.now c.args.left.now.entries c.args.right.now.entries
           c.flat-a.ensures.left c.flat-b.ensures.left c.flat-a.ensures.entries c.flat-b.ensures.entries some (omega (arith, c.if-a-b.false)) same in
-          c.have_same_ends.ensures.1 told.0,
+          search rules,
     )

@@ -1,32 +1,55 @@
 -- Rows from here on stand behind those so far.
-use Rattle.std.proofs.Common.{rules}
-use Rattle.std.proofs.lemmas.Result.{on_ok_weaker}
-use Rattle.store.specs.Fibers.{entries_in}
+use Rattle.std.proofs.Common.{◌≡◌, ◌<◌, ◌≤◌, ℕ, List, rules, take}
+use Rattle.model.specs.declared.entry.Entry.{Entry}
+use Rattle.model.specs.Entries.{word_at}
+use Rattle.store.specs.Fibers.{entries_from, entries_in}
 use Rattle.store.specs.Stored.{AreIn, along, content_of}
 use Rattle.store.proofs.PartLaws.{part_behind}
 use Rattle.store.proofs.RowEntries.{entries_between-inside}
-use Rattle.masks.proofs.Joins.{part_joined}
+use Rattle.masks.specs.Joins.{joined}
+use Rattle.masks.proofs.FewLaws.{rows_joined}
+use Rattle.masks.proofs.Joins.{on_ok_both}
 use Rattle.masks.proofs.join.join_part.Goals as goal
-use Rattle.masks.proofs.join.join_part.Goals.{After-fibers_in-2}
+use Rattle.masks.proofs.join.join_part.Goals.{After-deref-3}
 
-left_in : (c : After-fibers_in-2)
-    → AreIn c.args.range.start c.args.range.end c.args.left.now.cols (along c.args.left.now.cols c.fibers_in.result.entries)
-left_in c = rw c.fibers_in.ensures.entries (entries_between-inside c.args.range.start c.args.range.end c.args.left.now.cols (content_of c.args.left.now))
+-- the entries of the places
+abbrev made : (c : After-deref-3) → List Entry
+made c =
+    let lists = c.join_fibers.new.places.lists in
+    entries_from 0 lists.ends.items (take c.in_ok-count.count lists.inner.items) lists.words.items
 
-right_in : (c : After-fibers_in-2)
-    → AreIn c.args.range.start c.args.range.end c.args.left.now.cols (along c.args.left.now.cols c.fibers_in-2.result.entries)
-right_in c = rw c.requires.cols (rw c.fibers_in-2.ensures.entries (entries_between-inside c.args.range.start c.args.range.end c.args.right.now.cols (content_of c.args.right.now)))
+-- they are the rows
+are_rows : (c : After-deref-3)
+    → AreIn c.args.range.start c.args.range.end c.args.left.now.cols (along c.args.left.now.cols (made c))
+    × ((i j : ℕ) → c.args.range.start ≤ i → i < c.args.range.end → word_at (along c.args.left.now.cols (made c)) i j
+    ≡ joined c.args.by (content_of c.args.left.now) (content_of c.args.right.now) i j)
+are_rows c =
+    let left = content_of c.args.left.now in
+    let right = content_of c.args.right.now in
+    let first = c.args.range.start in
+    let past = c.args.range.end in
+    let cols = c.args.left.now.cols in
+    let a = c.fibers_in-lefts in
+    let b = c.fibers_in-rights in
+    rows_joined c.args.by left right first past cols a.result.entries b.result.entries (made c) c.in_ok-count.ensures.joined.joined
+    (rw a.ensures.entries (entries_between-inside first past cols left))
+    (rw c.requires.cols (rw b.ensures.entries (entries_between-inside first past c.args.right.now.cols right)))
+    a.ensures.words (rw c.requires.cols b.ensures.words)
 
-pub join_fibers-requires-clause-left : goal.join_fibers-requires-clause-left
-join_fibers-requires-clause-left c = part_behind 0 c.args.range.start c.args.range.end c.args.left.now.cols (entries_in c.args.lists.now) c.fibers_in.result.entries c.requires.front (left_in (search rules))
-
-pub join_fibers-requires-clause-right : goal.join_fibers-requires-clause-right
-join_fibers-requires-clause-right c = part_behind 0 c.args.range.start c.args.range.end c.args.left.now.cols (entries_in c.args.lists.now) c.fibers_in-2.result.entries c.requires.front (right_in (search rules))
+pub append_fibers-requires-clause-order : goal.append_fibers-requires-clause-order
+append_fibers-requires-clause-order c =
+    rw (c.deref.ensures.value, c.deref-2.ensures.value, c.deref-3.ensures.value)
+    (part_behind 0 c.args.range.start c.args.range.end c.args.left.now.cols (entries_in c.args.lists.now) (made (search rules)) c.requires.front (are_rows (search rules)).0)
 
 pub returns : goal.returns
 returns c =
-    let cols = c.args.left.now.cols in
-    on_ok_weaker c.join_fibers.result
-    (λ h. part_joined c.args.by c.args.range.start c.args.range.end cols c.fibers_in.result.entries c.fibers_in-2.result.entries (content_of c.args.left.now) (content_of c.args.right.now) c.args.lists.now c.join_fibers.new.lists h
-    (left_in (search rules)) (right_in (search rules)) c.fibers_in.ensures.words (rw c.requires.cols c.fibers_in-2.ensures.words))
-    c.join_fibers.ensures
+    let rows = are_rows (search rules) in
+    on_ok_both c.append_fibers.result
+    (λ flat entries. record {
+      flat = flat;
+      part = made (search rules);
+      whole = rw (c.deref.ensures.value, c.deref-2.ensures.value, c.deref-3.ensures.value) at entries;
+      inside = rows.0;
+      words = rows.1;
+    })
+    c.append_fibers.ensures.flat c.append_fibers.ensures.entries

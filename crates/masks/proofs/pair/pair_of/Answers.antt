@@ -1,16 +1,11 @@
-use Rattle.std.proofs.Common.{◌≡◌, ◌∙◌, sym}
-use Rattle.std.proofs.lemmas.List.Elements.{All-weaker}
-use Rattle.masks.proofs.PairLaws.{if_none, outer_is}
+use Rattle.std.proofs.Common.{◌∙◌, sym}
+use Rattle.masks.proofs.PairLaws.{outer_is}
 use Rattle.masks.proofs.pair.pair_of.Goals as goal
 
-pub returns-in_err-left-clause-none : goal.returns-in_err-left-clause-none
-returns-in_err-left-clause-none c = if_none c.from_residual.result _ (λ outer some some' same same'.
-    let first = c.outer-outer.result in
-    let is = outer_is outer first c.args.left.entries some same c.outer-outer.ensures.below c.outer-outer.ensures.there in
-    c.in_err-left.ensures.none (All-weaker (λ e. e.row ≡ outer) (λ e. e.row ≡ first) (λ e at. at ∙ sym is) c.args.left.entries same))
-
-pub returns-in_err-right-clause-none : goal.returns-in_err-right-clause-none
-returns-in_err-right-clause-none c = if_none c.from_residual-in_err-right.result _ (λ outer some some' same same'.
-    let first = c.outer-outer.result in
-    let is = outer_is outer first c.args.left.entries some same c.outer-outer.ensures.below c.outer-outer.ensures.there in
-    c.in_err-right.ensures.none (All-weaker (λ e. e.row ≡ outer) (λ e. e.row ≡ first) (λ e at. at ∙ sym is) c.args.right.entries same'))
+pub returns-then-right_outer-outer-clause-none : goal.returns-then-right_outer-outer-clause-none
+returns-then-right_outer-outer-clause-none c = λ outer some some' same same'.
+    let left = c.in_ok-outer in
+    let right = c.in_ok-right_outer in
+    let at = outer_is left.outer outer c.args.left.now.entries left.left.inner.now left.left.words.now left.ensures.entries some same in
+    let at' = outer_is right.right_outer outer c.args.right.now.entries right.right.inner.now right.right.words.now right.ensures.entries some' same' in
+    absurd (c.if-right_outer-outer.true (at' ∙ sym at))

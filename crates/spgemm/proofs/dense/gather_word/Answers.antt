@@ -4,7 +4,7 @@ use Rattle.std.proofs.lemmas.List.{map-append}
 use Rattle.spgemm.specs.Dense.{found, word_by}
 use Rattle.spgemm.specs.Terms.{term_at}
 use Rattle.spgemm.specs.declared.term.Term.{Term}
-use Rattle.spgemm.proofs.BitLaws.{cleared_less}
+use Rattle.spgemm.proofs.BitLaws.{cleared_less, ones_behind}
 use Rattle.spgemm.proofs.DenseLaws.{AreLeft, all_found, all_left, found_zero, next_word}
 use Rattle.spgemm.proofs.dense.gather_word.Goals as goal
 
@@ -24,14 +24,14 @@ push_sum-requires-clause-inner_room c =
     let s = c.loop-left in
     let next = next_word c.args.bits s.left s.invariant.p c.args.base c.args.words.now s.invariant.are_left c.loop-left-test.true (omega (arith, s.auto.left-fits)) in
     let room = s.invariant.inner_room in
-    omega (arith, next.0, next.2)
+    omega (arith, ones_behind c.args.bits s.invariant.p (trailing_zeros w64 s.left) next.2 next.3)
 
 pub push_sum-requires-clause-words_room : goal.push_sum-requires-clause-words_room
 push_sum-requires-clause-words_room c =
     let s = c.loop-left in
     let next = next_word c.args.bits s.left s.invariant.p c.args.base c.args.words.now s.invariant.are_left c.loop-left-test.true (omega (arith, s.auto.left-fits)) in
     let room = s.invariant.words_room in
-    omega (arith, next.0, next.2)
+    omega (arith, ones_behind c.args.bits s.invariant.p (trailing_zeros w64 s.left) next.2 next.3)
 
 pub loop-left-smaller : goal.loop-left-smaller
 loop-left-smaller c = cleared_less c.loop-left.left c.loop-left-test.true (omega (arith, c.loop-left.auto.left-fits))
@@ -47,14 +47,15 @@ loop-left-preserved c =
     let at = c.args.base + place in
     let t = term_at at (get_or c.args.words.now at 0) in
     let next = next_word c.args.bits s.left here.p c.args.base c.args.words.now here.are_left c.loop-left-test.true (omega (arith, s.auto.left-fits)) in
+    let fewer = ones_behind c.args.bits here.p place next.2 next.3 in
     record {
       p = place + 1;
       are_left = next.1;
       ends = push.ends ∙ here.ends;
-      inner = push.inner ∙ rw (here.inner, next.3, map-append (λ (s : Term). s.col) before (t ∷ [])) (simp append_assoc);
-      words = push.words ∙ rw (here.words, next.3, map-append (λ (s : Term). s.word) before (t ∷ [])) (simp append_assoc);
-      inner_room = let room = here.inner_room in let long = push.inner_length in let same = push.inner_capacity in omega (arith, next.0, next.2);
-      words_room = let room = here.words_room in let long = push.words_length in let same = push.words_capacity in omega (arith, next.0, next.2);
+      inner = push.inner ∙ rw (here.inner, next.4, map-append (λ (s : Term). s.col) before (t ∷ [])) (simp append_assoc);
+      words = push.words ∙ rw (here.words, next.4, map-append (λ (s : Term). s.word) before (t ∷ [])) (simp append_assoc);
+      inner_room = let room = here.inner_room in let long = push.inner_length in let same = push.inner_capacity in omega (arith, fewer);
+      words_room = let room = here.words_room in let long = push.words_length in let same = push.words_capacity in omega (arith, fewer);
     }
 
 pub returns-clause-inner : goal.returns-clause-inner

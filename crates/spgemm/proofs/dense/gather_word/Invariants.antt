@@ -1,6 +1,8 @@
-use Rattle.std.proofs.Common.{◌≡◌, ◌+◌, ◌-◌, ◌≤◌, ◌++◌, ℕ, map}
+use Rattle.std.proofs.Common.{◌≡◌, ◌+◌, ◌≤◌, ◌++◌, ℕ, map}
+use Rattle.std.specs.Prelude.{count_ones}
 use Rattle.std.specs.Vec.{vec_len, vec_capacity}
 use Rattle.spgemm.specs.Dense.{found, word_by}
+use Rattle.spgemm.proofs.BitLaws.{higher}
 use Rattle.spgemm.proofs.DenseLaws.{AreLeft}
 use Rattle.spgemm.proofs.dense.gather_word.Given as goal
 
@@ -13,8 +15,8 @@ invariant-loop-left l = record {
       (found (word_by l.bits l.base l.words) l.base p);
   words : l.lists.words.items ≡ l.initial.lists.words.items ++ map (λ s. s.word)
       (found (word_by l.bits l.base l.words) l.base p);
-  inner_room : vec_len l.lists.inner + (64 - p) ≤ vec_capacity l.lists.inner;
-  words_room : vec_len l.lists.words + (64 - p) ≤ vec_capacity l.lists.words;
+  inner_room : vec_len l.lists.inner + count_ones (higher p l.bits) ≤ vec_capacity l.lists.inner;
+  words_room : vec_len l.lists.words + count_ones (higher p l.bits) ≤ vec_capacity l.lists.words;
 }
 
 abbrev pub decreases-loop-left : goal.decreases-loop-left
