@@ -1,5 +1,5 @@
 -- Objects whose edits were done in place, or handed on.
-use Rattle.std.proofs.Common.{◌≡◌, ◌<◌, ◌∙◌, ℕ, [], List, Some, Result, Ok, Err, take, refl, sym, ap}
+use Rattle.std.proofs.Common.{◌≡◌, ◌≢◌, false, ◌<◌, ◌∙◌, ℕ, [], ◌∷◌, List, Some, Result, Ok, Err, take, refl, sym, ap}
 use Rattle.std.specs.Prelude.{IsPermutation, OnErr, OnOk}
 use Rattle.std.specs.List.{All}
 use Rattle.std.proofs.lemmas.List.Elements.{All-nil, All-take}
@@ -11,7 +11,7 @@ use Rattle.model.specs.Object.{Content, IsObject, Object, cols_of, rows_of}
 use Rattle.model.proofs.ObjectLaws.{objects_equal}
 use Rattle.objects.specs.declared.value.Value.{Value}
 use Rattle.objects.specs.declared.value.Value.TheVariants.{New, Here, Both, Open, Failed}
-use Rattle.objects.specs.Values.{IsValueOf, map_with, ticket_in}
+use Rattle.objects.specs.Values.{IsMade, IsValueOf, is_finished_with, map_with, ticket_in}
 use Rattle.objects.proofs.WaitingLaws.{edits-keep}
 use Rattle.patch.specs.declared.edits.Edit.{Edit}
 use Rattle.patch.specs.Edits.{edited, place_of, set_entry}
@@ -56,3 +56,23 @@ left-is_object (Err e) of es new old left none (n, some) means inside words is =
     let same = objects_equal (object_with of left) (object_with of (edited (take n es) old)) refl refl some in
     rw same (edits-keep of (take n es) (All-take (λ e. ((place_of e).0 < rows_of of.shape) × ((place_of e).1 < cols_of of.shape)) n es inside)
     (All-take (λ e. IsWordOf of.domain (set_entry e).word) n es words) old is)
+
+-- ---- finished
+
+-- what isn't made, or has edits that wait, isn't finished
+pub unmade-unfinished : {T : Type 0} (es : List Edit) (value : Value T) → (IsMade value → ⊥)
+    → is_finished_with es value ≡ false
+unmade-unfinished [] New unmade = refl
+unmade-unfinished (e ∷ es) New unmade = refl
+unmade-unfinished es (Here store) unmade = absurd (unmade tt)
+unmade-unfinished es (Both store ticket) unmade = absurd (unmade tt)
+unmade-unfinished es (Open ticket) unmade = absurd (unmade tt)
+unmade-unfinished es Failed unmade = absurd (unmade tt)
+
+pub waiting-unfinished : {T : Type 0} (es : List Edit) (value : Value T) → es ≢ [] → is_finished_with es value ≡ false
+waiting-unfinished [] value waits = absurd (waits refl)
+waiting-unfinished (e ∷ es) New waits = refl
+waiting-unfinished (e ∷ es) (Here store) waits = refl
+waiting-unfinished (e ∷ es) (Both store ticket) waits = refl
+waiting-unfinished (e ∷ es) (Open ticket) waits = refl
+waiting-unfinished (e ∷ es) Failed waits = refl

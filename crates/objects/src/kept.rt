@@ -10,9 +10,9 @@ ghost use Rattle.patch.specs.Edits.{set_entry};
 
 use crate::value::Value;
 use calls::Signature;
-use model::Status;
+use model::{NoMemory, Status};
 use patch::Edit;
-use runner::Runner;
+use runner::{Failed, Runner};
 
 /// An object: what is known of it, what is there of its value, and the edits that wait on it.
 #[derive(Drop)]
@@ -32,6 +32,26 @@ pub enum Refusal {
     NoMemory,
     /// Memory was refused to what makes it.
     Failed,
+}
+
+impl From<NoMemory> for Refusal {
+    ghost use Rattle.objects.specs.declared.kept.Refusal.TheVariants as refusal;
+
+    ghost from_gives = { λ _ why. why ≡ refusal.NoMemory };
+
+    fn from(_refused: NoMemory) -> Refusal {
+        Refusal::NoMemory
+    }
+}
+
+impl From<Failed> for Refusal {
+    ghost use Rattle.objects.specs.declared.kept.Refusal.TheVariants as refusal;
+
+    ghost from_gives = { λ _ why. why ≡ refusal.Failed };
+
+    fn from(_failed: Failed) -> Refusal {
+        Refusal::Failed
+    }
 }
 
 impl From<Refusal> for Status {

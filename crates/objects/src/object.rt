@@ -2,7 +2,7 @@
 ghost use Rattle.std.specs.Prelude.{◌≡◌, ◌≢◌, [], IfOk, OnErr, OnOk, false, true};
 ghost use Rattle.calls.specs.Stores.{IsStoreOf, object_with};
 ghost use Rattle.model.specs.Marks.{MayBecome, Open, is_told};
-ghost use Rattle.model.specs.Object.{cols_of, rows_of};
+ghost use Rattle.model.specs.Object.{IsObject, cols_of, rows_of};
 ghost use Rattle.objects.specs.Kept.{Finishes, is_finished, is_ready, mark_in, object_in};
 ghost use Rattle.objects.specs.Values.{HasTicket, IsMade, IsValueOf, map_with, mark_with};
 ghost use Rattle.objects.specs.Waiting.{IsEditOf, edited_object};
@@ -141,13 +141,15 @@ pub(crate) fn finish<R: Runner>(
     object: &mut Kept<R>,
 ) -> Result<(), Refusal>
     ensures ends { Finishes object.old object.new result }
+    ensures unfinished { OnErr result (is_finished object.old ≡ false) }
 {
     if is_told(object) {
         return Err(Refusal::Failed);
     }
-    value::make(alloc, runner, object.of, &mut object.value).map_err(|_| Refusal::NoMemory)?;
-    do_edits(alloc, runner, object).map_err(|_| Refusal::NoMemory)?;
-    value::fetch(runner, object.of, &mut object.value).map_err(|_| Refusal::Failed)
+    value::make(alloc, runner, object.of, &mut object.value)?;
+    do_edits(alloc, runner, object)?;
+    value::fetch(runner, object.of, &mut object.value)?;
+    Ok(())
 }
 
 /// Does the edits that wait on an object, in place where that can be, or later.
@@ -157,6 +159,7 @@ fn do_edits<R: Runner>(alloc: Global, runner: &mut R, object: &mut Kept<R>) -> R
     ensures object { object_in object.new ≡ object_in object.old }
     ensures mark { MayBecome (mark_in object.old) (mark_in object.new) }
     ensures done { OnOk result (object.new.edits.items ≡ []) }
+    ensures waited { OnErr result (object.old.edits.items ≢ []) }
     ensures made { OnOk result (IsMade object.new.value) }
 {
     if object.edits.is_empty() || edit_in_place(alloc, runner, object)? {
@@ -223,6 +226,7 @@ pub(crate) fn store<R: Runner>(object: &Kept<R>) -> &Store
 pub(crate) fn ticket<R: Runner>(object: &Kept<R>) -> &R::Ticket
     requires ready { is_ready object.now ≡ true }
     ensures object { R.object_of result.now ≡ object_in object.now }
+    ensures is_object { IsObject (R.object_of result.now) }
 {
     match &object.value {
         Value::Both(_, ticket) => ticket,

@@ -5,7 +5,7 @@ ghost use Rattle.std.specs.Option.{option_map};
 ghost use Rattle.calls.specs.declared.obj.Obj.{Obj as AnyObj};
 ghost use Rattle.calls.specs.Stores.{IsStoreOf, object_with};
 ghost use Rattle.model.specs.Marks.{Open, Unmarked, first_state, told, with_mark};
-ghost use Rattle.model.specs.Object.{cols_of, rows_of, signature_of};
+ghost use Rattle.model.specs.Object.{IsObject, cols_of, rows_of, signature_of};
 ghost use Rattle.model.specs.Run.{object_at, with_object, without_object};
 ghost use Rattle.objects.specs.Values.{IsValueOf, map_with, mark_with};
 ghost use Rattle.objects.specs.Tables.{Reads, is_finished_at, is_ready_at, same_object, state_in, with_kept};
@@ -95,6 +95,7 @@ pub fn finish<R: Runner>(
     requires there { is_some ((state_in table.old).environment.find_object object) ≡ true }
     ensures ends { Reads (state_in table.old) object (state_in table.new) result }
     ensures finished { OnOk result (is_finished_at table.new object ≡ true) }
+    ensures unfinished { OnErr result (is_finished_at table.old object ≡ false) }
 {
     match table.by_number.get_mut(&object.0) {
         Some(kept) => object::finish(alloc, runner, kept),
@@ -201,6 +202,7 @@ pub fn store<R: Runner>(table: &Table<R>, object: Obj) -> &Store
 pub fn ticket<R: Runner>(table: &Table<R>, object: Obj) -> &R::Ticket
     requires ready { is_ready_at table.now object ≡ true }
     ensures object { R.object_of result.now ≡ object_at (state_in table.now).environment object }
+    ensures is_object { IsObject (R.object_of result.now) }
 {
     match table.by_number.get(&object.0) {
         Some(kept) => object::ticket(kept),

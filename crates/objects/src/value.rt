@@ -68,7 +68,9 @@ pub(crate) fn make<R: Runner>(
     ensures mark { (edits : List AnyEdit) → mark_with edits value.new ≡ mark_with edits value.old }
     ensures made { OnOk result (IsMade value.new) }
     ensures left { OnErr result (value.new ≡ value.old) }
-    ensures still { (edits : List AnyEdit) → is_ready_with edits value.old ≡ true → is_ready_with edits value.new ≡ true }
+    ensures unmade { OnErr result (IsMade value.old → ⊥) }
+    ensures still { (edits : List AnyEdit) → is_ready_with edits value.old ≡ true
+        → is_ready_with edits value.new ≡ true }
 {
     if let Value::New = value {
         let store = Store::new(alloc, of.shape.rows(), of.shape.cols());
