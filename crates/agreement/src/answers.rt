@@ -5,13 +5,15 @@ use itoa::Buffer;
 use lines::{Line, LineFault, first_line, parse_line};
 use model::Status;
 use plain::{PlainAnswer, PlainEnvironment};
+use runner::AtOnce;
 use script::Sources;
 use std::alloc::{AllocError, Global};
 
 /// What the runtime answers.
 pub fn of_runtime(alloc: Global, script: &[u8], files: Files<'_>) -> Result<Vec<u8>, AllocError> {
     let mut out = Vec::new(alloc);
-    script::run(alloc, script, &files, &mut out).map_err(|_| AllocError)?;
+    let mut runner = AtOnce::new(alloc);
+    script::run(alloc, script, &files, &mut runner, &mut out).map_err(|_| AllocError)?;
     Ok(out)
 }
 

@@ -24,9 +24,9 @@ some_renamed : {K L : Type 0} (f : K → L) (mask : Option K) → is_some (optio
 some_renamed f None = refl
 some_renamed f (Some mask) = refl
 
-reads_renamed : {K L : Type 0} (f : K → L) (out : Out K) (operation : Operation K)
+pub reads-renamed : {K L : Type 0} (f : K → L) (out : Out K) (operation : Operation K)
     → reads_old (renamed_out f out) (renamed_operation f operation) ≡ reads_old out operation
-reads_renamed f out operation = λ t.
+reads-renamed f out operation = λ t.
     some_renamed f out.mask t || out.desc.complement || is_some out.accum || is_some (region-renamed f operation t)
 
 some_if : {K L : Type 0} (f : K → L) (test : Bool) (k : K)
@@ -39,7 +39,7 @@ pub role-renamed : {K L : Type 0} (f : K → L) (out : Out K) (operation : Opera
     → role_of (roles_of (renamed_out f out) (renamed_operation f operation)) role
     ≡ option_map f (role_of (roles_of out operation) role)
 role-renamed f out operation Old =
-    ap (λ (test : Bool). if test then Some (f out.c) else None) (reads_renamed f out operation)
+    ap (λ (test : Bool). if test then Some (f out.c) else None) (reads-renamed f out operation)
     ∙ some_if f (reads_old out operation) out.c
 role-renamed f out operation Mask = refl
 role-renamed f out (Fill value region) First = refl
@@ -86,7 +86,7 @@ module _ {K : Type 0} (object : K → Object) where
       elim (cases_Bool (reads_old out operation)) [
         | inl read ↦ left (object out.c).content (rw read refl)
         | inr unread ↦ left no_content (rw unread refl)
-            ∙ old-unread (renamed_out object out) (renamed_operation object operation) no_content (reads_renamed object out operation ∙ unread) i j
+            ∙ old-unread (renamed_out object out) (renamed_operation object operation) no_content (reads-renamed object out operation ∙ unread) i j
       ]
 
 -- ---- accepted operations

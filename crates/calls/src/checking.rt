@@ -13,7 +13,7 @@ use crate::operation::check_operation;
 use algebra::{BinaryOp, Domain, Monoid, MonoidName, OpName, compatible};
 use model::{
     Act, Call, Lookup, MOST_OBJECTS, Operation, Out, Place, Shape, Signature, Status, TupleList,
-    accumulator_serves,
+    WaitMode, accumulator_serves,
 };
 
 /// Checks a call by what is known of its objects, without their values. It takes no memory, and its
@@ -38,6 +38,7 @@ fn check_act<S: Shapes>(shapes: &S, object: Obj, act: &Act) -> Result<(), Status
 {
     match act {
         Act::Free | Act::Clear | Act::Nvals | Act::Print => check_there(shapes, object),
+        Act::Wait(mode) => check_wait(shapes, object, *mode),
         Act::Resize(shape) => check_resize(shapes, object, *shape),
         Act::Build { dup, tuples } => {
             check_build(shapes, object, *dup, tuples)?;
@@ -202,6 +203,20 @@ pub fn check_there<S: Shapes>(shapes: &S, object: Obj) -> Result<(), Status>
     ensures nvals { Decides (early_fault (S.count shapes.now) (Call.On (S.known shapes.now object) Act.Nvals)) result }
     ensures print { Decides (early_fault (S.count shapes.now) (Call.On (S.known shapes.now object) Act.Print)) result }
 {
+    match Signatures(shapes).find(object) {
+        Some(_) => Ok(()),
+        None => Err(Status::UninitializedObject),
+    }
+}
+
+/// The check of a wait (`GrB_Matrix_wait`, `GrB_Vector_wait`).
+#[tactic(auto, unfolding(model::specs::Fault::early_fault))]
+pub fn check_wait<S: Shapes>(shapes: &S, object: Obj, mode: WaitMode) -> Result<(), Status>
+    ensures { Decides (early_fault (S.count shapes.now)
+        (Call.On (S.known shapes.now object) (Act.Wait mode))) result }
+{
+    // A mode has no fault; it is here for the contract alone.
+    let _ = mode;
     match Signatures(shapes).find(object) {
         Some(_) => Ok(()),
         None => Err(Status::UninitializedObject),

@@ -11,7 +11,7 @@ mod turns;
 
 pub use checking::{
     check, check_build, check_create, check_dup, check_place, check_reduce, check_resize,
-    check_set, check_there,
+    check_set, check_there, check_wait,
 };
 pub use model::{
     Act, Call, Desc, Form, IndexList, OneInput, Operation, Out, Place, Positions, Region, Shape,

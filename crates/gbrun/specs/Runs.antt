@@ -1,7 +1,7 @@
 -- Runs of scripts, and what they may append.
 use Rattle.std.specs.Prelude.{ℕ, ◌≡◌, [], List, take, Option, None, Some, Result, Ok, Err}
 use Rattle.model.specs.Loads.{Sources, readings_in}
-use Rattle.model.specs.Runs.{Ran}
+use Rattle.model.specs.Poisoned.{Ran}
 use Rattle.model.specs.declared.memory.NoMemory.{NoMemory}
 use Rattle.gbrun.specs.declared.options.Options.{Options}
 

@@ -6,6 +6,7 @@ ghost use Rattle.gbrun.specs.declared.options.Options.{Options as Chosen};
 
 use crate::options::Options;
 use model::NoMemory;
+use runner::AtOnce;
 use script::Sources;
 use std::alloc::Global;
 
@@ -34,8 +35,8 @@ pub trait Evaluation {
 }
 
 /// The run that `script::run` makes. Where memory ran out, its contract and that of `script::run` say no more of the
-/// text than that it answers some first lines. No option has an effect on it yet: each call is done at once, on the
-/// thread that reads the script.
+/// text than that it answers some first lines. No option has an effect on it yet: the runner does all work at once, on
+/// the thread that reads the script.
 #[derive(Drop)]
 pub struct Answers {
     pub text: Vec<u8>,
@@ -68,7 +69,8 @@ impl Evaluation for Answers {
         _options: Options<'_>,
     ) -> Result<(), NoMemory> {
         self.text.clear();
-        let ended = script::run(alloc, script, sources, &mut self.text);
+        let mut runner = AtOnce::new(alloc);
+        let ended = script::run(alloc, script, sources, &mut runner, &mut self.text);
         self.ended = Some(ended);
         ended
     }

@@ -6,4 +6,3 @@ pub mod NameLaws
 pub mod PieceLaws
 pub mod Spread
 pub mod TakenLaws
-pub mod TurnedInputs

@@ -1,17 +1,15 @@
 -- What recipes give are objects, and the store of all rows has it everywhere.
-use Rattle.std.proofs.Common.{◌≡◌, ◌∙◌, ℕ, Bor, true, refl}
+use Rattle.std.proofs.Common.{◌≡◌, ◌∙◌, ℕ, true, refl}
 use Rattle.calls.specs.declared.recipe.Recipe.{Recipe}
 use Rattle.calls.specs.declared.recipe.Recipe.TheVariants.{New, Given, Patch, Resized, Transposed, Computed}
 use Rattle.calls.specs.declared.role.Role.{Role}
 use Rattle.calls.specs.declared.role.Role.TheVariants.{Old, First}
-use Rattle.calls.specs.declared.role.Roles.{Roles}
 use Rattle.calls.specs.Recipes.{known_by, known_of, meaning_of}
 use Rattle.calls.specs.Stores.{object_with}
 use Rattle.kernel.specs.declared.block.Block.{Block}
 use Rattle.kernel.specs.declared.block.Block.TheVariants.{Rows, Whole}
 use Rattle.kernel.specs.Pieces.{HasAllRows, IfRows, IsPieceOf, cols_in, content_in}
-use Rattle.kernel.specs.Takes.{AreInputs, lent_in, map_in, maps_in}
-use Rattle.kernel.proofs.TakenLaws.{meaning-is_object, takes-object, whole-store}
+use Rattle.kernel.proofs.TakenLaws.{AreObjects, meaning-is_object, whole-store}
 use Rattle.model.specs.declared.shape.Shape.{Shape}
 use Rattle.model.specs.declared.shape.Shape.TheVariants.{One, Two}
 use Rattle.model.specs.declared.shape.Signature.{Signature}
@@ -27,23 +25,22 @@ transposed_matrix known (One n) map matrix is = absurd (cc)
 transposed_matrix known (Two m n) map matrix is =
     transposed-is_object (object_with (record known { shape = Two m n }) map) is
 
-pub recipe-is_object : (recipe : Recipe) (stores : Roles (Bor Stored)) → AreInputs (known_by recipe) stores
-    → IsObject (object_with (known_of recipe) (meaning_of recipe (maps_in stores)))
-recipe-is_object (New of) stores are = empty-is_object of.domain of.shape
-recipe-is_object (Given given) stores are = given.is_store.is_object
-recipe-is_object (Patch patch) stores are =
-    patch.keeps (map_in (lent_in stores Old)) (takes-object patch.of (lent_in stores Old) (are Old))
-recipe-is_object (Resized of shape) stores are =
-    let old = takes-object of (lent_in stores Old) (are Old) in
+-- ..of objects that take its roles
+pub recipe-is_object : (recipe : Recipe) (maps : Role → Content) → AreObjects (known_by recipe) maps
+    → IsObject (object_with (known_of recipe) (meaning_of recipe maps))
+recipe-is_object (New of) maps are = empty-is_object of.domain of.shape
+recipe-is_object (Given given) maps are = given.is_store.is_object
+recipe-is_object (Patch patch) maps are = patch.keeps (maps Old) (are Old)
+recipe-is_object (Resized of shape) maps are =
+    let old : IsObject (object_with of (maps Old)) = are Old in
     record {
-      within = cut_to-within (rows_of shape) (cols_of shape) (map_in (lent_in stores Old));
-      words = cut_to-words of.domain (rows_of shape) (cols_of shape) (map_in (lent_in stores Old)) old.words;
+      within = cut_to-within (rows_of shape) (cols_of shape) (maps Old);
+      words = cut_to-words of.domain (rows_of shape) (cols_of shape) (maps Old) old.words;
     }
-recipe-is_object (Transposed turn) stores are =
-    transposed_matrix turn.of turn.of.shape (map_in (lent_in stores First)) turn.matrix
-    (takes-object turn.of (lent_in stores First) (are First))
-recipe-is_object (Computed computation) stores are =
-    meaning-is_object computation.out computation.operation stores computation.accepted are
+recipe-is_object (Transposed turn) maps are =
+    transposed_matrix turn.of turn.of.shape (maps First) turn.matrix (are First)
+recipe-is_object (Computed computation) maps are =
+    meaning-is_object computation.out computation.operation maps computation.accepted are
 
 -- the transpose of a matrix has its rows as columns
 pub transposed-shape : (shape : Shape) → is_matrix shape ≡ true

@@ -1,5 +1,5 @@
 -- Stores that take the roles of an operation.
-use Rattle.std.specs.Prelude.{◌≡◌, ℕ, Bool, if◌then◌else◌, Option, Some, None}
+use Rattle.std.specs.Prelude.{Option, Some, None}
 use Rattle.std.specs.Borrow.{Bor}
 use Rattle.std.specs.Option.{option_map, option_map_or}
 use Rattle.calls.specs.declared.role.Role.{Role}
@@ -7,8 +7,7 @@ use Rattle.calls.specs.declared.role.Roles.{Roles}
 use Rattle.calls.specs.Roles.{role_of}
 use Rattle.calls.specs.Stores.{IsStoreOf}
 use Rattle.model.specs.declared.shape.Signature.{Signature}
-use Rattle.model.specs.Object.{Content, no_content, transposed_content}
-use Rattle.model.specs.Table.{transposed_if}
+use Rattle.model.specs.Object.{Content, no_content}
 use Rattle.store.specs.Stored.{Stored, content_of}
 
 -- a role that is read has a store that fits it, and no other role has one
@@ -32,16 +31,3 @@ map_in stored = option_map_or content_of stored no_content
 -- the maps that take the roles
 abbrev pub maps_in : Roles (Bor Stored) → Role → Content
 maps_in stores role = map_in (lent_in stores role)
-
--- the store that is had of another, transposed where a flag says so
-abbrev pub IsTurned : Bool → Option Stored → Option Stored → Type 0
-IsTurned flag (Some old) (Some new) =
-    (new.rows ≡ (if flag then old.cols else old.rows)) × (new.cols ≡ (if flag then old.rows else old.cols))
-    × ((i j : ℕ) → content_of new i j ≡ transposed_if transposed_content flag (content_of old) i j)
-IsTurned flag None None = Unit {0}
-IsTurned flag old new = ⊥
-
--- the store that was made, or the one that was there
-abbrev pub lent : Option Stored → Option Stored → Option Stored
-lent None store = store
-lent (Some made) store = Some made

@@ -14,5 +14,5 @@ mod product;
 mod task;
 
 pub use block::Block;
-pub use evaluation::{evaluate, evaluate_accepted};
+pub use evaluation::evaluate;
 pub use piece::{eval_piece, join};

@@ -153,9 +153,10 @@ pub said_bare : (called : List ℕ) (words : List (List ℕ)) → bytes_eq calle
     → bytes_eq called (codes "resize") ≡ false → bytes_eq called (codes "build") ≡ false
     → bytes_eq called (codes "set") ≡ false → bytes_eq called (codes "remove") ≡ false
     → bytes_eq called (codes "get") ≡ false → bytes_eq called (codes "reduce") ≡ false
+    → bytes_eq called (codes "wait") ≡ false
     → said_by calls called words ≡ said_by bare_calls called words
 unfolding said_by
-said_bare called words a b c d e f g h i = rw (a, b, c, d, e, f, g, h, i) refl
+said_bare called words a b c d e f g h i j = rw (a, b, c, d, e, f, g, h, i, j) refl
 
 said_of_entries : (called : List ℕ) (words : List (List ℕ)) → bytes_eq called (codes "mxm") ≡ false
     → bytes_eq called (codes "mxv") ≡ false → bytes_eq called (codes "vxm") ≡ false

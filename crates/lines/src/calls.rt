@@ -43,6 +43,9 @@ pub fn unlisted<'a>(called: &[u8], words: &[&'a [u8]]) -> Option<Call<&'a str, &
     if called == b"reduce".as_slice() {
         return reduce(words);
     }
+    if called == b"wait".as_slice() {
+        return wait(words);
+    }
     bare(called, words)
 }
 
@@ -242,6 +245,20 @@ fn reduce<'a>(words: &[&'a [u8]]) -> Option<Call<&'a str, &'a str>>
     }
     let object = words::name(words[0])?;
     let act = Act::Reduce(kinds::monoid_name(words[1])?);
+    Some(Call::On { object, act })
+}
+
+/// `wait NAME MODE`
+#[tactic(auto, unfolding(model::specs::Grammar::said_by))]
+fn wait<'a>(words: &[&'a [u8]]) -> Option<Call<&'a str, &'a str>>
+    ensures { option_map (renamed (λ name. name.now) (λ name. name.now)) result
+        ≡ said_by calls (codes "wait") (map (λ word. word.now) words.now) }
+{
+    if words.len() != 2 {
+        return None;
+    }
+    let object = words::name(words[0])?;
+    let act = Act::Wait(kinds::wait_mode(words[1])?);
     Some(Call::On { object, act })
 }
 

@@ -4,13 +4,14 @@ ghost use Rattle.std.specs.List.{position, slice_split};
 ghost use Rattle.std.specs.Option.{option_map};
 ghost use Rattle.model.specs.Grammar.{by_position_of, by_value_of, desc_of, dotted_of, flag_added, flags_added};
 ghost use Rattle.model.specs.Grammar.{index_name_of, monoid_name_of, op_name_of, semiring_name_of, unary_name_of};
+ghost use Rattle.model.specs.Grammar.{wait_mode_of};
 
 use crate::words;
 use algebra::{
     BinaryKind, Domain, IndexKind, IndexName, MonoidKind, MonoidName, OpName, SemiringName,
     UnaryKind, UnaryName,
 };
-use model::Desc;
+use model::{Desc, WaitMode};
 
 /// Where a byte first is in a word.
 fn first_in(byte: u8, word: &[u8]) -> Option<usize>
@@ -129,6 +130,20 @@ fn by_value(word: &[u8]) -> Option<IndexName>
         return None;
     }
     Some(IndexName { kind, domain })
+}
+
+/// A word that says what a wait asks for.
+#[tactic(auto, unfolding(model::specs::Grammar::wait_mode_of))]
+pub fn wait_mode(word: &[u8]) -> Option<WaitMode>
+    ensures { result ≡ wait_mode_of word.now }
+{
+    if word == b"complete".as_slice() {
+        Some(WaitMode::Complete)
+    } else if word == b"materialize".as_slice() {
+        Some(WaitMode::Materialize)
+    } else {
+        None
+    }
 }
 
 /// A descriptor with one flag more, which it didn't have.

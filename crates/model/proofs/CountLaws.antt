@@ -6,7 +6,7 @@ use Rattle.std.specs.Str.{bytes_eq}
 use Rattle.std.proofs.lemmas.Bool.{and_parts, cases_Bool}
 use Rattle.std.proofs.lemmas.Slice.Eq.{bytes_eq-Decides}
 use Rattle.model.specs.declared.call.Act.{Act}
-use Rattle.model.specs.declared.call.Act.TheVariants.{Free, Clear, Resize, Build, Set, Remove, Get, Nvals, Print, Reduce}
+use Rattle.model.specs.declared.call.Act.TheVariants.{Free, Clear, Resize, Build, Set, Remove, Get, Nvals, Print, Reduce, Wait}
 use Rattle.model.specs.declared.call.Call.{Call}
 use Rattle.model.specs.declared.call.Call.TheVariants.{Create, Dup, On, Operate}
 use Rattle.model.specs.declared.call.Operation.{Operation}
@@ -212,6 +212,7 @@ effect-counted env (On name (Remove place)) accepted c =
     changed-counted env name _ (there_on env name (Remove place) accepted) c
 effect-counted env (On name (Get place)) accepted c = c
 effect-counted env (On name Nvals) accepted c = c
+effect-counted env (On name (Wait mode)) accepted c = c
 effect-counted env (On name Print) accepted c = c
 effect-counted env (On name (Reduce monoid)) accepted c = c
 effect-counted env (Operate out op) accepted c = changed-counted env out.c _ (there_out env out op accepted) c

@@ -21,6 +21,7 @@ pub mod RenamedLaws
 pub mod ResultLaws
 pub mod Rows
 pub mod RunLaws
+pub mod SettlesLaws
 pub mod StepLaws
 pub mod StoredLaws
 pub mod TextLaws

@@ -6,7 +6,7 @@ use Rattle.std.specs.Str.{bytes_eq}
 use Rattle.std.proofs.lemmas.Bool.{cases_Bool}
 use Rattle.std.proofs.lemmas.List.Elements.{All-cons, All-head, All-nil, All-tail}
 use Rattle.model.specs.declared.call.Act.{Act}
-use Rattle.model.specs.declared.call.Act.TheVariants.{Free, Clear, Resize, Build, Set, Remove, Get, Nvals, Print, Reduce}
+use Rattle.model.specs.declared.call.Act.TheVariants.{Free, Clear, Resize, Build, Set, Remove, Get, Nvals, Print, Reduce, Wait}
 use Rattle.model.specs.declared.call.Call.{Call}
 use Rattle.model.specs.declared.call.Call.TheVariants.{Create, Dup, On, Operate}
 use Rattle.model.specs.declared.call.Operation.{Operation}
@@ -77,6 +77,7 @@ module _ (s : State Name) (none : NoneTold s) where
   acted_env env object (Build dup tuples) = refl
   acted_env env object (Get place) = refl
   acted_env env object Nvals = refl
+  acted_env env object (Wait mode) = refl
   acted_env env object Print = refl
   acted_env env object (Reduce monoid) = refl
 
@@ -89,6 +90,7 @@ module _ (s : State Name) (none : NoneTold s) where
   acted_untold env object (Build dup tuples) = none_marked s env object Unmarked refl none
   acted_untold env object (Get place) = none_marked s env object Unmarked refl none
   acted_untold env object Nvals = none_marked s env object Unmarked refl none
+  acted_untold env object (Wait mode) = none_marked s env object Unmarked refl none
   acted_untold env object Print = none_marked s env object Unmarked refl none
   acted_untold env object (Reduce monoid) = none_marked s env object Unmarked refl none
 

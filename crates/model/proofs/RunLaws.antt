@@ -1,39 +1,22 @@
--- A run in which memory is never wanting is the run in which each call is done at once, and whether it was wanting
--- can be seen in what is written.
-use Rattle.std.proofs.Common.{◌≡◌, ◌≢◌, ℕ, ◌+◌, List, [], ◌∷◌, ◌++◌, refl, sym, subst, ◌∙◌, ap, inl, inr, append_assoc}
+-- Whether memory was wanting in a run can be seen in what is written: where it wasn't, these are the bytes of the run in
+-- which each call is done at once.
+use Rattle.std.proofs.Common.{◌≡◌, ◌≢◌, ℕ, List, [], ◌∷◌, ◌++◌, refl, sym, subst, ◌∙◌, ap, append_assoc}
 use Rattle.std.specs.Prelude.{codes, decimal}
 use Rattle.std.specs.List.{flat_map}
 use Rattle.std.proofs.lemmas.List.{append_cancel_left}
-use Rattle.std.proofs.lemmas.List.Elements.{All-cons, All-head, All-nil, All-tail}
+use Rattle.std.proofs.lemmas.List.Elements.{All-cons, All-nil}
 use Rattle.model.specs.declared.status.Status.{Status}
 use Rattle.model.specs.declared.status.Status.TheVariants.{InvalidObject, OutOfMemory}
 use Rattle.model.specs.Grammar.{Reading}
 use Rattle.model.specs.MatrixMarket.{File}
-use Rattle.model.specs.Run.{answers_from, out_of_readings}
-use Rattle.model.specs.Runs.{State, first_state, HadMemory, HasWord, IsRun, Ran, TellsOfNoWant, out_of_memory}
+use Rattle.model.specs.Poisoned.{Ran}
+use Rattle.model.specs.Run.{out_of_readings}
+use Rattle.model.specs.Runs.{HadMemory, HasWord, TellsOfNoWant}
 use Rattle.model.specs.Text.{Answer, answer_text, ended, status_name}
+use Rattle.model.proofs.PoisonedLaws.{poisoned-at_once}
 
 abbrev IsNoWant : Answer → Type 0
 IsNoWant a = (a.status ≢ OutOfMemory) × (a.status ≢ InvalidObject)
-
-had_memory-right : (xs ys : List Answer) → HadMemory (xs ++ ys) → HadMemory ys
-had_memory-right [] ys h = h
-had_memory-right (x ∷ xs) ys h = had_memory-right xs ys (All-tail IsNoWant x (xs ++ ys) h)
-
-pub run-at_once : (number : ℕ) (before : State) (readings : List (Reading File)) (answers : List Answer)
-    → IsRun number before readings answers → HadMemory answers
-    → answers ≡ answers_from number before.environment readings
-unfolding IsRun answers_from
-run-at_once number before [] answers none had = none
-run-at_once number before (reading ∷ readings) answers (said, after, later, transposed, run, split) had =
-    let had_all : HadMemory (said ++ later) = rw split at had in
-    let rest : later ≡ answers_from (number + 1) after.environment readings = run-at_once (number + 1) after readings later run (had_memory-right said later had_all) in
-    elim transposed [
-      | inl done ↦ split ∙ rw (rest, done.0, ap (λ (s : State). s.environment) done.1) refl
-      | inr refused ↦
-          let told : HadMemory (out_of_memory number ∷ later) = rw refused.1 at had_all in
-          absurd ((All-head IsNoWant (out_of_memory number) later told).0 refl)
-    ]
 
 -- ---- in bytes
 
@@ -63,7 +46,7 @@ pub ran-at_once : (readings : List (Reading File)) (old new : List ℕ) (ran : R
     → HadMemory ran.answers → new ≡ old ++ out_of_readings readings
 unfolding out_of_readings
 ran-at_once readings old new ran had =
-    ran.written ∙ ap (λ all. old ++ flat_map answer_text all) (run-at_once 1 first_state readings ran.answers ran.run had)
+    ran.written ∙ ap (λ all. old ++ flat_map answer_text all) (poisoned-at_once readings ran.answers ran.run had)
 
 -- ..and so it did where what it wrote tells of none
 pub ran-in_bytes : (readings : List (Reading File)) (old new : List ℕ) → Ran readings old new

@@ -6,7 +6,7 @@ use Rattle.std.specs.Str.{bytes_eq}
 use Rattle.std.proofs.lemmas.List.Elements.{All-cons, All-nil}
 use Rattle.algebra.specs.Value.{word_of}
 use Rattle.model.specs.declared.call.Act.{Act}
-use Rattle.model.specs.declared.call.Act.TheVariants.{Free, Clear, Resize, Build, Set, Remove, Get, Nvals, Print, Reduce}
+use Rattle.model.specs.declared.call.Act.TheVariants.{Free, Clear, Resize, Build, Set, Remove, Get, Nvals, Print, Reduce, Wait}
 use Rattle.model.specs.declared.call.Call.{Call}
 use Rattle.model.specs.declared.call.Call.TheVariants.{Create, Dup, On, Operate}
 use Rattle.model.specs.declared.call.Operation.{Operation}
@@ -227,6 +227,7 @@ effect-are_objects same env (On name (Remove place)) are accepted =
     (removed-is_object o place (object_at-is_object env are name))
 effect-are_objects same env (On name (Get place)) are accepted = are
 effect-are_objects same env (On name Nvals) are accepted = are
+effect-are_objects same env (On name (Wait mode)) are accepted = are
 effect-are_objects same env (On name Print) are accepted = are
 effect-are_objects same env (On name (Reduce monoid)) are accepted = are
 effect-are_objects same env (Operate out op) are accepted =

@@ -7,7 +7,7 @@ use Rattle.std.proofs.lemmas.Bool.{cases_Bool, true≢false}
 use Rattle.std.proofs.lemmas.Slice.Eq.{bytes_eq-Decides}
 use Rattle.algebra.specs.declared.domain.Domain.{Domain}
 use Rattle.model.specs.declared.call.Act.{Act}
-use Rattle.model.specs.declared.call.Act.TheVariants.{Free, Clear, Resize, Build, Set, Remove, Get, Nvals, Print, Reduce}
+use Rattle.model.specs.declared.call.Act.TheVariants.{Free, Clear, Resize, Build, Set, Remove, Get, Nvals, Print, Reduce, Wait}
 use Rattle.model.specs.declared.call.Call.{Call}
 use Rattle.model.specs.declared.call.Call.TheVariants.{Create, Dup, On, Operate}
 use Rattle.model.specs.declared.status.Status.{Status}
@@ -72,6 +72,7 @@ module _ (s : State Name) (k : Name) (was : told s k ≡ true) where
   acted_stays env object (Build dup tuples) untold anew = other_marked env object Unmarked (untold_apart object untold)
   acted_stays env object (Get place) untold anew = other_marked env object Unmarked (untold_apart object untold)
   acted_stays env object Nvals untold anew = other_marked env object Unmarked (untold_apart object untold)
+  acted_stays env object (Wait mode) untold anew = other_marked env object Unmarked (untold_apart object untold)
   acted_stays env object Print untold anew = other_marked env object Unmarked (untold_apart object untold)
   acted_stays env object (Reduce monoid) untold anew = other_marked env object Unmarked (untold_apart object untold)
 
@@ -150,6 +151,7 @@ acted_elsewhere env object (Set place value) k apart = rw apart refl
 acted_elsewhere env object (Remove place) k apart = rw apart refl
 acted_elsewhere env object (Get place) k apart = refl
 acted_elsewhere env object Nvals k apart = refl
+acted_elsewhere env object (Wait mode) k apart = refl
 acted_elsewhere env object Print k apart = refl
 acted_elsewhere env object (Reduce monoid) k apart = refl
 
@@ -198,6 +200,7 @@ module _ (s : State Name) (agreed : IsAgreed s) where
   acted_agrees env object (Build dup tuples) elsewhere = marked_agrees env object Unmarked refl elsewhere
   acted_agrees env object (Get place) elsewhere = marked_agrees env object Unmarked refl elsewhere
   acted_agrees env object Nvals elsewhere = marked_agrees env object Unmarked refl elsewhere
+  acted_agrees env object (Wait mode) elsewhere = marked_agrees env object Unmarked refl elsewhere
   acted_agrees env object Print elsewhere = marked_agrees env object Unmarked refl elsewhere
   acted_agrees env object (Reduce monoid) elsewhere = marked_agrees env object Unmarked refl elsewhere
 

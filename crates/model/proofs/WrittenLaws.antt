@@ -30,7 +30,7 @@ use Rattle.algebra.specs.declared.operator_names.UnaryName.{UnaryName}
 use Rattle.algebra.specs.IndexOperators.{is_by_position}
 use Rattle.algebra.specs.Operators.{combines_by}
 use Rattle.algebra.specs.Names.{binary_name, domain_name, index_from_name, index_name, monoid_name, unary_name}
-use Rattle.model.specs.declared.call.Act.TheVariants.{Free, Clear, Resize, Build, Set, Remove, Get, Nvals, Print, Reduce}
+use Rattle.model.specs.declared.call.Act.TheVariants.{Free, Clear, Resize, Build, Set, Remove, Get, Nvals, Print, Reduce, Wait}
 use Rattle.model.specs.declared.call.Call.{Call}
 use Rattle.model.specs.declared.call.Call.TheVariants.{Create, Dup, On, Operate}
 use Rattle.model.specs.declared.call.Desc.{Desc}
@@ -41,14 +41,16 @@ use Rattle.model.specs.declared.call.Operation.TheVariants.{Fill, OfOne, OfTwo}
 use Rattle.model.specs.declared.call.Out.{Out}
 use Rattle.model.specs.declared.call.Positions.TheVariants.{Union, Intersection}
 use Rattle.model.specs.declared.call.Region.TheVariants as region
+use Rattle.model.specs.declared.call.WaitMode.{WaitMode}
+use Rattle.model.specs.declared.call.WaitMode.TheVariants.{Complete, Materialize}
 use Rattle.model.specs.declared.call.TwoInputs.TheVariants.{Combine, Multiply}
 use Rattle.model.specs.declared.shape.Shape.TheVariants as shape
 use Rattle.model.specs.declared.shape.Place.{Place}
 use Rattle.model.specs.declared.shape.Place.TheVariants.{One, Two}
 use Rattle.model.specs.declared.tuples.Tuple.{Tuple}
-use Rattle.model.specs.Grammar.{Called, Name, all_read, are_alike, by_position_of, by_value_of, call_of, calls, command_of, desc_of, domain_of, dotted_of, flag_added, index_name_of, indices_of, is_digit, is_name, is_none_word, middle_of, monoid_name_of, name_of, nth_word, number_of, one_of, op_name_of, operate_of, operations, out_of_words, perhaps, said_by, semiring_name_of, tuple_of, tuples_of, two_of, unary_name_of, value_of_word}
+use Rattle.model.specs.Grammar.{Called, Name, all_read, are_alike, by_position_of, by_value_of, call_of, calls, command_of, desc_of, domain_of, dotted_of, flag_added, index_name_of, indices_of, is_digit, is_name, is_none_word, middle_of, monoid_name_of, name_of, nth_word, number_of, one_of, op_name_of, operate_of, operations, out_of_words, perhaps, said_by, semiring_name_of, tuple_of, tuples_of, two_of, unary_name_of, value_of_word, wait_mode_of}
 use Rattle.model.specs.Indices.{All as AllIndices, Indices, These}
-use Rattle.model.specs.Written.{IsDomain, IsIndex, IsIndexName, IsList, IsName, IsOperation, IsOut, IsPlace, IsTuple, IsValue, IsWritable, desc_word, dotted, first_word, index_word, indices_word, joined, listed, middle_words, monoid_word, op_word, semiring_word, tuple_word, unary_word, word_or_none, words_for}
+use Rattle.model.specs.Written.{IsDomain, IsIndex, IsIndexName, IsList, IsName, IsOperation, IsOut, IsPlace, IsTuple, IsValue, IsWritable, desc_word, dotted, first_word, index_word, indices_word, joined, listed, middle_words, monoid_word, op_word, semiring_word, tuple_word, unary_word, wait_word, word_or_none, words_for}
 use Rattle.model.proofs.TextLaws.{decimal-number, digits-whole}
 
 -- ---- words of names
@@ -429,6 +431,11 @@ written-operate out operation is fits =
 
 -- ---- calls
 
+wait_mode_of-word : (mode : WaitMode) → wait_mode_of (wait_word mode) ≡ Some mode
+unfolding wait_mode_of
+wait_mode_of-word Complete = refl
+wait_mode_of-word Materialize = refl
+
 -- each call that can be written is read as it was written
 pub command_of-words_for : (call : Call Name Name) → IsWritable call → command_of (words_for call) ≡ Some (Called call)
 unfolding command_of call_of said_by
@@ -451,4 +458,5 @@ command_of-words_for (On object (Remove (Two i j))) is = rw (name_of-name object
 command_of-words_for (On object (Get (One i))) is = rw (name_of-name object is.0, number_of-decimal i is.1) refl
 command_of-words_for (On object (Get (Two i j))) is = rw (name_of-name object is.0, number_of-decimal i is.1.0, number_of-decimal j is.1.1) refl
 command_of-words_for (On object (Reduce monoid)) is = rw (name_of-name object is.0, monoid_name_of-word monoid is.1) refl
+command_of-words_for (On object (Wait mode)) is = rw (name_of-name object is.0, wait_mode_of-word mode) refl
 command_of-words_for (Operate out operation) is = written-operate out operation is.0 is.1

@@ -18,7 +18,7 @@ use Rattle.algebra.specs.IndexOperators.{is_by_position}
 use Rattle.algebra.specs.Value.{is_built_in}
 use Rattle.algebra.specs.Names.{binary_from_name, domain_from_name, index_from_name, monoid_from_name, unary_from_name}
 use Rattle.model.specs.declared.call.Act.TheVariants.{Free, Clear, Resize, Build, Set, Remove, Get, Nvals, Print}
-use Rattle.model.specs.declared.call.Act.TheVariants.{Reduce}
+use Rattle.model.specs.declared.call.Act.TheVariants.{Reduce, Wait}
 use Rattle.model.specs.declared.call.Call.{Call}
 use Rattle.model.specs.declared.call.Call.TheVariants.{Create, Dup, On, Operate}
 use Rattle.model.specs.declared.call.Desc.{Desc}
@@ -30,6 +30,8 @@ use Rattle.model.specs.declared.call.Out.{Out}
 use Rattle.model.specs.declared.call.Positions.TheVariants.{Union, Intersection}
 use Rattle.model.specs.declared.call.Region.TheVariants as region
 use Rattle.model.specs.declared.call.TwoInputs.TheVariants.{Combine, Multiply}
+use Rattle.model.specs.declared.call.WaitMode.{WaitMode}
+use Rattle.model.specs.declared.call.WaitMode.TheVariants.{Complete, Materialize}
 use Rattle.model.specs.declared.limits.TheConstants.{LONGEST_FILE_NAME, LONGEST_LINE, LONGEST_NAME}
 use Rattle.model.specs.declared.shape.Place.{Place}
 use Rattle.model.specs.declared.shape.Place.TheVariants.{One, Two}
@@ -253,6 +255,14 @@ flags_added desc (word ∷ words) = flag_added desc word >>= λ more. flags_adde
 unfoldable pub desc_of : List ℕ → Option Desc
 desc_of word = if is_none_word word then Some no_flags else flags_added no_flags (items_of word)
 
+-- ---- waits
+
+unfoldable pub wait_mode_of : List ℕ → Option WaitMode
+wait_mode_of word =
+    if bytes_eq word (codes "complete") then Some Complete
+    else if bytes_eq word (codes "materialize") then Some Materialize
+    else None
+
 -- ---- the forms of words
 
 -- what a word is to be; tuples are all the words that are left
@@ -268,6 +278,7 @@ pub data WordForm : Type 0 where
   AnIndexOperator : WordForm
   AMonoid : WordForm
   ASemiring : WordForm
+  AWaitMode : WordForm
   Tuples : WordForm
 
 -- what a word of a form says
@@ -283,6 +294,7 @@ Said AUnaryOperator = UnaryName
 Said AnIndexOperator = IndexName
 Said AMonoid = MonoidName
 Said ASemiring = SemiringName
+Said AWaitMode = WaitMode
 Said Tuples = List Tuple
 
 -- what the word at a place says, if it has the form
@@ -298,6 +310,7 @@ read_word AUnaryOperator words k = unary_name_of (nth_word words k)
 read_word AnIndexOperator words k = index_name_of (nth_word words k)
 read_word AMonoid words k = monoid_name_of (nth_word words k)
 read_word ASemiring words k = semiring_name_of (nth_word words k)
+read_word AWaitMode words k = wait_mode_of (nth_word words k)
 read_word Tuples words k = tuples_of (drop k words)
 
 -- what makes something of what words of some forms say
@@ -359,6 +372,7 @@ calls =
     ∷ row (codes "nvals") (AName ∷ []) (λ object. On object Nvals)
     ∷ row (codes "print") (AName ∷ []) (λ object. On object Print)
     ∷ row (codes "reduce") (AName ∷ AMonoid ∷ []) (λ object monoid. On object (Reduce monoid))
+    ∷ row (codes "wait") (AName ∷ AWaitMode ∷ []) (λ object mode. On object (Wait mode))
     ∷ []
 
 -- the operations, by the words between ACCUM and DESC

@@ -4,7 +4,7 @@ use Rattle.std.specs.Prelude.{◌≡◌, ◌⊎◌, ◌&&◌, ◌||◌, not, Boo
 use Rattle.std.specs.List.{list_all}
 use Rattle.std.specs.Option.{option_map_or}
 use Rattle.model.specs.declared.call.Act.{Act}
-use Rattle.model.specs.declared.call.Act.TheVariants.{Resize, Build, Set, Remove, Get, Nvals, Print, Reduce}
+use Rattle.model.specs.declared.call.Act.TheVariants.{Resize, Build, Set, Remove, Get, Nvals, Print, Reduce, Wait}
 use Rattle.model.specs.declared.call.Call.{Call}
 use Rattle.model.specs.declared.call.Call.TheVariants.{Create, Dup, On, Operate}
 use Rattle.model.specs.declared.call.Operation.{Operation}
@@ -68,6 +68,7 @@ asks_value (Get place) = true
 asks_value Nvals = true
 asks_value Print = true
 asks_value (Reduce monoid) = true
+asks_value (Wait mode) = true
 asks_value _ = false
 
 -- the object for whose value a call asks

@@ -2,6 +2,7 @@
 -- and so is one in which any work, done in any order, failed.
 use Rattle.std.specs.Prelude.{ℕ, ◌+◌, ◌≡◌, ◌⊎◌, ◌&&◌, not, Bool, false, true, is_some, List, [], ◌∷◌, ◌++◌, Option}
 use Rattle.std.specs.Prelude.{None}
+use Rattle.std.specs.List.{flat_map}
 use Rattle.std.specs.Option.{option_map, option_map_or}
 use Rattle.std.specs.Str.{bytes_eq}
 use Rattle.model.specs.declared.call.Act.TheVariants.{Free, Clear}
@@ -12,14 +13,15 @@ use Rattle.model.specs.declared.status.Status.TheVariants as status
 use Rattle.model.specs.Fault.{early_fault, fault_by_values}
 use Rattle.model.specs.Grammar.{Name, Reading, Silent, Malformed, Called, Loads}
 use Rattle.model.specs.Loads.{load_fault}
-use Rattle.model.specs.Marks.{HasFailed, IsUntold, Settles, State, Unmarked, asked_by, left_by, looked_at}
+use Rattle.model.specs.Marks.{HasFailed, IsUntold, Settles, State, Unmarked, asked_by, first_state, left_by}
+use Rattle.model.specs.Marks.{looked_at}
 use Rattle.model.specs.Marks.{reads_told, told, with_mark}
 use Rattle.model.specs.MatrixMarket.{File}
 use Rattle.model.specs.Object.{no_content, signature_of}
 use Rattle.model.specs.Renamed.{renamed}
 use Rattle.model.specs.Run.{Environment, loaded, object_at, seen, turn}
 use Rattle.model.specs.Runs.{IsAnswered, out_of_memory}
-use Rattle.model.specs.Text.{Answer}
+use Rattle.model.specs.Text.{Answer, answer_text}
 
 -- ---- one line
 
@@ -99,3 +101,9 @@ IsPoisonedRun number before (reading ∷ readings) answers =
     (ready : State Name) × (said : List Answer) × (after : State Name) × (later : List Answer) × Settles before ready
     × IsLine number ready reading said after × IsPoisonedRun (number + 1) after readings later
     × (answers ≡ said ++ later)
+
+-- bytes, and with them the answers of a run of lines
+pub record Ran (readings : List (Reading File)) (old new : List ℕ) : Type 0 where
+  pub answers : List Answer
+  pub run : IsPoisonedRun 1 first_state readings answers
+  pub written : new ≡ old ++ flat_map answer_text answers

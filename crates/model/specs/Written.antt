@@ -16,7 +16,7 @@ use Rattle.algebra.specs.IndexOperators.{is_by_position}
 use Rattle.algebra.specs.Names.{binary_name, domain_name, index_name, monoid_name, unary_name}
 use Rattle.model.specs.declared.call.Act.{Act}
 use Rattle.model.specs.declared.call.Act.TheVariants.{Free, Clear, Resize, Build, Set, Remove, Get, Nvals, Print}
-use Rattle.model.specs.declared.call.Act.TheVariants.{Reduce}
+use Rattle.model.specs.declared.call.Act.TheVariants.{Reduce, Wait}
 use Rattle.model.specs.declared.call.Call.{Call}
 use Rattle.model.specs.declared.call.Call.TheVariants.{Create, Dup, On, Operate}
 use Rattle.model.specs.declared.call.Desc.{Desc}
@@ -33,6 +33,8 @@ use Rattle.model.specs.declared.call.Region.{Region}
 use Rattle.model.specs.declared.call.Region.TheVariants as region
 use Rattle.model.specs.declared.call.TwoInputs.{TwoInputs}
 use Rattle.model.specs.declared.call.TwoInputs.TheVariants.{Combine, Multiply}
+use Rattle.model.specs.declared.call.WaitMode.{WaitMode}
+use Rattle.model.specs.declared.call.WaitMode.TheVariants.{Complete, Materialize}
 use Rattle.model.specs.declared.shape.Place.{Place}
 use Rattle.model.specs.declared.shape.Place.TheVariants.{One, Two}
 use Rattle.model.specs.declared.shape.Shape.{Shape}
@@ -160,6 +162,10 @@ abbrev pub create_word : Shape → List ℕ
 create_word (shape.One size) = codes "vector"
 create_word (shape.Two rows cols) = codes "matrix"
 
+abbrev pub wait_word : WaitMode → List ℕ
+wait_word Complete = codes "complete"
+wait_word Materialize = codes "materialize"
+
 -- an act's word, and those behind the object
 abbrev pub act_word : Act → List ℕ
 act_word Free = codes "free"
@@ -172,6 +178,7 @@ act_word (Get place) = codes "get"
 act_word Nvals = codes "nvals"
 act_word Print = codes "print"
 act_word (Reduce monoid) = codes "reduce"
+act_word (Wait mode) = codes "wait"
 
 abbrev pub act_words : Act → List (List ℕ)
 act_words (Resize s) = shape_words s
@@ -180,6 +187,7 @@ act_words (Set place value) = place_words place ++ signed_decimal value ∷ []
 act_words (Remove place) = place_words place
 act_words (Get place) = place_words place
 act_words (Reduce monoid) = monoid_word monoid ∷ []
+act_words (Wait mode) = wait_word mode ∷ []
 act_words _ = []
 
 abbrev pub words_for : Call Name Name → List (List ℕ)

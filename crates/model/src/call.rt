@@ -114,6 +114,15 @@ pub enum Operation<K> {
     OfTwo { computes: TwoInputs, a: K, b: K },
 }
 
+/// What a wait asks for (`GrB_WaitMode`).
+#[derive(Clone, Copy)]
+pub enum WaitMode {
+    /// `GrB_COMPLETE`: the value of the object is there, and all that it needs.
+    Complete,
+    /// `GrB_MATERIALIZE`: that, and what reads the object later rests on its value alone.
+    Materialize,
+}
+
 /// What is done to one object, or asked of it.
 #[derive(Drop)]
 pub enum Act {
@@ -146,6 +155,8 @@ pub enum Act {
     Print,
     /// Asks for the sum of all values (`GrB_reduce` to a scalar).
     Reduce(MonoidName),
+    /// Asks for no more than that the value is there (`GrB_Matrix_wait`, `GrB_Vector_wait`).
+    Wait(WaitMode),
 }
 
 /// A call, by the objects that it names. `K` is how it names objects, and `N` how it names one that it

@@ -17,7 +17,7 @@ mod table;
 mod tuples;
 
 pub use call::{
-    Act, Call, Desc, Form, OneInput, Operation, Out, Plan, Positions, Region, TwoInputs,
+    Act, Call, Desc, Form, OneInput, Operation, Out, Plan, Positions, Region, TwoInputs, WaitMode,
 };
 pub use entry::Entry;
 pub use found::{Lent, Lookup};

@@ -8,6 +8,6 @@ mod value;
 
 pub use kept::{Kept, Refusal};
 pub use table::{
-    Table, edit, finish, give, insert, is_told, put, remove, signature, store, ticket,
+    Table, edit, finish, give, insert, is_told, put, remove, signature, store, take_ticket, ticket,
 };
 pub use value::Value;

@@ -1,5 +1,5 @@
 //! One object.
-ghost use Rattle.std.specs.Prelude.{◌≡◌, ◌≢◌, [], IfOk, OnErr, OnOk, false, true};
+ghost use Rattle.std.specs.Prelude.{◌≡◌, ◌≢◌, [], IfOk, OnErr, OnOk, false, not, true};
 ghost use Rattle.calls.specs.Stores.{IsStoreOf, object_with};
 ghost use Rattle.model.specs.Marks.{MayBecome, Open, is_told};
 ghost use Rattle.model.specs.Object.{IsObject, cols_of, rows_of};
@@ -75,26 +75,29 @@ fn make_room<R: Runner>(alloc: Global, runner: &mut R, object: &mut Kept<R>) -> 
     Ok(())
 }
 
-/// Has a ticket stand for an object, unless it was told to have failed. Refused, it stays the object that it was.
+/// Has a ticket stand for an object, and says whether one does: none does where it was told to have failed. Refused,
+/// it stays the object that it was.
 pub(crate) fn give<R: Runner>(
     alloc: Global,
     runner: &mut R,
     object: &mut Kept<R>,
-) -> Result<(), NoMemory>
+) -> Result<bool, NoMemory>
     ensures object { object_in object.new ≡ object_in object.old }
     ensures mark { mark_in object.new ≡ mark_in object.old }
-    ensures ready { OnOk result (is_told (mark_in object.old) ≡ false → is_ready object.new ≡ true) }
+    ensures given { IfOk result (λ given. given ≡ not (is_told (mark_in object.old))) }
+    ensures ready { IfOk result (λ given. given ≡ true → is_ready object.new ≡ true) }
     ensures still { is_ready object.old ≡ true → is_ready object.new ≡ true }
 {
     if is_told(object) {
-        return Ok(());
+        return Ok(false);
     }
     value::make(alloc, runner, object.of, &mut object.value)?;
     value::give_ticket(runner, object.of, &mut object.value)?;
     if object.edits.is_empty() {
-        return Ok(());
+        return Ok(true);
     }
-    submit_edits(alloc, runner, object)
+    submit_edits(alloc, runner, object)?;
+    Ok(true)
 }
 
 /// Submits the edits that wait on an object with a ticket.
@@ -165,7 +168,8 @@ fn do_edits<R: Runner>(alloc: Global, runner: &mut R, object: &mut Kept<R>) -> R
     if object.edits.is_empty() || edit_in_place(alloc, runner, object)? {
         return Ok(());
     }
-    give(alloc, runner, object)
+    give(alloc, runner, object)?;
+    Ok(())
 }
 
 /// Does the edits that wait on an object in place, where its store is there and nobody shares it. Says whether it
@@ -191,6 +195,14 @@ fn edit_in_place<R: Runner>(
     };
     apply_edits(alloc, store, &mut object.edits)?;
     Ok(true)
+}
+
+/// Gives the ticket of an object back whose store is there, so that what reads it later rests on the store alone.
+pub(crate) fn take_ticket<R: Runner>(runner: &mut R, object: &mut Kept<R>)
+    ensures object { object_in object.new ≡ object_in object.old }
+    ensures mark { mark_in object.new ≡ mark_in object.old }
+{
+    value::take_ticket(runner, object.of, &mut object.value);
 }
 
 /// Puts another value into an object, of which this is known then, and on which no edits wait.

@@ -1,5 +1,5 @@
 //! Objects by their numbers.
-ghost use Rattle.std.specs.Prelude.{◌≡◌, ◌+◌, [], None, OnErr, OnOk, false, if◌then◌else◌};
+ghost use Rattle.std.specs.Prelude.{◌≡◌, ◌+◌, [], IfOk, None, OnErr, OnOk, false, if◌then◌else◌, not};
 ghost use Rattle.std.specs.Prelude.{is_some, true};
 ghost use Rattle.std.specs.Option.{option_map};
 ghost use Rattle.calls.specs.declared.obj.Obj.{Obj as AnyObj};
@@ -66,17 +66,18 @@ pub fn is_told<R: Runner>(table: &Table<R>, object: Obj) -> bool
     }
 }
 
-/// Has a ticket stand for an object that is there, unless it was told to have failed. Refused, all objects stay.
+/// Has a ticket stand for an object that is there, and says whether one does: none does where it was told to have
+/// failed. Refused, all objects stay.
 pub fn give<R: Runner>(
     alloc: Global,
     runner: &mut R,
     table: &mut Table<R>,
     object: Obj,
-) -> Result<(), NoMemory>
+) -> Result<bool, NoMemory>
     requires there { is_some ((state_in table.old).environment.find_object object) ≡ true }
     ensures state { state_in table.new ≡ state_in table.old }
-    ensures ready { OnOk result (told (state_in table.old) object ≡ false
-        → is_ready_at table.new object ≡ true) }
+    ensures given { IfOk result (λ given. given ≡ not (told (state_in table.old) object)) }
+    ensures ready { IfOk result (λ given. given ≡ true → is_ready_at table.new object ≡ true) }
     ensures still { (other : AnyObj) → is_ready_at table.old other ≡ true → is_ready_at table.new other ≡ true }
 {
     match table.by_number.get_mut(&object.0) {
@@ -99,6 +100,18 @@ pub fn finish<R: Runner>(
 {
     match table.by_number.get_mut(&object.0) {
         Some(kept) => object::finish(alloc, runner, kept),
+        None => unreachable!(),
+    }
+}
+
+/// Gives the ticket of an object back that is there and whose store is, so that what reads it later rests on the store
+/// alone.
+pub fn take_ticket<R: Runner>(runner: &mut R, table: &mut Table<R>, object: Obj)
+    requires there { is_some ((state_in table.old).environment.find_object object) ≡ true }
+    ensures state { state_in table.new ≡ state_in table.old }
+{
+    match table.by_number.get_mut(&object.0) {
+        Some(kept) => object::take_ticket(runner, kept),
         None => unreachable!(),
     }
 }

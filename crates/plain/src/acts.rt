@@ -97,7 +97,7 @@ pub fn known_left(act: &Act, o: Signature) -> Option<Signature>
             shape: *shape,
         }),
         Act::Clear | Act::Build { .. } | Act::Set { .. } | Act::Remove(_) => Some(o),
-        Act::Free | Act::Get(_) | Act::Nvals | Act::Print | Act::Reduce(_) => None,
+        Act::Free | Act::Get(_) | Act::Nvals | Act::Print | Act::Reduce(_) | Act::Wait(_) => None,
     }
 }
 

@@ -2,6 +2,7 @@
 #![tactic(auto)]
 
 mod at_once;
+mod borrowed;
 mod runner;
 mod submitting;
 mod ticket;

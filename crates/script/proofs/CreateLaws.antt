@@ -1,7 +1,6 @@
 -- Objects that are made under a name, or not for want of memory.
-use Rattle.std.proofs.Common.{◌≡◌, ◌∙◌, ℕ, ◌+◌, ◌-◌, ◌==◌, Bool, true, false, cond, Option, Some, None, is_some, Result, Ok, Err, refl, sym, ap, arith, inl, inr}
-use Rattle.std.specs.Prelude.{OnErr, OnOk}
-use Rattle.std.specs.Option.{option_and_then, unwrap_or}
+use Rattle.std.proofs.Common.{◌≡◌, ◌∙◌, ℕ, ◌+◌, ◌-◌, ◌==◌, Bool, true, false, cond, Option, Some, None, is_some, refl, sym, ap, arith, inl, inr}
+use Rattle.std.specs.Option.{option_and_then, option_map_or, unwrap_or}
 use Rattle.std.specs.Str.{bytes_eq}
 use Rattle.std.proofs.lemmas.Bool.{cases_Bool, eqb-true, true≢false}
 use Rattle.std.proofs.lemmas.Slice.Eq.{bytes_eq-Decides}
@@ -10,21 +9,24 @@ use Rattle.calls.specs.declared.obj.Obj.{Obj}
 use Rattle.model.specs.declared.call.Call.TheVariants.{Create, Dup}
 use Rattle.model.specs.declared.shape.Shape.{Shape}
 use Rattle.model.specs.declared.status.Status.TheVariants as status
-use Rattle.model.specs.Fault.{early_fault, fault_of}
+use Rattle.model.specs.Fault.{early_fault}
 use Rattle.model.specs.Grammar.{Name}
-use Rattle.model.specs.Object.{Object, empty_object}
-use Rattle.model.specs.Run.{Environment, effect, no_object, object_at, seen, with_object, without_object}
+use Rattle.model.specs.Marks.{Mark, MayBecome, Open, Settles, State, Told, Unmarked, left_by, put_off, told, with_mark}
+use Rattle.model.specs.Object.{Object, empty_object, no_content}
+use Rattle.model.specs.Run.{Environment, effect, no_object, object_at, seen, with_content, with_object, without_object}
 use Rattle.model.proofs.EnvironmentLaws.{environments_equal}
+use Rattle.model.proofs.SettlesLaws.{becomes-then}
 use Rattle.script.proofs.NameLaws.{AreDistinct, own_number, same_number}
-use Rattle.script.specs.Named.{through}
-use Rattle.session.specs.declared.sessions.Session.{Session}
-use Rattle.session.specs.Performed.{environment_of}
-use Rattle.session.specs.Tables.{same_object}
+use Rattle.script.proofs.StateLaws.{marked-along, off-along, told-along}
+use Rattle.script.specs.Freed.{IsFreed}
+use Rattle.script.specs.Named.{state_through, through}
+use Rattle.session.specs.Performed.{same_object}
+use Rattle.session.specs.Ends.{fault_before}
 
 -- ---- faults
 
 taken_name : (count : ℕ) (domain : Domain) (shape : Shape) (taken : Bool) → taken ≡ true
-    → fault_of count (Create taken domain shape) ≡ Some status.NameTaken
+    → fault_before count (Create taken domain shape) ≡ Some status.NameTaken
 unfolding early_fault
 taken_name count domain shape taken h = rw h refl
 
@@ -36,7 +38,7 @@ there_through number senv (Some o) there h = there o refl
 
 pub fault-taken : (number : Name → Option Obj) (senv : Environment Obj) (name : Name) (domain : Domain) (shape : Shape)
     → ((n : Name) (o : Obj) → number n ≡ Some o → is_some (senv.find_object o) ≡ true) → is_some (number name) ≡ true
-    → fault_of senv.count (seen (through number senv) (Create name domain shape)) ≡ Some status.NameTaken
+    → fault_before senv.count (seen (through number senv) (Create name domain shape)) ≡ Some status.NameTaken
 fault-taken number senv name domain shape there taken =
     taken_name senv.count domain shape (is_some (option_and_then senv.find_object (number name))) (there_through number senv (number name) (there name) taken)
 
@@ -81,16 +83,6 @@ created number new senv name o object count adds there unused =
           ap (option_and_then made.find_object) now ∙ rw apart (other_object n (number n) refl)
     ])
     refl
-
-pub created-effect : (number new : Name → Option Obj) (senv made : Environment Obj) (name : Name) (o : Obj)
-    (domain : Domain) (shape : Shape)
-    → ((q : Name) → new q ≡ cond (bytes_eq name q) (Some o) (number q))
-    → ((n : Name) (q : Obj) → number n ≡ Some q → is_some (senv.find_object q) ≡ true) → senv.find_object o ≡ None
-    → made ≡ effect same_object senv (Create o domain shape)
-    → through new made ≡ effect bytes_eq (through number senv) (Create name domain shape)
-unfolding effect
-created-effect number new senv made name o domain shape adds there unused is =
-    ap (through new) is ∙ created number new senv name o (empty_object domain shape) (senv.count + 1) adds there unused
 
 -- two names still stand for one object only where they are the same
 pub created-distinct : (number new : Name → Option Obj) (senv : Environment Obj) (name : Name) (o : Obj)
@@ -138,92 +130,123 @@ created-there number new senv made name o object adds there is n q stands =
       | inr apart ↦ made_there senv o q object (senv.count + 1) (there n q (rw apart at (sym (adds n) ∙ stands)))
     ]
 
--- ---- an object that goes again
-
-pub gone_again : (senv made freed : Environment Obj) (o : Obj) (object : Object) → senv.find_object o ≡ None
-    → made ≡ with_object same_object senv o object (senv.count + 1) → freed ≡ without_object same_object made o
-    → freed ≡ senv
-gone_again senv made freed o object unused is left =
-    left ∙ ap (λ (env : Environment Obj). without_object same_object env o) is
-    ∙ environments_equal (without_object same_object (with_object same_object senv o object (senv.count + 1)) o) senv
-    (λ q. elim (cases_Bool (o.0 == q.0)) [
-      | inl same ↦ let one : o ≡ q = same_number o q (eqb-true o.0 q.0 same) in rw same (sym (rw one at unused))
-      | inr apart ↦ rw apart refl
-    ])
-    (omega arith)
-
--- ---- a name for what was made, or what was made gone again
-
--- what was made is there
-pub new_there : (senv made : Environment Obj) (o : Obj) (object : Object)
-    → made ≡ with_object same_object senv o object (senv.count + 1) → is_some (made.find_object o) ≡ true
-new_there senv made o object is = ap (λ (env : Environment Obj). is_some (env.find_object o)) is ∙ rw (own_number o.0) refl
-
--- names stay apart, and each stands for an object that is there
-pub names_after : {T E : Type 0} (r : Result T E) (number new : Name → Option Obj) (senv : Environment Obj)
-    (before after : Session) (key : Name) (o : Obj) (object : Object)
-    → environment_of before ≡ with_object same_object senv o object (senv.count + 1) → senv.find_object o ≡ None
-    → AreDistinct number
-    → ((n : Name) (q : Obj) → number n ≡ Some q → is_some (senv.find_object q) ≡ true)
-    → OnOk r ((n : Name) → new n ≡ cond (bytes_eq key n) (Some o) (number n)) → OnOk r (after ≡ before)
-    → OnErr r ((n : Name) → new n ≡ number n)
-    → OnErr r (environment_of after ≡ without_object same_object (environment_of before) o)
-    → AreDistinct new × ((n : Name) (q : Obj) → new n ≡ Some q → is_some ((environment_of after).find_object q) ≡ true)
-names_after (Ok x) number new senv before after key o object is unused distinct there adds same kept gone = (
-  created-distinct number new senv key o adds there unused distinct,
-  λ n q stands. ap (λ (session : Session). is_some ((environment_of session).find_object q)) same ∙ created-there number new senv (environment_of before) key o object adds there is n q stands,
-)
-names_after (Err e) number new senv before after key o object is unused distinct there adds same kept gone =
-    let freed : environment_of after ≡ senv = gone_again senv (environment_of before) (environment_of after) o object unused is gone in (
-      λ a b q is_a is_b. distinct a b q (sym (kept a) ∙ is_a) (sym (kept b) ∙ is_b),
-      λ n q stands. ap (λ (env : Environment Obj). is_some (env.find_object q)) freed ∙ there n q (sym (kept n) ∙ stands),
-    )
-
--- ---- what is made
-
-pub create-makes : (senv made : Environment Obj) (o : Obj) (domain : Domain) (shape : Shape)
-    → made ≡ effect same_object senv (Create o domain shape)
-    → made ≡ with_object same_object senv o (empty_object domain shape) (senv.count + 1)
-unfolding effect
-create-makes senv made o domain shape is = is
-
-pub dup-makes : (senv made : Environment Obj) (o from : Obj) → made ≡ effect same_object senv (Dup o from)
-    → made ≡ with_object same_object senv o (object_at senv from) (senv.count + 1)
-unfolding effect
-dup-makes senv made o from is = is
-
 -- ---- copies under a name
 
 taken_copy : (count : ℕ) (taken : Bool) (from : Option Object) → taken ≡ true
-    → fault_of count (Dup taken from) ≡ Some status.NameTaken
+    → fault_before count (Dup taken from) ≡ Some status.NameTaken
 unfolding early_fault
 taken_copy count taken from h = rw h refl
 
 pub dup-taken : (number : Name → Option Obj) (senv : Environment Obj) (name from : Name)
     → ((n : Name) (o : Obj) → number n ≡ Some o → is_some (senv.find_object o) ≡ true) → is_some (number name) ≡ true
-    → fault_of senv.count (seen (through number senv) (Dup name from)) ≡ Some status.NameTaken
+    → fault_before senv.count (seen (through number senv) (Dup name from)) ≡ Some status.NameTaken
 dup-taken number senv name from there taken =
     taken_copy senv.count (is_some (option_and_then senv.find_object (number name))) (option_and_then senv.find_object (number from)) (there_through number senv (number name) (there name) taken)
 
 copy_of_none : (count : ℕ) (taken : Bool) → taken ≡ false
-    → fault_of count (Dup taken None) ≡ Some status.UninitializedObject
+    → fault_before count (Dup taken None) ≡ Some status.UninitializedObject
 unfolding early_fault
 copy_of_none count taken h = rw h refl
 
 pub dup-missing : (number : Name → Option Obj) (senv : Environment Obj) (name from : Name)
     → is_some (number name) ≡ false → number from ≡ None
-    → fault_of senv.count (seen (through number senv) (Dup name from)) ≡ Some status.UninitializedObject
+    → fault_before senv.count (seen (through number senv) (Dup name from)) ≡ Some status.UninitializedObject
 dup-missing number senv name from free none =
-    ap (λ (found : Option Obj). fault_of senv.count (Dup (is_some (option_and_then senv.find_object (number name))) (option_and_then senv.find_object found))) none
+    ap (λ (found : Option Obj). fault_before senv.count (Dup (is_some (option_and_then senv.find_object (number name))) (option_and_then senv.find_object found))) none
     ∙ copy_of_none senv.count (is_some (option_and_then senv.find_object (number name))) (free_name senv (number name) free)
 
-pub dup-effect : (number new : Name → Option Obj) (senv made : Environment Obj) (name from : Name) (o q : Obj)
-    → ((n : Name) → new n ≡ cond (bytes_eq name n) (Some o) (number n))
-    → ((n : Name) (p : Obj) → number n ≡ Some p → is_some (senv.find_object p) ≡ true) → senv.find_object o ≡ None
-    → number from ≡ Some q
-    → made ≡ effect same_object senv (Dup o q)
-    → through new made ≡ effect bytes_eq (through number senv) (Dup name from)
-unfolding effect
-dup-effect number new senv made name from o q adds there unused stands is =
-    ap (through new) is ∙ created number new senv name o (object_at senv q) (senv.count + 1) adds there unused
-    ∙ ap (λ (found : Option Obj). with_object bytes_eq (through number senv) name (unwrap_or (option_and_then senv.find_object found) no_object) (senv.count + 1)) (sym stands)
+-- ---- states in which an object was made
+
+-- other objects' marks are all that is taken of the state before
+based : (a b : State Name) (env : Environment Name) (name : Name) (mark : Mark)
+    → ((q : Name) → bytes_eq name q ≡ false → a.marks q ≡ b.marks q)
+    → with_mark bytes_eq a env name mark ≡ with_mark bytes_eq b env name mark
+based a b env name mark same = λ t. record { environment = env; marks = λ q. point q t }
+  where
+    point : (q : Name) → cond (bytes_eq name q) mark (a.marks q) ≡ cond (bytes_eq name q) mark (b.marks q)
+    point q = elim (cases_Bool (bytes_eq name q)) [
+      | inl here ↦ rw here refl
+      | inr apart ↦ rw apart (same q apart)
+    ]
+
+off-based : (a b : State Name) (env : Environment Name) (name : Name) (reads : Bool)
+    → ((q : Name) → bytes_eq name q ≡ false → a.marks q ≡ b.marks q)
+    → put_off bytes_eq a env name reads ≡ put_off bytes_eq b env name reads
+off-based a b env name true same = based a b (with_content bytes_eq env name no_content) name Told same
+off-based a b env name false same = based a b env name Open same
+
+module _ (number new : Name → Option Obj) (s : State Obj) (name : Name) (o : Obj)
+    (adds : (q : Name) → new q ≡ cond (bytes_eq name q) (Some o) (number q))
+    (there : (n : Name) (q : Obj) → number n ≡ Some q → is_some (s.environment.find_object q) ≡ true)
+    (unused : s.environment.find_object o ≡ None) (distinct : AreDistinct number) where
+  named : new name ≡ Some o
+  named = adds name ∙ rw ((bytes_eq-Decides name name).1 refl) refl
+
+  apart_distinct : AreDistinct new
+  apart_distinct = created-distinct number new s.environment name o adds there unused distinct
+
+  other_marks : (q : Name) → bytes_eq name q ≡ false → (state_through new s).marks q ≡ (state_through number s).marks q
+  other_marks q apart =
+      let now : new q ≡ number q = adds q ∙ rw apart refl in
+      ap (λ (found : Option Obj). option_map_or s.marks found Unmarked) now
+
+  -- an object that is made with a value
+  pub marked-made : (object : Object) (count : ℕ)
+      → state_through new (with_mark same_object s (with_object same_object s.environment o object count) o Unmarked)
+      ≡ with_mark bytes_eq (state_through number s) (with_object bytes_eq (through number s.environment) name object count) name Unmarked
+  marked-made object count =
+      marked-along new apart_distinct s name o named (with_object same_object s.environment o object count) Unmarked
+      ∙ based (state_through new s) (state_through number s) (through new (with_object same_object s.environment o object count)) name Unmarked other_marks
+      ∙ ap (λ (env : Environment Name). with_mark bytes_eq (state_through number s) env name Unmarked) (created number new s.environment name o object count adds there unused)
+
+  pub left-created : (domain : Domain) (shape : Shape)
+      → state_through new (left_by same_object s (Create o domain shape)) ≡ left_by bytes_eq (state_through number s) (Create name domain shape)
+  unfolding effect
+  left-created domain shape = marked-made (empty_object domain shape) (s.environment.count + 1)
+
+  -- a copy, whose value comes later
+  pub left-copied : (from : Name) (q : Obj) → number from ≡ Some q
+      → state_through new (left_by same_object s (Dup o q)) ≡ left_by bytes_eq (state_through number s) (Dup name from)
+  unfolding effect
+  left-copied from q is =
+      let count = s.environment.count + 1 in
+      let made = with_object same_object s.environment o (object_at s.environment q) count in
+      off-along new apart_distinct s name o named made (told s q)
+      ∙ off-based (state_through new s) (state_through number s) (through new made) name (told s q) other_marks
+      ∙ (λ t. put_off bytes_eq (state_through number s) (created number new s.environment name o (object_at s.environment q) count adds there unused t) name (sym (told-along number distinct s from q is) t))
+      ∙ ap (λ (found : Option Obj). put_off bytes_eq (state_through number s) (with_object bytes_eq (through number s.environment) name (unwrap_or (option_and_then s.environment.find_object found) no_object) count) name (told (state_through number s) from)) (sym is)
+
+-- ---- an object that goes again
+
+module _ (s made freed : State Obj) (o : Obj) (object : Object) (mark : Mark) (unused : s.environment.find_object o ≡ None)
+    (unmarked : s.marks o ≡ Unmarked)
+    (is : Settles (with_mark same_object s (with_object same_object s.environment o object (s.environment.count + 1)) o mark) made)
+    (left : IsFreed made o freed) where
+  gone_environment : freed.environment ≡ s.environment
+  gone_environment =
+      left.environment ∙ ap (λ (env : Environment Obj). without_object same_object env o) is.environment
+      ∙ environments_equal (without_object same_object (with_object same_object s.environment o object (s.environment.count + 1)) o) s.environment
+      (λ q. elim (cases_Bool (o.0 == q.0)) [
+        | inl same ↦ let one : o ≡ q = same_number o q (eqb-true o.0 q.0 same) in rw same (sym (rw one at unused))
+        | inr apart ↦ rw apart refl
+      ])
+      (omega arith)
+
+  stays_unmarked : (after : Mark) → MayBecome Unmarked after → after ≡ Unmarked
+  stays_unmarked after (inl same) = same
+  stays_unmarked after (inr there) = absurd (cc)
+
+  gone_mark : (q : Obj) → MayBecome (s.marks q) (freed.marks q)
+  gone_mark q = elim (cases_Bool (o.0 == q.0)) [
+    | inl same ↦
+        let one : o ≡ q = same_number o q (eqb-true o.0 q.0 same) in
+        let last : MayBecome Unmarked (freed.marks q) = rw same at (left.marks q) in
+        inl (stays_unmarked (freed.marks q) last ∙ sym (ap s.marks (sym one) ∙ unmarked))
+    | inr apart ↦
+        let first : MayBecome (s.marks q) (made.marks q) = rw apart at (is.marks q) in
+        let last : MayBecome (made.marks q) (freed.marks q) = rw apart at (left.marks q) in
+        becomes-then (s.marks q) (made.marks q) (freed.marks q) first last
+  ]
+
+  pub gone_again : Settles s freed
+  gone_again = record { environment = gone_environment; marks = gone_mark }

@@ -1,9 +1,11 @@
 pub mod CreateLaws
 pub mod FreeLaws
 pub mod LoadLaws
+pub mod MadeLaws
 pub mod NameLaws
 pub mod PrintLaws
 pub mod ReplyLaws
 pub mod RunLaws
+pub mod StateLaws
 pub mod TextLaws
 pub mod TurnLaws

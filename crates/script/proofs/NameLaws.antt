@@ -5,28 +5,29 @@ use Rattle.std.specs.Str.{bytes_eq}
 use Rattle.std.proofs.lemmas.Bool.{eqb-true, false_from_ne_true, true≢false}
 use Rattle.std.proofs.lemmas.Bool.Decides.{nat_tests}
 use Rattle.std.proofs.lemmas.Slice.Eq.{bytes_eq-Decides}
-use Rattle.calls.specs.Checks.{known_call}
 use Rattle.calls.specs.declared.obj.Obj.{Obj}
 use Rattle.model.specs.declared.call.Call.{Call}
-use Rattle.model.specs.declared.call.Act.TheVariants.{Free, Clear, Resize, Build, Set, Remove, Get, Nvals, Print, Reduce}
+use Rattle.model.specs.declared.call.Act.TheVariants.{Free, Clear, Resize, Build, Set, Remove, Get, Nvals, Print, Reduce, Wait}
 use Rattle.model.specs.declared.call.Call.TheVariants.{Create, Dup, On, Operate}
 use Rattle.model.specs.declared.call.Operation.{Operation}
 use Rattle.model.specs.declared.call.Operation.TheVariants.{Fill, OfOne, OfTwo}
 use Rattle.model.specs.declared.call.Out.{Out}
 use Rattle.model.specs.declared.shape.Signature.{Signature}
 use Rattle.model.specs.declared.status.Status.TheVariants as status
-use Rattle.model.specs.Fault.{early_fault, fault_of, takes_name}
+use Rattle.model.specs.Fault.{early_fault, takes_name}
 use Rattle.model.specs.Grammar.{Name}
-use Rattle.model.specs.Object.{Object, signature_of}
+use Rattle.model.specs.Object.{Content, Object, signature_of}
 use Rattle.model.specs.Renamed.{found, out_over, renamed, renamed_operation}
-use Rattle.model.specs.Run.{Environment, changed_by, data_lines_of, effect, no_object, object_at, on_objects, seen, with_object}
+use Rattle.model.specs.Run.{Environment, changed_by, data_lines_of, effect, no_object, object_at, on_objects, seen, with_content, with_object}
 use Rattle.model.specs.WriteBack.{result_of}
 use Rattle.model.proofs.EnvironmentLaws.{environments_equal}
 use Rattle.model.proofs.RenamedLaws.{found_fewer, renamed_twice}
 use Rattle.script.specs.Named.{changes_names, through}
-use Rattle.session.specs.Performed.{count_in, environment_of, fault_in, made_in, numbered}
+use Rattle.session.specs.Performed.{same_object}
+use Rattle.runner.specs.declared.runner.Runner.{Ghosts}
+use Rattle.session.specs.Ends.{fault_before}
+use Rattle.session.specs.Performed.{count_in, environment_of, made_in, numbered, seen_in}
 use Rattle.session.specs.declared.sessions.Session.{Session}
-use Rattle.session.specs.Tables.{same_object}
 
 -- what is made of a call's numbers is what is made of its names
 pub along : {K L M A B : Type 0} (number : K → Option L) (h : Option L → M) (k : A → B) (call : Call K A)
@@ -44,24 +45,22 @@ seen-unmade env (Dup name o) h = absurd (true≢false h)
 seen-unmade env (On o act) h = refl
 seen-unmade env (Operate out operation) h = refl
 
-pub count-left : (session : Session) → made_in session < 2 ^ 64 - 1 → count_in session ≡ (environment_of session).count
+pub count-left : {R T : Type 0} {g : Ghosts R T} (session : Session R T g) → made_in session < 2 ^ 64 - 1 → count_in session ≡ (environment_of session).count
 count-left session small =
     let left : (session.next == 2 ^ 64 - 1) ≡ false = grind (arith, nat_tests) in
     rw left refl
 
--- the fault of a call on names is that of the call on numbers
-pub fault-along : (number : Name → Option Obj) (session : Session) (call : Call Name Name) (r : Call Obj Name)
-    → made_in session < 2 ^ 64 - 1 → changes_names call ≡ false
+-- what a call on names sees is what the call on numbers sees
+pub seen-along : {R T : Type 0} {g : Ghosts R T} (number : Name → Option Obj) (session : Session R T g) (call : Call Name Name) (r : Call Obj Name)
+    → changes_names call ≡ false
     → renamed Some (λ n. n) r ≡ renamed number (λ n. n) call
-    → fault_of (through number (environment_of session)).count (seen (through number (environment_of session)) call) ≡ fault_in session (numbered session r)
-fault-along number session call r small known e =
+    → seen_in session (numbered session r) ≡ seen (through number (environment_of session)) call
+seen-along number session call r known e =
     let senv = environment_of session in
     let env = through number senv in
     let here : seen env call ≡ renamed senv.find_object (λ (n : Name). false) r =
     seen-unmade env call known ∙ along number (λ o. option_and_then senv.find_object o) (λ (n : Name). false) call r e in
-    let there : known_call senv.find_object (numbered session r) ≡ renamed senv.find_object (λ (n : Name). false) r =
-    renamed_twice (λ object. object) senv.find_object (λ (n : Name). record { 0 = session.next }) (λ (o : Obj). false) r in
-    ap (λ (c : Call (Option Object) Bool). fault_of senv.count c) (here ∙ sym there) ∙ ap (λ (n : ℕ). fault_of n (known_call senv.find_object (numbered session r))) (sym (count-left session small))
+    renamed_twice (λ object. object) senv.find_object (λ (n : Name). record { 0 = session.next }) (λ (o : Obj). false) r ∙ sym here
 
 -- ---- a name that stands for nothing
 
@@ -84,15 +83,10 @@ untaken (Dup name o) known = absurd (true≢false known)
 untaken (On o act) known = refl
 untaken (Operate out operation) known = refl
 
-first_fault : {X : Type 0} (fault : Option X) (x : X) (rest : Option X) → fault ≡ Some x
-    → option_map_or Some fault rest ≡ Some x
-first_fault None x rest h = absurd (cc)
-first_fault (Some y) x rest h = h
-
 -- a call on a name that stands for no object
 pub fault-missing : (number : Name → Option Obj) (senv : Environment Obj) (call : Call Name Name)
     → changes_names call ≡ false → found (renamed number (λ n. n) call) ≡ None
-    → fault_of (through number senv).count (seen (through number senv) call) ≡ Some status.UninitializedObject
+    → fault_before senv.count (seen (through number senv) call) ≡ Some status.UninitializedObject
 fault-missing number senv call known missing =
     let env = through number senv in
     let taken : Name → Bool = λ name. is_some (env.find_object name) in
@@ -103,8 +97,7 @@ fault-missing number senv call known missing =
     let makes_none : changes_names early ≡ false =
     ap changes_names same ∙ names_renamed (λ name. further (number name)) taken call ∙ known in
     let none : found early ≡ None = ap found same ∙ found_fewer number further refl (λ n. n) taken call missing in
-    first_fault (early_fault env.count early) status.UninitializedObject _
-    (early-missing env.count early (untaken early makes_none) none)
+    early-missing env.count early (untaken early makes_none) none
 
 -- ---- what calls leave
 
@@ -152,6 +145,7 @@ effect-unmade same env (On o (Get p)) h = refl
 effect-unmade same env (On o Nvals) h = refl
 effect-unmade same env (On o Print) h = refl
 effect-unmade same env (On o (Reduce monoid)) h = refl
+effect-unmade same env (On o (Wait mode)) h = refl
 effect-unmade same env (Operate out operation) h = refl
 
 pub put_renamed : {K L A B : Type 0} (f : K → L) (k : A → B) (call : Call K A)
@@ -196,21 +190,32 @@ equal_tests false false f g = refl
 equal_tests true false f g = sym (f refl)
 equal_tests false true f g = g refl
 
--- another object under a number, and so under the one name that stands for it
-pub place-along : (number : Name → Option Obj) (senv : Environment Obj) (name : Name) (o : Obj) (object : Object)
-    (count : ℕ) → AreDistinct number → number name ≡ Some o
-    → through number (with_object same_object senv o object count) ≡ with_object bytes_eq (through number senv) name object count
-place-along number senv name o object count distinct is =
-    let new = with_object same_object senv o object count in
-    let P : Name → Option Obj → Type 0 = λ other found. option_and_then new.find_object found ≡ cond (bytes_eq name other) (Some object) (option_and_then senv.find_object found) in
-    let each : (other : Name) (found : Option Obj) → number other ≡ found → P other found = λ other found. elim found as (λ found. number other ≡ found → P other found) [
-      | None ↦ λ none.
-          let apart : bytes_eq name other ≡ false = false_from_ne_true (bytes_eq name other) (λ equal. let same = (bytes_eq-Decides name other).0 equal in let e : Some o ≡ None = sym is ∙ ap number same ∙ none in absurd (cc)) in
-          rw apart refl
-      | Some q ↦ λ some.
-          let same : (o.0 == q.0) ≡ bytes_eq name other = equal_tests (o.0 == q.0) (bytes_eq name other)
-          (λ equal. let is_q : o ≡ q = same_number o q (eqb-true o.0 q.0 equal) in (bytes_eq-Decides name other).1 (distinct name other q (rw is_q at is) some))
-          (λ equal. let e : Some o ≡ Some q = sym is ∙ ap number ((bytes_eq-Decides name other).0 equal) ∙ some in let one : o ≡ q = cc in rw one (own_number q.0)) in
-          ap (λ test. cond test (Some object) (senv.find_object q)) same
-    ] in
-    environments_equal (through number new) (with_object bytes_eq (through number senv) name object count) (λ other. each other (number other) refl) refl
+-- a number is that of another name's object just where the names are the same
+module _ (number : Name → Option Obj) (distinct : AreDistinct number) (name : Name) (o : Obj) (is : number name ≡ Some o) where
+  pub same-along : (other : Name) (q : Obj) → number other ≡ Some q → same_object o q ≡ bytes_eq name other
+  same-along other q some = equal_tests (o.0 == q.0) (bytes_eq name other)
+      (λ equal. let is_q : o ≡ q = same_number o q (eqb-true o.0 q.0 equal) in (bytes_eq-Decides name other).1 (distinct name other q (rw is_q at is) some))
+      (λ equal. let e : Some o ≡ Some q = sym is ∙ ap number ((bytes_eq-Decides name other).0 equal) ∙ some in let one : o ≡ q = cc in rw one (own_number q.0))
+
+  pub apart-along : (other : Name) → number other ≡ None → bytes_eq name other ≡ false
+  apart-along other none = false_from_ne_true (bytes_eq name other)
+      (λ equal. let same = (bytes_eq-Decides name other).0 equal in let e : Some o ≡ None = sym is ∙ ap number same ∙ none in absurd (cc))
+
+  -- another object under a number, and so under the one name that stands for it
+  pub place-along : (senv : Environment Obj) (object : Object) (count : ℕ)
+      → through number (with_object same_object senv o object count) ≡ with_object bytes_eq (through number senv) name object count
+  place-along senv object count =
+      let new = with_object same_object senv o object count in
+      let P : Name → Option Obj → Type 0 = λ other found. option_and_then new.find_object found ≡ cond (bytes_eq name other) (Some object) (option_and_then senv.find_object found) in
+      let each : (other : Name) (found : Option Obj) → number other ≡ found → P other found = λ other found. elim found as (λ found. number other ≡ found → P other found) [
+        | None ↦ λ none. rw (apart-along other none) refl
+        | Some q ↦ λ some. ap (λ test. cond test (Some object) (senv.find_object q)) (same-along other q some)
+      ] in
+      environments_equal (through number new) (with_object bytes_eq (through number senv) name object count) (λ other. each other (number other) refl) refl
+
+  -- another map of it
+  pub content-along : (senv : Environment Obj) (c : Content)
+      → through number (with_content same_object senv o c) ≡ with_content bytes_eq (through number senv) name c
+  content-along senv c =
+      place-along senv (record (object_at senv o) { content = c }) senv.count
+      ∙ ap (λ (found : Option Obj). with_object bytes_eq (through number senv) name (let p : Object = record (unwrap_or (option_and_then senv.find_object found) no_object) { content = c } in p) senv.count) (sym is)

@@ -1,3 +1,4 @@
+pub mod Freed
 pub mod Named
 pub mod Replied
 pub mod Turns

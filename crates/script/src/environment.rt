@@ -1,51 +1,49 @@
 //! The objects of a run by their names.
 ghost use Rattle.std.specs.Prelude.{◌≡◌, ◌<◌, ◌≤◌, ◌+◌, ◌-◌, ◌^◌, ◌++◌, ℕ, List, IfErr, OnErr, OnOk};
 ghost use Rattle.std.specs.Prelude.{Some, false, if◌then◌else◌, is_some, true};
-ghost use Rattle.std.specs.List.{flat_map};
 ghost use Rattle.std.specs.BTreeMap.{get_by_text};
 ghost use Rattle.std.specs.Str.{bytes_eq};
 ghost use Rattle.std.specs.String.{string_bytes};
 ghost use Rattle.calls.specs.declared.obj.Obj.{Obj as Object};
-ghost use Rattle.model.specs.Fault.{fault_of};
+ghost use Rattle.model.specs.Marks.{first_state};
 ghost use Rattle.model.specs.Renamed.{renamed};
-ghost use Rattle.model.specs.Run.{data_lines_of, effect, no_objects, on_objects, seen, without_object};
-ghost use Rattle.model.specs.Text.{ended};
-ghost use Rattle.session.specs.Performed.{Ends, environment_of, made_in};
-ghost use Rattle.session.specs.Tables.{same_object};
+ghost use Rattle.script.specs.Freed.{IsFreed};
+ghost use Rattle.session.specs.Performed.{environment_of, made_in, state_of};
 
 use crate::printing::print;
 use crate::replies::write_reply;
 use algebra::Domain;
 use model::{Act, Call, Lookup, Shape, Status};
+use runner::Runner;
 use session::{Obj, Reply, Session};
 use std::alloc::Global;
 use std::collections::BTreeMap;
 
-/// The objects of a run: their names, and the session that holds them by number.
+/// The objects of a run: their names, and the session that has them by number.
 #[derive(Drop)]
-pub struct Environment {
+pub struct Environment<R: Runner + Drop> {
     pub(crate) alloc: Global,
     pub numbers: BTreeMap<String, Obj>,
-    pub session: Session,
+    pub session: Session<R>,
     ghost distinct: { (a b : List ℕ) (object : Object) → get_by_text numbers a ≡ Some object
         → get_by_text numbers b ≡ Some object → a ≡ b },
     ghost there: { (name : List ℕ) (object : Object) → get_by_text numbers name ≡ Some object
         → is_some ((environment_of session).find_object object) ≡ true },
 }
 
-impl Environment {
-    ghost use Rattle.script.specs.Named.{asks_text, changes_names, environment_in};
-    ghost use Rattle.script.specs.Replied.{IsAnswered, IsReplied};
+impl<R: Runner + Drop> Environment<R> {
+    ghost use Rattle.script.specs.Named.{asks_text, changes_names, state_in};
+    ghost use Rattle.script.specs.Replied.{IsAnswered, IsNamed, IsReplied};
 
-    /// No objects. It takes no memory.
-    pub fn new(alloc: Global) -> Environment
-        ensures environment { environment_in result ≡ no_objects }
+    /// No objects, whose values a runner makes. It takes no memory.
+    pub fn new(alloc: Global, runner: R) -> Environment<R>
+        ensures state { state_in result ≡ first_state }
         ensures made { made_in result.session ≡ 0 }
     {
         Environment {
             alloc,
             numbers: BTreeMap::new(alloc),
-            session: Session::new(alloc),
+            session: Session::new(alloc, runner),
         }
     }
 
@@ -121,12 +119,7 @@ impl Environment {
     /// Makes an object under a new name.
     fn create(&mut self, name: &str, domain: Domain, shape: Shape) -> Result<(), Status>
         requires { made_in self.old.session < 2 ^ 64 - 1 }
-        ensures status { Ends (fault_of (environment_in self.old).count
-            (seen (environment_in self.old) (Call.Create name.now domain shape))) result }
-        ensures effect { OnOk result (environment_in self.new
-            ≡ effect bytes_eq (environment_in self.old) (Call.Create name.now domain shape)) }
-        ensures kept { OnErr result (environment_in self.new ≡ environment_in self.old) }
-        ensures made { made_in self.new.session ≤ made_in self.old.session + 1 }
+        ensures { IsNamed self.old self.new (Call.Create name.now domain shape) result }
     {
         if self.numbers.contains_key(name) {
             return Err(Status::NameTaken);
@@ -140,12 +133,7 @@ impl Environment {
     /// Makes an object under a new name, with the domain, the shape and the entries of another.
     fn dup(&mut self, name: &str, object: &str) -> Result<(), Status>
         requires { made_in self.old.session < 2 ^ 64 - 1 }
-        ensures status { Ends (fault_of (environment_in self.old).count
-            (seen (environment_in self.old) (Call.Dup name.now object.now))) result }
-        ensures effect { OnOk result (environment_in self.new
-            ≡ effect bytes_eq (environment_in self.old) (Call.Dup name.now object.now)) }
-        ensures kept { OnErr result (environment_in self.new ≡ environment_in self.old) }
-        ensures made { made_in self.new.session ≤ made_in self.old.session + 1 }
+        ensures { IsNamed self.old self.new (Call.Dup name.now object.now) result }
     {
         if self.find(name).is_some() {
             return Err(Status::NameTaken);
@@ -161,12 +149,8 @@ impl Environment {
 
     /// Frees the object of a name, which then stands for none.
     fn free(&mut self, name: &str) -> Result<(), Status>
-        ensures status { Ends (fault_of (environment_in self.old).count
-            (seen (environment_in self.old) (Call.On name.now Act.Free))) result }
-        ensures effect { OnOk result (environment_in self.new
-            ≡ effect bytes_eq (environment_in self.old) (Call.On name.now Act.Free)) }
-        ensures kept { OnErr result (environment_in self.new ≡ environment_in self.old) }
-        ensures made { made_in self.new.session ≤ made_in self.old.session + 1 }
+        requires { made_in self.old.session < 2 ^ 64 - 1 }
+        ensures { IsNamed self.old self.new (Call.On name.now Act.Free) result }
     {
         let Some(object) = self.numbers.remove(name) else {
             return Err(Status::UninitializedObject);
@@ -176,9 +160,9 @@ impl Environment {
 }
 
 /// Has a name stand for an object that a session just made. Without room for the name the object goes again.
-pub(crate) fn put(
+pub(crate) fn put<R: Runner + Drop>(
     numbers: &mut BTreeMap<String, Obj>,
-    session: &mut Session,
+    session: &mut Session<R>,
     name: String,
     object: Obj,
 ) -> Result<(), Status>
@@ -187,8 +171,7 @@ pub(crate) fn put(
         ≡ (if bytes_eq (string_bytes name) n then Some object else get_by_text numbers.old n)) }
     ensures made { OnOk result (session.new ≡ session.old) }
     ensures kept { OnErr result ((n : List ℕ) → get_by_text numbers.new n ≡ get_by_text numbers.old n) }
-    ensures gone { OnErr result (environment_of session.new
-        ≡ without_object same_object (environment_of session.old) object) }
+    ensures gone { OnErr result (IsFreed (state_of session.old) object (state_of session.new)) }
     ensures count { made_in session.new ≡ made_in session.old }
     ensures err { IfErr result (λ status. status ≡ Status.OutOfMemory) }
 {

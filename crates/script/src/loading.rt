@@ -1,11 +1,9 @@
 //! Matrices of files, under new names.
-ghost use Rattle.std.specs.Prelude.{◌≡◌, ◌<◌, ◌≤◌, ◌+◌, ◌-◌, ◌^◌, ◌⊎◌, IfErr, IfOk, Ok, OnErr, OnOk, is_some, true};
+ghost use Rattle.std.specs.Prelude.{◌≡◌, ◌<◌, ◌≤◌, ◌+◌, ◌-◌, ◌^◌, ◌⊎◌, IfErr, IfOk, Ok, OnOk, true};
 ghost use Rattle.std.specs.Result.{is_err};
-ghost use Rattle.std.specs.Str.{bytes_eq};
-ghost use Rattle.model.specs.Loads.{file_in, load_fault};
+ghost use Rattle.model.specs.Loads.{file_in};
 ghost use Rattle.model.specs.MatrixMarket.{matrix_in};
-ghost use Rattle.model.specs.Run.{loaded};
-ghost use Rattle.session.specs.Performed.{Ends, made_in};
+ghost use Rattle.session.specs.Performed.{made_in};
 
 use crate::environment::{Environment, put};
 use crate::sources::Sources;
@@ -13,23 +11,20 @@ use algebra::Domain;
 use lines::Load;
 use mmio::{MmFault, read_entries};
 use model::Status;
+use runner::Runner;
 use std::alloc::Global;
 use store::Tuples;
 
-impl Environment {
-    ghost use Rattle.script.specs.Named.{environment_in};
+impl<R: Runner + Drop> Environment<R> {
+    ghost use Rattle.script.specs.Named.{state_in};
+    ghost use Rattle.script.specs.Replied.{EndsAsLoad};
 
     /// Makes a matrix of what a file holds, under a new name. An error leaves the objects as they were; where there was
     /// no memory for the name alone, the matrix' number is used up.
     pub fn load<S: Sources>(&mut self, sources: &S, load: Load<'_>) -> Result<(), Status>
         requires made { made_in self.old.session < 2 ^ 64 - 1 }
-        ensures status { Ends (load_fault (environment_in self.old).count
-            (is_some ((environment_in self.old).find_object load.entry.name.now))
-            (file_in (S.held sources.now) load.entry.domain load.entry.file.now)) result }
-        ensures effect { OnOk result (environment_in self.new ≡ loaded bytes_eq (environment_in self.old)
-            load.entry.name.now load.entry.domain
-            (file_in (S.held sources.now) load.entry.domain load.entry.file.now)) }
-        ensures kept { OnErr result (environment_in self.new ≡ environment_in self.old) }
+        ensures ends { EndsAsLoad (state_in self.old) load.entry.name.now load.entry.domain
+            (file_in (S.held sources.now) load.entry.domain load.entry.file.now) (state_in self.new) result }
         ensures made { OnOk result (made_in self.new.session ≡ made_in self.old.session + 1) }
         ensures least { made_in self.old.session ≤ made_in self.new.session }
         ensures most { made_in self.new.session ≤ made_in self.old.session + 1 }

@@ -7,11 +7,16 @@ ghost use Rattle.session.specs.Performed.{IsPerformed, environment_of};
 
 use mmio::write;
 use model::{Act, Call, Status};
+use runner::Runner;
 use session::{Obj, Session};
 
 /// Appends the canonical text of an object of a session, whose objects stay as they are. What an error leaves at the
 /// text's end is no answer.
-pub fn print(session: &mut Session, object: Obj, text: &mut Vec<u8>) -> Result<(), Status>
+pub fn print<R: Runner + Drop>(
+    session: &mut Session<R>,
+    object: Obj,
+    text: &mut Vec<u8>,
+) -> Result<(), Status>
     ensures performed { IsPerformed session.old session.new (Call.On object Act.Print) result }
     ensures lines { OnOk result (text.new.items ≡ text.old.items
         ++ flat_map ended (canonical_lines (object_at (environment_of session.old) object))) }

@@ -3,9 +3,10 @@ ghost use Rattle.std.specs.Prelude.{◌≡◌};
 
 use crate::environment::Environment;
 use model::Lookup;
+use runner::Runner;
 use session::Obj;
 
-impl<'a> Lookup<&'a str> for Environment {
+impl<'a, R: Runner + Drop> Lookup<&'a str> for Environment<R> {
     ghost use Rattle.script.specs.Named.{number_in};
 
     type Found = Obj;

@@ -4,7 +4,8 @@ ghost use Rattle.std.specs.Str.Lines.{strip_carriage_return};
 ghost use Rattle.model.specs.Grammar.{reading_of};
 ghost use Rattle.model.specs.Loads.{readings_in, with_file};
 ghost use Rattle.model.specs.Run.{out_of};
-ghost use Rattle.model.specs.Runs.{Ran, TellsOfNoWant};
+ghost use Rattle.model.specs.Poisoned.{Ran};
+ghost use Rattle.model.specs.Runs.{TellsOfNoWant};
 ghost use Rattle.script.specs.Named.{state_in};
 ghost use Rattle.script.specs.Turns.{Says};
 ghost use Rattle.session.specs.Performed.{made_in};
@@ -14,6 +15,7 @@ use crate::sources::Sources;
 use crate::text;
 use lines::{Line, LineFault, first_line, parse_line};
 use model::{NoMemory, Status};
+use runner::Runner;
 use std::alloc::{AllocError, Global};
 
 /// Room for the longest answer of one line: a number of 20 digits and the name of a status.
@@ -22,14 +24,17 @@ const STATUS_LINE: usize = 64;
 /// Runs a script and appends its answers, each whole.
 ///
 /// Any bytes are a script. Each line that is blank or a comment has no answer; every other one answers
-/// its number and a status, with the data lines of its call. A call for which memory is refused
-/// answers OUT_OF_MEMORY and changes nothing. `Err` comes only where a growth of `out`, or of the room
-/// for one answer's text, was refused; `out` has then gained the answers to the first lines.
+/// its number and a status, with the data lines of its call. What a call has to do is handed to the runner, and is
+/// done when the runner likes, or when a later line asks for the value; which of it is done when can't be seen in the
+/// answers. A call for which memory is refused answers OUT_OF_MEMORY and changes nothing; one that asks for a value of
+/// which memory was refused to the work answers INVALID_OBJECT. `Err` comes only where a growth of `out`, or of the
+/// room for one answer's text, was refused; `out` has then gained the answers to the first lines.
 /// A line's work depends on that line, on the objects that it names, and on the file that it loads.
-pub fn run<S: Sources>(
+pub fn run<S: Sources, R: Runner>(
     alloc: Global,
     script: &[u8],
     sources: &S,
+    runner: &mut R,
     out: &mut Vec<u8>,
 ) -> Result<(), NoMemory>
     ensures headline { OnOk result ((text : List ℕ) → out.new.items ≡ out.old.items ++ text → TellsOfNoWant text
@@ -38,7 +43,22 @@ pub fn run<S: Sources>(
     ensures err { OnErr result ((n : ℕ)
         × Ran (take n (readings_in (S.held sources.now) script.now)) out.old.items out.new.items) }
 {
-    let mut environment = Environment::new(alloc);
+    answer_lines(alloc, script, sources, runner, out)
+}
+
+/// Appends the answers of a script's lines, over a runner that goes with the objects.
+fn answer_lines<S: Sources, R: Runner + Drop>(
+    alloc: Global,
+    script: &[u8],
+    sources: &S,
+    runner: R,
+    out: &mut Vec<u8>,
+) -> Result<(), NoMemory>
+    ensures ok { OnOk result (Ran (readings_in (S.held sources.now) script.now) out.old.items out.new.items) }
+    ensures err { OnErr result ((n : ℕ)
+        × Ran (take n (readings_in (S.held sources.now) script.now)) out.old.items out.new.items) }
+{
+    let mut environment = Environment::new(alloc, runner);
     let mut text = Vec::with_capacity(alloc, STATUS_LINE)?;
     let mut rest = script;
     let mut number = 1;
@@ -54,10 +74,10 @@ pub fn run<S: Sources>(
 }
 
 /// Writes the answer to one line, if it has one.
-fn answer_line<S: Sources>(
+fn answer_line<S: Sources, R: Runner + Drop>(
     alloc: Global,
     sources: &S,
-    environment: &mut Environment,
+    environment: &mut Environment<R>,
     number: u64,
     line: &[u8],
     text: &mut Vec<u8>,

@@ -1,6 +1,6 @@
-pub mod HeldLaws
+pub mod AcceptedLaws
 pub mod ListingLaws
+pub mod NumberLaws
 pub mod PerformedLaws
 pub mod ResultLaws
-pub mod SessionLaws
-pub mod TableLaws
+pub mod StateLaws

@@ -1,16 +1,13 @@
--- What a session ends as that lends a store.
-use Rattle.std.specs.Prelude.{Result}
-use Rattle.std.specs.Borrow.{Fml, MutBor}
-use Rattle.std.specs.Io.BufRead.{Rests}
+-- Stores that a session lends.
+use Rattle.std.specs.Prelude.{ℕ, ◌≡◌}
 use Rattle.calls.specs.declared.obj.Obj.{Obj}
-use Rattle.model.specs.declared.call.Act.TheVariants.{Print}
-use Rattle.model.specs.declared.call.Call.TheVariants.{On}
-use Rattle.model.specs.declared.status.Status.{Status}
-use Rattle.session.specs.declared.sessions.Session.{Session}
-use Rattle.session.specs.contracts.sessions.Session.{the_row}
-use Rattle.session.specs.Performed.{IsPerformed}
+use Rattle.model.specs.Object.{IsObject, cols_of, rows_of}
+use Rattle.model.specs.Run.{Environment, object_at}
+use Rattle.store.specs.Stored.{Stored, content_of}
 
--- it ends as after a print of the object
-abbrev pub EndsAsPrinted : {T : Type 0} → MutBor Session → Obj → Result T Status → Fml
-EndsAsPrinted session object result =
-    Rests the_row session (λ new. IsPerformed session.now new (On object Print) result)
+-- the store is an object's
+pub record IsStoreOf (env : Environment Obj) (object : Obj) (stored : Stored) : Type 0 where
+  pub rows : stored.rows ≡ rows_of (object_at env object).shape
+  pub cols : stored.cols ≡ cols_of (object_at env object).shape
+  pub content : (i j : ℕ) → (object_at env object).content i j ≡ content_of stored i j
+  pub is_object : IsObject (object_at env object)

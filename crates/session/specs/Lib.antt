@@ -1,7 +1,5 @@
+pub mod Deferred
+pub mod Ends
 pub mod Lending
 pub mod Listed
-pub mod Objects
 pub mod Performed
-pub mod Results
-pub mod Tables
-pub mod Waiting

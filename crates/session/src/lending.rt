@@ -1,6 +1,7 @@
 //! What a session lends and tells of its objects.
 ghost use Rattle.std.specs.Prelude.{◌≡◌, IfOk, OnOk, is_some, ok_or, true};
 ghost use Rattle.std.specs.Borrow.{sem};
+ghost use Rattle.std.specs.Io.BufRead.{Rests};
 ghost use Rattle.std.specs.Option.{option_map};
 ghost use Rattle.model.specs.Run.{object_at};
 
@@ -9,33 +10,38 @@ use crate::sessions::Session;
 use algebra::Domain;
 use calls::{Act, Call, Obj, Shape, check_there};
 use model::Status;
+use objects::{signature, store};
+use runner::Runner;
 use store::Store;
 
-impl Session {
+impl<R: Runner + Drop> Session<R> {
     ghost use Rattle.calls.specs.Checks.{Decides};
-    ghost use Rattle.session.specs.Lending.{EndsAsPrinted};
+    ghost use Rattle.session.specs.contracts.sessions.Session.{the_row};
+    ghost use Rattle.session.specs.Lending.{IsStoreOf};
     ghost use Rattle.session.specs.Listed.{tuples_of};
-    ghost use Rattle.session.specs.Performed.{IsPerformed, IsFinishedIn, environment_of, fault_in};
-    ghost use Rattle.session.specs.Results.{IsStoreOf};
+    ghost use Rattle.session.specs.Performed.{IsPerformed, early_in, environment_of, is_finished_in, state_of};
 
-    /// The store of an object, once the edits that wait on it are done (`GrB_Matrix_wait`, `GrB_Vector_wait`). It is
-    /// lent, and nothing is copied; where no edits wait it takes no memory.
+    /// The store of an object, once its value is there (`GrB_Matrix_wait`, `GrB_Vector_wait`). It is lent, and nothing is
+    /// copied; where the value is there it takes no memory.
     pub fn store(&mut self, object: Obj) -> Result<&Store, Status>
-        ensures* performed { sem 𝓛 (EndsAsPrinted self.entry object result) }
-        ensures decided { IsFinishedIn self.old object → Decides (fault_in self.old (Call.On object Act.Print)) result }
+        ensures* performed { sem 𝓛 (Rests (the_row R.row R.Ticket.row R.Runner) self.entry
+            (λ new. IsPerformed self.entry.now new (Call.On object Act.Print) result)) }
+        ensures decided { is_finished_in self.old object ≡ true
+            → Decides (early_in self.old (Call.On object Act.Print)) result }
         ensures store { IfOk result (λ store. IsStoreOf (environment_of self.old) object store.now) }
     {
         self.complete(object)?;
-        Ok(&self.finished(object).store)
+        Ok(store(&self.table, object))
     }
 
-    /// Does the edits that wait on an object, which ends as a print of it does.
+    /// Has the value of an object come to be there, which ends as a print of it does.
     pub(crate) fn complete(&mut self, object: Obj) -> Result<(), Status>
         ensures performed { IsPerformed self.old self.new (Call.On object Act.Print) result }
-        ensures kept { environment_of self.new ≡ environment_of self.old }
+        ensures kept { OnOk result (environment_of self.new ≡ environment_of self.old) }
         ensures there { OnOk result (is_some ((environment_of self.new).find_object object) ≡ true) }
-        ensures finished { OnOk result (IsFinishedIn self.new object) }
-        ensures decided { IsFinishedIn self.old object → Decides (fault_in self.old (Call.On object Act.Print)) result }
+        ensures finished { OnOk result (is_finished_in self.new object ≡ true) }
+        ensures decided { is_finished_in self.old object ≡ true
+            → Decides (early_in self.old (Call.On object Act.Print)) result }
     {
         check_there(self, object)?;
         self.finish(object)?;
@@ -49,8 +55,8 @@ impl Session {
         ensures tuples { IfOk result (λ tuples. tuples.items ≡ tuples_of (object_at (environment_of self.old) object)) }
     {
         self.complete(object)?;
-        let held = self.finished(object);
-        let tuples = listed(self.alloc(), held.domain, &held.store)?;
+        let domain = self.known(object).domain;
+        let tuples = listed(self.alloc, domain, store(&self.table, object))?;
         Ok(tuples)
     }
 
@@ -59,8 +65,8 @@ impl Session {
         ensures { result ≡ ok_or (option_map (λ o. o.shape) ((environment_of self.now).find_object object))
             Status.UninitializedObject }
     {
-        match self.table.find(object) {
-            Some(held) => Ok(held.shape),
+        match signature(&self.table, object) {
+            Some(known) => Ok(known.shape),
             None => Err(Status::UninitializedObject),
         }
     }
@@ -70,8 +76,8 @@ impl Session {
         ensures { result ≡ ok_or (option_map (λ o. o.domain) ((environment_of self.now).find_object object))
             Status.UninitializedObject }
     {
-        match self.table.find(object) {
-            Some(held) => Ok(held.domain),
+        match signature(&self.table, object) {
+            Some(known) => Ok(known.domain),
             None => Err(Status::UninitializedObject),
         }
     }

@@ -1,17 +1,19 @@
 //! Sessions: objects by number, and all calls on them.
 #![tactic(auto)]
 
-mod held;
+mod changing;
+mod deferring;
 mod lending;
 mod listing;
 mod operating;
 mod performing;
+mod reading;
 mod reply;
 mod sessions;
-mod table;
 
 pub use calls::{
     Act, Call, Desc, Obj, OneInput, Operation, Out, Place, Positions, Shape, TwoInputs,
 };
+pub use model::WaitMode;
 pub use reply::Reply;
 pub use sessions::Session;

@@ -1,15 +1,17 @@
 //! Operations on the objects of a session.
-ghost use Rattle.std.specs.Prelude.{◌≡◌, IfOk, OnOk, Some, true};
-ghost use Rattle.model.specs.Renamed.{renamed_operation, renamed_out};
-ghost use Rattle.std.specs.Prelude.{Option};
+ghost use Rattle.std.specs.Prelude.{◌≡◌, IfOk, OnOk, Some, not, true};
 ghost use Rattle.std.specs.Option.{option_map};
 ghost use Rattle.calls.specs.declared.obj.Obj.{Obj as AnyObj};
 ghost use Rattle.calls.specs.declared.role.Role.{Role as AnyRole};
-ghost use Rattle.calls.specs.Recipes.{known_by_role};
+ghost use Rattle.calls.specs.Recipes.{known_by_role, meaning};
 ghost use Rattle.calls.specs.Roles.{role_of};
+ghost use Rattle.calls.specs.Stores.{object_with};
 ghost use Rattle.model.specs.declared.call.Call.TheVariants.{Operate};
-ghost use Rattle.model.specs.Fault.{early_fault};
-ghost use Rattle.session.specs.Results.{AreThere, IsEvaluated, IsLeft, IsLentFor};
+ghost use Rattle.model.specs.Marks.{told};
+ghost use Rattle.model.specs.Run.{object_at};
+ghost use Rattle.objects.specs.Tables.{state_in};
+ghost use Rattle.runner.specs.Tickets.{lent_in};
+ghost use Rattle.session.specs.Deferred.{AreReadyAt, AreThere, IsPutOff, any_told, is_role_told, maps_at};
 
 use crate::sessions::Session;
 use algebra::{FunctionName, IndexName, MonoidName, OpName, SemiringName};
@@ -17,13 +19,13 @@ use calls::{
     Accepted, Form, Obj, OneInput, Operation, Out, Positions, Region, Roles, TwoInputs, by_role,
     check_operate,
 };
-use kernel::evaluate_accepted;
 use model::{NoMemory, Status};
-use store::Store;
+use objects::{Table, Value, ticket};
+use runner::{Runner, submit_accepted};
 
-impl Session {
-    ghost use Rattle.session.specs.Performed.{AreFinished, Ends, IsPerformed, count_in, environment_of};
-    ghost use Rattle.session.specs.Performed.{known_in, made_in};
+impl<R: Runner + Drop> Session<R> {
+    ghost use Rattle.session.specs.Performed.{AreReady, IsPerformed, environment_of, is_ready_in, known_in, made_in};
+    ghost use Rattle.session.specs.Performed.{state_of};
 
     /// Multiplies two matrices over a semiring into a third (`GrB_mxm`).
     pub fn mxm(
@@ -214,76 +216,89 @@ impl Session {
     pub fn operate(&mut self, out: &Out<Obj>, operation: Operation<Obj>) -> Result<(), Status>
         ensures { IsPerformed self.old self.new (Operate out.now operation) result }
     {
-        let store = self.result(out, operation)?;
-        self.table.replace(out.c, store);
+        let objects = by_role(out, &operation);
+        let accepted = check_operate(self, out, operation)?;
+        let of = accepted.out.c;
+        let value = self.computed(accepted, &objects)?;
+        self.put(out.c, of, value);
         Ok(())
     }
 
-    /// What an operation leaves in its output.
-    fn result(&mut self, out: &Out<Obj>, operation: Operation<Obj>) -> Result<Store, Status>
-        ensures status { Ends (early_fault (count_in self.old)
-            (Operate (renamed_out (known_in self.old) out.now)
-            (renamed_operation (known_in self.old) operation))) result }
-        ensures left { IfOk result (IsLeft (environment_of self.old) out.now operation) }
-        ensures kept { environment_of self.new ≡ environment_of self.old }
+    /// The value of what an accepted operation leaves of the objects that have its roles.
+    fn computed(
+        &mut self,
+        accepted: Accepted,
+        objects: &Roles<Obj>,
+    ) -> Result<Value<R::Ticket>, NoMemory>
+        requires known { (role : AnyRole) → option_map Some (known_by_role accepted.out accepted.operation role)
+            ≡ option_map (known_in self.old) (role_of objects.now role) }
+        ensures value { IfOk result (IsPutOff R.object_of (any_told (state_of self.old) objects.now)
+            (object_with accepted.out.c
+            (meaning accepted.out accepted.operation (maps_at (environment_of self.old) objects.now)))) }
+        ensures state { state_of self.new ≡ state_of self.old }
         ensures made { made_in self.new ≡ made_in self.old }
     {
-        let objects = by_role(out, &operation);
-        let accepted = check_operate(self, out, operation)?;
-        self.finish_all(&objects)?;
-        let store = self.evaluated(accepted, &objects)?;
-        Ok(store)
+        if !self.give_all(objects)? {
+            return Ok(Value::Failed);
+        }
+        let tickets = tickets_of(&self.table, objects);
+        let computed = submit_accepted(&mut self.runner, accepted, tickets)?;
+        Ok(Value::Open(computed))
     }
 
-    /// Does the edits that wait on objects that have roles. An error leaves them as they were.
-    fn finish_all(&mut self, objects: &Roles<Obj>) -> Result<(), NoMemory>
-        ensures kept { environment_of self.new ≡ environment_of self.old }
+    /// Has tickets stand for the objects that have roles, and says whether they do: they don't where one was told to
+    /// have failed.
+    fn give_all(&mut self, objects: &Roles<Obj>) -> Result<bool, NoMemory>
+        requires there { (role : AnyRole) → AreThere (environment_of self.old) (role_of objects.now role) }
+        ensures state { state_of self.new ≡ state_of self.old }
         ensures made { made_in self.new ≡ made_in self.old }
-        ensures finished { OnOk result ((role : AnyRole) → AreFinished self.new (role_of objects.now role)) }
+        ensures given { IfOk result (λ given. given ≡ not (any_told (state_of self.old) objects.now)) }
+        ensures ready { IfOk result (λ given. given ≡ true
+            → (role : AnyRole) → AreReady self.new (role_of objects.now role)) }
     {
-        self.finish_if(objects.old)?;
-        self.finish_if(objects.mask)?;
-        self.finish_if(objects.first)?;
-        self.finish_if(objects.second)
+        let old = self.give_if(objects.old)?;
+        let mask = self.give_if(objects.mask)?;
+        let first = self.give_if(objects.first)?;
+        let second = self.give_if(objects.second)?;
+        Ok(old & mask & first & second)
     }
 
-    /// Does the edits that wait on an object, where there is one in a role.
-    fn finish_if(&mut self, object: Option<Obj>) -> Result<(), NoMemory>
-        ensures kept { environment_of self.new ≡ environment_of self.old }
+    /// Has a ticket stand for an object, where there is one in a role.
+    fn give_if(&mut self, object: Option<Obj>) -> Result<bool, NoMemory>
+        requires there { AreThere (environment_of self.old) object }
+        ensures state { state_of self.new ≡ state_of self.old }
         ensures made { made_in self.new ≡ made_in self.old }
-        ensures finished { OnOk result (AreFinished self.new object) }
-        ensures still { OnOk result ((other : Option AnyObj) → AreFinished self.old other
-            → AreFinished self.new other) }
+        ensures given { IfOk result (λ given. given ≡ not (is_role_told (state_of self.old) object)) }
+        ensures ready { IfOk result (λ given. given ≡ true → AreReady self.new object) }
+        ensures still { (other : AnyObj) → is_ready_in self.old other ≡ true → is_ready_in self.new other ≡ true }
     {
         match object {
-            Some(object) => self.finish(object),
-            None => Ok(()),
+            Some(object) => self.give(object),
+            None => Ok(true),
         }
     }
+}
 
-    /// What an accepted operation leaves of the objects that have its roles, all rows at once.
-    fn evaluated(&self, accepted: Accepted, objects: &Roles<Obj>) -> Result<Store, NoMemory>
-        requires known { (role : AnyRole) → option_map Some (known_by_role accepted.out accepted.operation role)
-            ≡ option_map (known_in self.now) (role_of objects.now role) }
-        requires finished { (role : AnyRole) → AreFinished self.now (role_of objects.now role) }
-        ensures { IfOk result (IsEvaluated (environment_of self.now) accepted objects.now) }
-    {
-        let stores = Roles {
-            old: self.store_if(objects.old),
-            mask: self.store_if(objects.mask),
-            first: self.store_if(objects.first),
-            second: self.store_if(objects.second),
-        };
-        evaluate_accepted(self.alloc(), accepted, &stores)
+/// The tickets that stand for the objects that have roles.
+fn tickets_of<'a, R: Runner>(table: &'a Table<R>, objects: &Roles<Obj>) -> Roles<&'a R::Ticket>
+    requires ready { (role : AnyRole) → AreReadyAt table.now (role_of objects.now role) }
+    ensures { (role : AnyRole) → option_map R.object_of (lent_in result role)
+        ≡ option_map (object_at (state_in table.now).environment) (role_of objects.now role) }
+{
+    Roles {
+        old: ticket_if(table, objects.old),
+        mask: ticket_if(table, objects.mask),
+        first: ticket_if(table, objects.first),
+        second: ticket_if(table, objects.second),
     }
+}
 
-    /// The store of an object on which no edits wait, where there is one in a role.
-    fn store_if(&self, object: Option<Obj>) -> Option<&Store>
-        requires there { AreThere (environment_of self.now) object }
-        requires finished { AreFinished self.now object }
-        ensures { IsLentFor (environment_of self.now) object (option_map (λ store. store.now) result) }
-    {
-        let object = object?;
-        Some(&self.finished(object).store)
-    }
+/// The ticket that stands for an object, where there is one in a role.
+fn ticket_if<R: Runner>(table: &Table<R>, object: Option<Obj>) -> Option<&R::Ticket>
+    requires { AreReadyAt table.now object }
+    ensures { option_map (λ ticket. R.object_of ticket.now) result
+        ≡ option_map (object_at (state_in table.now).environment) object }
+{
+    let object = object?;
+    Some(ticket(table, object))
 }

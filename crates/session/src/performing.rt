@@ -5,8 +5,9 @@ use crate::reply::Reply;
 use crate::sessions::Session;
 use calls::{Act, Call, Obj};
 use model::Status;
+use runner::Runner;
 
-impl Session {
+impl<R: Runner + Drop> Session<R> {
     ghost use Rattle.session.specs.Performed.{Answers, IsPerformed, environment_of, numbered};
 
     /// Does a call, and gives what it answers.
@@ -38,6 +39,7 @@ impl Session {
             Act::Nvals => Ok(Reply::Count(self.nvals(object)?)),
             Act::Print => done(self.complete(object)),
             Act::Reduce(monoid) => Ok(Reply::Value(self.reduce(object, monoid)?)),
+            Act::Wait(mode) => done(self.wait(object, mode)),
         }
     }
 }

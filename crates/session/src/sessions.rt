@@ -1,39 +1,39 @@
-//! Sessions.
-ghost use Rattle.std.specs.Prelude.{◌≡◌, ◌==◌, ◌+◌, ◌-◌, ◌^◌, ◌<◌, IfOk, MatchResult, None, OnErr, OnOk, Some};
-ghost use Rattle.std.specs.Prelude.{false, is_some, true};
+//! Sessions, and the objects that they make and free.
+ghost use Rattle.std.specs.Prelude.{◌≡◌, ◌==◌, ◌+◌, ◌-◌, ◌^◌, ◌<◌, IfOk, None, OnErr, OnOk, [], false, is_some, true};
 ghost use Rattle.std.specs.List.{All};
-ghost use Rattle.calls.specs.declared.obj.Obj.{Obj as Object};
 ghost use Rattle.algebra.specs.Value.{IsWordOf, is_built_in};
+ghost use Rattle.calls.specs.Stores.{object_with};
+ghost use Rattle.calls.specs.declared.obj.Obj.{Obj as Object};
 ghost use Rattle.model.specs.Entries.{IsInside};
+ghost use Rattle.model.specs.Marks.{first_state, with_mark};
 ghost use Rattle.model.specs.MatrixMarket.{object_read};
-ghost use Rattle.model.specs.Run.{no_objects, with_object, without_object};
-ghost use Rattle.session.specs.Tables.{environment_in, same_object};
+ghost use Rattle.model.specs.Run.{with_object};
+ghost use Rattle.objects.specs.Tables.{same_object, state_in};
+ghost use Rattle.objects.specs.Values.{IsValueOf, map_with, mark_with};
 
-use crate::held::Held;
-use crate::reply::Reply;
-use crate::table::Table;
-use algebra::{Domain, MonoidName, OpName};
-use calls::{
-    Act, Call, Obj, Place, Recipe, Roles, Shape, Shapes, TupleList, check_build, check_create,
-    check_dup, check_place, check_reduce, check_resize, check_set, check_there,
-};
-use elementwise::reduce_all;
-use kernel::evaluate;
+use algebra::Domain;
+use calls::{Act, Call, Obj, Shape, Shapes, Signature, check_create, check_there};
 use model::{MOST_OBJECTS, NoMemory, Status};
-use patch::{Edit, build, sum_entries};
+use objects::{Table, Value, insert, remove, signature};
+use patch::sum_entries;
+use runner::Runner;
 use std::alloc::Global;
-use store::{Store, Tuples};
+use std::sync::Arc;
+use store::Tuples;
 
-/// Objects by number, and all calls on them. A call that answers an error changes nothing.
+/// Objects by number, and all calls on them. Each call is checked at once; what an accepted call has to do is handed to
+/// a runner, and done when it likes, or when a call asks for the value. A call that answers an error changes nothing.
 #[derive(Drop)]
-pub struct Session {
-    alloc: Global,
-    pub(crate) table: Table,
+pub struct Session<R: Runner + Drop> {
+    pub(crate) alloc: Global,
+    pub(crate) runner: R,
+    pub(crate) table: Table<R>,
     next: u64,
-    ghost fresh: { (object : Object) → is_some ((environment_in table).find_object object) ≡ true → object.0 < next },
+    ghost fresh: { (object : Object) → is_some ((state_in table).environment.find_object object) ≡ true
+        → object.0 < next },
 }
 
-impl Shapes for Session {
+impl<R: Runner + Drop> Shapes for Session<R> {
     ghost use Rattle.session.specs.Performed.{count_in, known_in};
 
     ghost known = { known_in };
@@ -41,8 +41,8 @@ impl Shapes for Session {
     ghost count = { count_in };
 
     fn object(&self, object: Obj) -> Option<(Domain, Shape)> {
-        match self.table.find(object) {
-            Some(held) => Some((held.domain, held.shape)),
+        match signature(&self.table, object) {
+            Some(known) => Some((known.domain, known.shape)),
             None => None,
         }
     }
@@ -56,28 +56,20 @@ impl Shapes for Session {
     }
 }
 
-impl Session {
-    ghost use Rattle.calls.specs.Checks.{Decides};
-    ghost use Rattle.model.specs.Object.{IsObject};
-    ghost use Rattle.session.specs.Objects.{object_of, stored_object};
-    ghost use Rattle.session.specs.Performed.{Answers, IsPerformed, count_in, environment_of, known_in, made_in};
-    ghost use Rattle.session.specs.Performed.{Ends, IsFinishedIn, fault_in, next_object};
+impl<R: Runner + Drop> Session<R> {
+    ghost use Rattle.session.specs.Performed.{IsMade, IsPerformed, environment_of, made_in, next_object, state_of};
 
-    /// A session without objects. It takes no memory.
-    pub fn new(alloc: Global) -> Session
-        ensures environment { environment_of result ≡ no_objects }
+    /// A session without objects, whose values a runner makes. It takes no memory.
+    pub fn new(alloc: Global, runner: R) -> Session<R>
+        ensures state { state_of result ≡ first_state }
         ensures made { made_in result ≡ 0 }
     {
         Session {
             alloc,
+            runner,
             table: Table::new(alloc),
             next: 0,
         }
-    }
-
-    /// Where its objects take memory.
-    pub(crate) fn alloc(&self) -> Global {
-        self.alloc
     }
 
     /// Makes an object without entries (`GrB_Matrix_new`, `GrB_Vector_new`). After 2^64 - 1 objects
@@ -88,9 +80,7 @@ impl Session {
         ensures unused { (environment_of self.old).find_object (next_object self.old) ≡ None }
     {
         check_create(self, domain, shape)?;
-        let store = Store::new(self.alloc, shape.rows(), shape.cols());
-        let held = Held::new(self.alloc, domain, shape, store);
-        let object = self.insert(held)?;
+        let object = self.insert(Signature { domain, shape }, Value::New)?;
         Ok(object)
     }
 
@@ -106,207 +96,52 @@ impl Session {
         requires built_in { is_built_in domain ≡ true }
         requires inside { IsInside rows cols entries }
         requires words { All (λ e. IsWordOf domain e.word) entries }
-        ensures status { Ends (fault_in self.old
-            (Call.Create (next_object self.old) domain (Shape.Two rows cols))) result }
-        ensures put { OnOk result (environment_of self.new ≡ with_object same_object (environment_of self.old)
-            (next_object self.old) (object_read domain (record { rows = rows; cols = cols; entries = entries }))
-            ((environment_of self.old).count + 1)) }
-        ensures kept { OnErr result (environment_of self.new ≡ environment_of self.old) }
-        ensures object { IfOk result (λ object. object ≡ next_object self.old) }
-        ensures made { OnOk result (made_in self.new ≡ made_in self.old + 1) }
-        ensures unmade { OnErr result (made_in self.new ≡ made_in self.old) }
+        ensures loaded { IsMade self.old self.new
+            (object_read domain (record { rows = rows; cols = cols; entries = entries })) result }
+        ensures made { IfOk result (λ object. object ≡ next_object self.old) }
         ensures unused { (environment_of self.old).find_object (next_object self.old) ≡ None }
     {
         let shape = Shape::Two(rows, cols);
         check_create(self, domain, shape)?;
         let store = sum_entries(self.alloc, entries, domain, rows, cols)?;
-        let held = Held::new(self.alloc, domain, shape, store);
-        let object = self.insert(held)?;
+        let store = Arc::new(self.alloc, store)?;
+        let object = self.insert(Signature { domain, shape }, Value::Here(store))?;
         Ok(object)
     }
 
     /// Puts an object under the next number, behind which there is another.
-    fn insert(&mut self, held: Held) -> Result<Obj, NoMemory>
-        requires { (made_in self.old == 2 ^ 64 - 1) ≡ false }
+    pub(crate) fn insert(&mut self, of: Signature, value: Value<R::Ticket>) -> Result<Obj, NoMemory>
+        requires left { (made_in self.old == 2 ^ 64 - 1) ≡ false }
+        requires value { IsValueOf R.object_of of value }
         ensures object { IfOk result (λ object. object ≡ next_object self.old) }
-        ensures put { OnOk result (environment_of self.new ≡ with_object same_object (environment_of self.old)
-            (next_object self.old) (object_of held) ((environment_of self.old).count + 1)) }
+        ensures put { OnOk result (state_of self.new ≡ with_mark same_object (state_of self.old)
+            (with_object same_object (environment_of self.old) (next_object self.old)
+            (object_with of (map_with R.object_of [] value)) ((environment_of self.old).count + 1))
+            (next_object self.old) (mark_with [] value)) }
         ensures made { OnOk result (made_in self.new ≡ made_in self.old + 1) }
-        ensures kept { OnErr result (environment_of self.new ≡ environment_of self.old) }
+        ensures kept { OnErr result (state_of self.new ≡ state_of self.old) }
         ensures unmade { OnErr result (made_in self.new ≡ made_in self.old) }
     {
         let object = Obj(self.next);
-        self.table.insert(object, held)?;
+        insert(
+            self.alloc,
+            &mut self.runner,
+            &mut self.table,
+            object,
+            of,
+            value,
+        )?;
         self.next += 1;
         Ok(object)
     }
 
-    /// Makes an object with the domain, the shape and the entries of another (`GrB_Matrix_dup`,
-    /// `GrB_Vector_dup`), whose lists it copies.
-    pub fn dup(&mut self, object: Obj) -> Result<Obj, Status>
-        ensures performed { IsPerformed self.old self.new (Call.Dup (next_object self.old) object) result }
-        ensures made { IfOk result (λ made. made ≡ next_object self.old) }
-        ensures unused { (environment_of self.old).find_object (next_object self.old) ≡ None }
-    {
-        check_dup(self, object)?;
-        self.finish(object)?;
-        let copy = self.finished(object).try_clone(self.alloc)?;
-        let object = self.insert(copy)?;
-        Ok(object)
-    }
-
-    /// Gives an object another shape, in which the entries stay that fit it (`GrB_Matrix_resize`,
-    /// `GrB_Vector_resize`).
-    pub fn resize(&mut self, object: Obj, shape: Shape) -> Result<(), Status>
-        ensures { IsPerformed self.old self.new (Call.On object (Act.Resize shape)) result }
-    {
-        check_resize(self, object, shape)?;
-        self.finish(object)?;
-        let held = self.finished(object);
-        let of = held.signature();
-        let stores = Roles::of_old(&held.store);
-        let store = evaluate(self.alloc, &Recipe::Resized { of, shape }, &stores)?;
-        self.table.reshape(object, shape, store);
-        Ok(())
-    }
-
-    /// Puts values at positions of an object without entries; those of one position are combined in the order
-    /// of the list (`GrB_Matrix_build`, `GrB_Vector_build`).
-    pub fn build(
-        &mut self,
-        object: Obj,
-        dup: Option<OpName>,
-        tuples: TupleList,
-    ) -> Result<(), Status>
-        ensures { IsPerformed self.old self.new (Call.On object (Act.Build dup tuples)) result }
-    {
-        let op = check_build(self, object, dup, &tuples)?;
-        self.finish(object)?;
-        let held = self.finished(object);
-        if held.store.nvals() > 0 {
-            return Err(Status::OutputNotEmpty);
-        }
-        let store = build(self.alloc, held.shape, held.domain, op, &tuples)?;
-        self.table.replace(object, store);
-        Ok(())
-    }
-
-    /// Removes all entries of an object (`GrB_Matrix_clear`, `GrB_Vector_clear`). It takes no memory.
-    pub fn clear(&mut self, object: Obj) -> Result<(), Status>
-        ensures performed { IsPerformed self.old self.new (Call.On object Act.Clear) result }
-        ensures decided { Decides (fault_in self.old (Call.On object Act.Clear)) result }
-    {
-        check_there(self, object)?;
-        let Some(held) = self.table.find(object) else {
-            unreachable!()
-        };
-        let shape = held.shape;
-        let store = Store::new(self.alloc, shape.rows(), shape.cols());
-        self.table.replace(object, store);
-        Ok(())
-    }
-
-    /// Removes an entry, where there is one (`GrB_Matrix_removeElement`, `GrB_Vector_removeElement`).
-    pub fn remove(&mut self, object: Obj, place: Place) -> Result<(), Status>
-        ensures { IsPerformed self.old self.new (Call.On object (Act.Remove place)) result }
-    {
-        check_place(self, object, place)?;
-        let removal = Edit::Remove(place.row(), place.col());
-        self.table.edit(self.alloc, object, removal)?;
-        Ok(())
-    }
-
-    /// Sets an entry (`GrB_Matrix_setElement`, `GrB_Vector_setElement`).
-    pub fn set(&mut self, object: Obj, place: Place, value: i128) -> Result<(), Status>
-        ensures { IsPerformed self.old self.new (Call.On object (Act.Set place value)) result }
-    {
-        let word = check_set(self, object, place, value)?;
-        let setting = Edit::Set(place.row(), place.col(), word);
-        self.table.edit(self.alloc, object, setting)?;
-        Ok(())
-    }
-
-    /// The value of an entry (`GrB_Matrix_extractElement`, `GrB_Vector_extractElement`).
-    pub fn get(&mut self, object: Obj, place: Place) -> Result<i128, Status>
-        ensures performed { IsPerformed self.old self.new (Call.On object (Act.Get place)) result }
-        ensures value { IfOk result (λ value. Answers (environment_of self.old) (Call.On object (Act.Get place))
-            (Reply.Value value)) }
-    {
-        check_place(self, object, place)?;
-        self.finish(object)?;
-        let held = self.finished(object);
-        match held.store.get(place.row(), place.col()) {
-            Some(word) => Ok(held.domain.value_of(word)),
-            None => Err(Status::NoValue),
-        }
-    }
-
-    /// The number of entries (`GrB_Matrix_nvals`, `GrB_Vector_nvals`).
-    pub fn nvals(&mut self, object: Obj) -> Result<u64, Status>
-        ensures performed { IsPerformed self.old self.new (Call.On object Act.Nvals) result }
-        ensures number { IfOk result (λ number. Answers (environment_of self.old) (Call.On object Act.Nvals)
-            (Reply.Count number)) }
-    {
-        check_there(self, object)?;
-        self.finish(object)?;
-        let held = self.finished(object);
-        Ok(held.store.nvals())
-    }
-
-    /// The sum of all values of an object by a monoid, the identity where it has none (`GrB_reduce`).
-    pub fn reduce(&mut self, object: Obj, monoid: MonoidName) -> Result<i128, Status>
-        ensures performed { IsPerformed self.old self.new (Call.On object (Act.Reduce monoid)) result }
-        ensures value { IfOk result (λ value. Answers (environment_of self.old) (Call.On object (Act.Reduce monoid))
-            (Reply.Value value)) }
-    {
-        let monoid = check_reduce(self, object, monoid)?;
-        self.finish(object)?;
-        let held = self.finished(object);
-        let sum = reduce_all(&held.store, monoid);
-        Ok(monoid.op.domain.value_of(sum))
-    }
-
-    /// Does the edits that wait on an object, if it is there; where none do it takes no memory. An error leaves all
-    /// objects as they were.
-    pub(crate) fn finish(&mut self, object: Obj) -> Result<(), NoMemory>
-        ensures kept { environment_of self.new ≡ environment_of self.old }
-        ensures made { made_in self.new ≡ made_in self.old }
-        ensures finished { OnOk result (IsFinishedIn self.new object) }
-        ensures others { OnOk result ((other : Object) → IsFinishedIn self.old other
-            → IsFinishedIn self.new other) }
-        ensures waited { OnErr result (IsFinishedIn self.old object → ⊥) }
-    {
-        self.table.finish(self.alloc, object)
-    }
-
-    /// An object that is there and on which no edits wait.
-    pub(crate) fn finished(&self, object: Obj) -> &Held
-        requires there { is_some ((environment_of self.now).find_object object) ≡ true }
-        requires finished { IsFinishedIn self.now object }
-        ensures held { (environment_of self.now).find_object object ≡ Some (stored_object result.now) }
-        ensures is_object { IsObject (stored_object result.now) }
-    {
-        match self.table.find(object) {
-            Some(held) => held,
-            None => unreachable!(),
-        }
-    }
-
     /// Frees an object (`GrB_free`). Its number is never used again.
     pub fn free(&mut self, object: Obj) -> Result<(), Status>
-        ensures there { MatchResult result
-            (λ _. is_some ((environment_of self.old).find_object object) ≡ true)
-            (λ status. (status ≡ Status.UninitializedObject) × ((environment_of self.old).find_object object ≡ None)) }
         ensures performed { IsPerformed self.old self.new (Call.On object Act.Free) result }
-        ensures left { OnOk result (environment_of self.new
-            ≡ without_object same_object (environment_of self.old) object) }
-        ensures kept { OnErr result (environment_of self.new ≡ environment_of self.old) }
-        ensures made { made_in self.new ≡ made_in self.old }
+        ensures there { OnErr result ((environment_of self.old).find_object object ≡ None) }
     {
-        if self.table.remove(object) {
-            Ok(())
-        } else {
-            Err(Status::UninitializedObject)
-        }
+        check_there(self, object)?;
+        remove(&mut self.runner, &mut self.table, object);
+        Ok(())
     }
 }

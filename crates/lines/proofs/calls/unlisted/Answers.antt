@@ -6,4 +6,4 @@ use Rattle.lines.proofs.calls.unlisted.Goals as goal
 pub returns : goal.returns
 returns c =
     c.bare.ensures
-    ∙ sym (said_bare c.args.called.now (map (λ word. word.now) c.args.words.now) (search rules) (search rules) (search rules) (search rules) (search rules) (search rules) (search rules) (search rules) (search rules))
+    ∙ sym (said_bare c.args.called.now (map (λ word. word.now) c.args.words.now) (search rules) (search rules) (search rules) (search rules) (search rules) (search rules) (search rules) (search rules) (search rules) (search rules))

@@ -1,54 +1,7 @@
--- Each turn of the loop answers one line more; what is written at any time is whole answers.
-use Rattle.std.proofs.Common.{◌≡◌, rules, arith, sym, subst, ap, ◌++◌, []}
-use Rattle.std.proofs.lemmas.List.{nil_from_length}
-use Rattle.model.specs.Run.{Environment}
-use Rattle.model.specs.Runs.{State, first_state}
-use Rattle.script.specs.Named.{state_in}
-use Rattle.model.specs.Grammar.{Name}
-use Rattle.script.proofs.TextLaws.{on_err}
-use Rattle.script.proofs.RunLaws.{IsUnderWay, headline, ran-all, ran-so_far, under_way-start, under_way-turn}
+-- The lines that were answered are all of the script.
+use Rattle.script.proofs.RunLaws.{headline-where_ok}
 use Rattle.script.proofs.running.run.Goals as goal
-
-pub returns-in_err-text-clause-err : goal.returns-in_err-text-clause-err
-returns-in_err-text-clause-err g c =
-    on_err c.from_residual.result (ran-so_far (g.S.Sources.held c.args.sources.now) c.args.script.now c.args.script.now first_state 1 c.args.out.now.items c.args.out.now.items (under_way-start (g.S.Sources.held c.args.sources.now) c.args.script.now c.args.out.now.items))
-
-pub loop-rest-init : goal.loop-rest-init
-loop-rest-init g c = record {
-  way = subst (λ state. IsUnderWay (g.S.Sources.held c.args.sources.now) c.args.script.now c.args.script.now state 1 c.args.out.now.items c.args.out.now.items) (sym (ap (λ (e : Environment Name). let s : State = record { environment = e } in s) c.new-environment.ensures.environment)) (under_way-start (g.S.Sources.held c.args.sources.now) c.args.script.now c.args.out.now.items);
-  made = rw c.new-environment.ensures.made (omega arith);
-  numbered = omega arith;
-}
-
-pub returns-in_err-answer_line-clause-err : goal.returns-in_err-answer_line-clause-err
-returns-in_err-answer_line-clause-err g c =
-    on_err c.from_residual-in_err-answer_line.result (ran-so_far (g.S.Sources.held c.args.sources.now) c.args.script.now c.loop-rest.rest.now (state_in c.loop-rest.environment) c.loop-rest.number c.args.out.now.items c.loop-rest.out.items c.loop-rest.invariant.way)
-
-pub returns-in_err-extend_from_slice-clause-err : goal.returns-in_err-extend_from_slice-clause-err
-returns-in_err-extend_from_slice-clause-err g c =
-    let kept : c.extend_from_slice.new.self.items ≡ c.loop-rest.out.items = search rules in
-    rw kept (on_err c.from_residual-in_err-extend_from_slice.result (ran-so_far (g.S.Sources.held c.args.sources.now) c.args.script.now c.loop-rest.rest.now (state_in c.loop-rest.environment) c.loop-rest.number c.args.out.now.items c.loop-rest.out.items c.loop-rest.invariant.way))
-
-pub loop-rest-preserved : goal.loop-rest-preserved
-loop-rest-preserved g c =
-    let grown : c.extend_from_slice.new.self.items ≡ c.loop-rest.out.items ++ c.answer_line.new.text.items = search rules in
-    record {
-      way = rw grown (under_way-turn (g.S.Sources.held c.args.sources.now) c.args.script.now c.loop-rest.rest.now c.first_line.result.1.now c.first_line.result.0.now (state_in c.loop-rest.environment) (state_in c.answer_line.new.environment)
-          c.loop-rest.number c.args.out.now.items c.loop-rest.out.items c.answer_line.new.text.items c.first_line.ensures.lines c.in_ok-answer_line.ensures.says c.loop-rest.invariant.way);
-      made = omega (arith, c.in_ok-answer_line.ensures.made);
-      numbered = omega arith;
-    }
-
-pub returns-clause-ok : goal.returns-clause-ok
-returns-clause-ok g c =
-    let ended : c.loop-rest.rest.now ≡ [] = nil_from_length c.loop-rest.rest.now (search rules) in
-    ran-all (g.S.Sources.held c.args.sources.now) c.args.script.now (state_in c.loop-rest.environment) c.loop-rest.number c.args.out.now.items c.loop-rest.out.items (rw ended at c.loop-rest.invariant.way)
 
 pub returns-clause-headline : goal.returns-clause-headline
 returns-clause-headline g c =
-    let ended : c.loop-rest.rest.now ≡ [] = nil_from_length c.loop-rest.rest.now (search rules) in
-    headline (g.S.Sources.held c.args.sources.now) c.args.script.now c.args.out.now.items c.loop-rest.out.items
-    (ran-all (g.S.Sources.held c.args.sources.now) c.args.script.now (state_in c.loop-rest.environment) c.loop-rest.number c.args.out.now.items c.loop-rest.out.items (rw ended at c.loop-rest.invariant.way))
-
-pub answer_line-requires-clause-made : goal.answer_line-requires-clause-made
-answer_line-requires-clause-made g c = omega arith
+    headline-where_ok c.answer_lines.result (g.S.Sources.held c.args.sources.now) c.args.script.now c.args.out.now.items c.answer_lines.new.out.items c.answer_lines.ensures.ok

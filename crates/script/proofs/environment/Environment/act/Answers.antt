@@ -1,8 +1,7 @@
--- A call that frees an object answers no lines, and another one keeps all names.
+-- A call that frees an object answers no lines.
 use Rattle.script.proofs.ReplyLaws.{freed_answered}
 use Rattle.script.proofs.environment.Environment.act.Goals as goal
 
 pub returns-in-Free : goal.returns-in-Free
-returns-in-Free c =
-    rw c.in-Free.is (freed_answered c.args.self.now c.free.new.self c.args.object.now c.args.text.now.items c.free.result
-    c.free.ensures.status c.free.ensures.effect c.free.ensures.kept c.free.ensures.made)
+returns-in-Free g c =
+    rw c.in-Free.is (freed_answered c.args.self.now c.free.new.self c.args.object.now c.args.text.now.items c.free.result c.free.ensures)

@@ -8,10 +8,10 @@ use Rattle.script.specs.Named.{number_in}
 use Rattle.script.proofs.environment.Environment.print.Goals as goal
 
 pub returns-in_default : goal.returns-in_default
-returns-in_default c = unnamed_print c.args.self.now c.args.name.now c.args.text.now.items (search rules)
+returns-in_default g c = unnamed_print c.args.self.now c.args.name.now c.args.text.now.items (search rules)
 
 pub invariant_of-self : goal.invariant_of-self
-invariant_of-self c =
+invariant_of-self g c =
     let names = c.args.self.now in
     record {
       distinct = names.distinct;
@@ -19,7 +19,7 @@ invariant_of-self c =
     }
 
 pub returns : goal.returns
-returns c =
+returns g c =
     let names = c.args.self.now in
     let is : number_in names c.args.name.now ≡ Some c.in-Some.object = search rules in
-    printed names _ c.args.name.now c.in-Some.object c.args.text.now.items c.print.new.text.items c.print.result c.requires is refl c.print.ensures.performed c.print.ensures.lines
+    printed names _ c.args.name.now c.in-Some.object c.args.text.now.items c.print.new.text.items c.print.result c.requires names.distinct is refl c.print.ensures.performed c.print.ensures.lines

@@ -8,10 +8,10 @@ use Rattle.session.specs.Performed.{numbered}
 use Rattle.script.proofs.environment.Environment.reply.Goals as goal
 
 pub returns-in_default : goal.returns-in_default
-returns-in_default c = missing_named (λ name. name.now) c.args.self.now c.args.call c.requires.known c.in_default.ensures
+returns-in_default g c = missing_named (λ name. name.now) c.args.self.now c.args.call c.requires.known c.in_default.ensures
 
 pub invariant_of-self : goal.invariant_of-self
-invariant_of-self c =
+invariant_of-self g c =
     let names = c.args.self.now in
     let is = found_some (renamed (λ name. number_in names name.now) (λ name. name) c.args.call) c.in-Some.call c.in-Some.ensures in
     record {
@@ -21,7 +21,7 @@ invariant_of-self c =
     }
 
 pub returns : goal.returns
-returns c =
+returns g c =
     let is = found_some (renamed (λ name. number_in c.args.self.now name.now) (λ name. name) c.args.call) c.in-Some.call c.in-Some.ensures in
     replied_named (λ name. name.now) c.args.self.now _ c.args.call c.in-Some.call c.perform.result c.requires.made c.requires.known c.requires.textless c.args.self.now.distinct refl is
     c.perform.ensures.performed c.perform.ensures.answer

@@ -1,50 +1,66 @@
 -- The object is there, and there is a number after the next one.
-use Rattle.std.proofs.Common.{◌≡◌, ◌∙◌, ◌+◌, ◌==◌, ◌^◌, ◌-◌, ℕ, Option, Some, ap, is_some, sym}
-use Rattle.std.specs.Option.{unwrap_or}
-use Rattle.model.specs.Object.{Object}
-use Rattle.model.specs.Run.{no_object, with_object}
-use Rattle.session.specs.Objects.{object_of}
-use Rattle.session.specs.Performed.{made_in, next_object}
-use Rattle.session.specs.Tables.{same_object}
+use Rattle.std.proofs.Common.{◌∙◌, ◌+◌, ◌==◌, ◌^◌, ◌-◌, [], ℕ, ap}
 use Rattle.calls.specs.declared.obj.Obj.{Obj}
-use Rattle.model.specs.Run.{Environment}
-use Rattle.session.specs.Objects.{stored_object}
-use Rattle.session.specs.Performed.{count_in, environment_of}
-use Rattle.session.proofs.PerformedLaws.{performed-dup}
-use Rattle.session.proofs.SessionLaws.{dup-accepted, not_there, number_left-dup}
+use Rattle.model.specs.declared.call.Call.TheVariants.{Dup}
+use Rattle.calls.specs.Stores.{object_with}
+use Rattle.model.specs.Marks.{Mark, State, told, with_mark}
+use Rattle.model.specs.Object.{Object}
+use Rattle.model.specs.Run.{object_at, with_object}
+use Rattle.objects.specs.Tables.{same_object}
+use Rattle.objects.specs.Values.{map_with, mark_with}
+use Rattle.session.specs.Performed.{count_in, environment_of, next_object, state_of}
+use Rattle.session.proofs.AcceptedLaws.{dup-accepted, number_left-dup}
+use Rattle.session.proofs.NumberLaws.{not_there}
+use Rattle.session.proofs.PerformedLaws.{performed-dup, refused-as}
+use Rattle.session.proofs.StateLaws.{later-put}
 use Rattle.session.proofs.sessions.Session.dup.Goals as goal
 
-pub finished-requires-clause-there : goal.finished-requires-clause-there
-finished-requires-clause-there c =
-    ap (λ (env : Environment Obj). is_some (env.find_object c.args.object)) c.finish.ensures.kept ∙ (dup-accepted (count_in c.args.self.now) ((environment_of c.args.self.now).find_object c.args.object) c.in_ok-check_dup.ensures).0
+abbrev put_under : State Obj → ℕ → Object → Mark → State Obj
+put_under s n o mark =
+    with_mark same_object s (with_object same_object s.environment (record { 0 = n }) o (s.environment.count + 1)) (record { 0 = n }) mark
 
-pub insert-requires : goal.insert-requires
-insert-requires c =
-    ap (λ (n : ℕ). n == 2 ^ 64 - 1) c.finish.ensures.made
+pub known-of-requires : goal.known-of-requires
+known-of-requires g c = (dup-accepted (count_in c.args.self.now) ((environment_of c.args.self.now).find_object c.args.object) c.in_ok-check_dup.ensures).0
+
+pub copied-requires : goal.copied-requires
+copied-requires g c = record { there = (dup-accepted (count_in c.args.self.now) ((environment_of c.args.self.now).find_object c.args.object) c.in_ok-check_dup.ensures).0 }
+
+pub insert-requires-clause-left : goal.insert-requires-clause-left
+insert-requires-clause-left g c =
+    ap (λ (n : ℕ). n == 2 ^ 64 - 1) c.copied.ensures.made
     ∙ number_left-dup c.args.self.now.next (environment_of c.args.self.now).count ((environment_of c.args.self.now).find_object c.args.object) c.in_ok-check_dup.ensures
 
+pub insert-requires-clause-value : goal.insert-requires-clause-value
+insert-requires-clause-value g c = rw c.known-of.ensures c.in_ok-value.ensures.value.is_value
+
+pub returns-in_err-value-clause-performed : goal.returns-in_err-value-clause-performed
+returns-in_err-value-clause-performed g c =
+    refused-as c.args.self.now c.copied.new.self (Dup (next_object c.args.self.now) c.args.object) c.from_residual-in_err-value.result c.from_residual-in_err-value.ensures.1 c.copied.ensures.state c.copied.ensures.made
+
+pub returns-in_err-made-clause-performed : goal.returns-in_err-made-clause-performed
+returns-in_err-made-clause-performed g c =
+    refused-as c.args.self.now c.insert.new.self (Dup (next_object c.args.self.now) c.args.object) c.from_residual-in_err-made.result c.from_residual-in_err-made.ensures.1
+    (c.in_err-made.ensures.kept ∙ c.copied.ensures.state) (c.in_err-made.ensures.unmade ∙ c.copied.ensures.made)
+
 pub returns-clause-performed : goal.returns-clause-performed
-returns-clause-performed c =
+returns-clause-performed g c =
     let session = c.args.self.now in
-    let finished = c.finish.new.self in
-    let kept : environment_of finished ≡ environment_of session = c.finish.ensures.kept in
-    let made : made_in finished ≡ made_in session = c.finish.ensures.made in
-    let held = c.finished.result.now in
-    let found : (environment_of session).find_object c.args.object ≡ Some (stored_object held) = ap (λ (env : Environment Obj). env.find_object c.args.object) (sym kept) ∙ c.finished.ensures.held in
-    let put : with_object same_object (environment_of finished) (next_object finished) (object_of c.in_ok-copy.copy) ((environment_of finished).count + 1)
-    ≡ with_object same_object (environment_of session) (next_object session) (object_of c.in_ok-copy.copy) ((environment_of session).count + 1) =
-    λ t. let next : Obj = record { 0 = made t } in with_object same_object (kept t) next (object_of c.in_ok-copy.copy) ((kept t).count + 1) in
-    performed-dup session _ c.args.object _ _ c.in_ok-check_dup.ensures (c.in_ok-object.ensures.put ∙ put)
-    (c.in_ok-copy.ensures ∙ ap (λ (o : Option Object). unwrap_or o no_object) (sym found)) (c.in_ok-object.ensures.made ∙ ap (λ (n : ℕ). n + 1) made)
+    let s = state_of session in
+    let o = object_at (environment_of session) c.args.object in
+    performed-dup session c.insert.new.self (next_object session) c.args.object _ c.in_ok-check_dup.ensures
+    (c.in_ok-made.ensures.put
+    ∙ (λ t. put_under (c.copied.ensures.state t) (c.copied.ensures.made t) (object_with c.known-of.result (map_with g.R.Runner.object_of [] c.in_ok-value.value)) (mark_with [] c.in_ok-value.value))
+    ∙ later-put g.R.Runner.object_of s (next_object session) o ((environment_of session).count + 1) (told s c.args.object) c.in_ok-value.value c.known-of.result c.in_ok-value.ensures.value c.known-of.ensures)
+    (c.in_ok-made.ensures.made ∙ ap (λ (n : ℕ). n + 1) c.copied.ensures.made)
 
 pub returns-in_err-check_dup-clause-unused : goal.returns-in_err-check_dup-clause-unused
-returns-in_err-check_dup-clause-unused c = not_there (environment_of c.args.self.now) (next_object c.args.self.now) c.args.self.now.fresh
+returns-in_err-check_dup-clause-unused g c = not_there (environment_of c.args.self.now) (next_object c.args.self.now) c.args.self.now.fresh
 
-pub returns-in_err-finish-clause-unused : goal.returns-in_err-finish-clause-unused
-returns-in_err-finish-clause-unused c = not_there (environment_of c.args.self.now) (next_object c.args.self.now) c.args.self.now.fresh
+pub returns-in_err-value-clause-unused : goal.returns-in_err-value-clause-unused
+returns-in_err-value-clause-unused g c = not_there (environment_of c.args.self.now) (next_object c.args.self.now) c.args.self.now.fresh
 
-pub returns-in_err-copy-clause-unused : goal.returns-in_err-copy-clause-unused
-returns-in_err-copy-clause-unused c = not_there (environment_of c.args.self.now) (next_object c.args.self.now) c.args.self.now.fresh
+pub returns-in_err-made-clause-unused : goal.returns-in_err-made-clause-unused
+returns-in_err-made-clause-unused g c = not_there (environment_of c.args.self.now) (next_object c.args.self.now) c.args.self.now.fresh
 
-pub returns-in_err-object-clause-unused : goal.returns-in_err-object-clause-unused
-returns-in_err-object-clause-unused c = not_there (environment_of c.args.self.now) (next_object c.args.self.now) c.args.self.now.fresh
+pub returns-clause-unused : goal.returns-clause-unused
+returns-clause-unused g c = not_there (environment_of c.args.self.now) (next_object c.args.self.now) c.args.self.now.fresh

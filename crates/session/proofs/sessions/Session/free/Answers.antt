@@ -1,18 +1,23 @@
--- An object that is there is freed, and another call of its number is refused.
-use Rattle.std.proofs.Common.{◌≡◌, None, refl, sym}
-use Rattle.session.specs.Performed.{environment_of}
-use Rattle.session.proofs.PerformedLaws.{performed-free}
-use Rattle.session.proofs.SessionLaws.{below-removed, none_where}
+-- An object that is there is freed.
+use Rattle.std.proofs.Common.{refl}
+use Rattle.model.specs.declared.call.Act.TheVariants.{Free}
+use Rattle.objects.specs.Tables.{state_in}
+use Rattle.objects.proofs.TableLaws.{on_err}
+use Rattle.session.specs.Performed.{count_in, environment_of, state_of}
+use Rattle.session.proofs.AcceptedLaws.{act-there, free-absent}
+use Rattle.session.proofs.NumberLaws.{below-removed}
+use Rattle.session.proofs.PerformedLaws.{performed-free, removed-there}
 use Rattle.session.proofs.sessions.Session.free.Goals as goal
 
+pub returns-in_err-check_there-clause-there : goal.returns-in_err-check_there-clause-there
+returns-in_err-check_there-clause-there g c =
+    on_err _ c.from_residual.result (free-absent (count_in c.args.self.now) ((environment_of c.args.self.now).find_object c.args.object) c.in_err-check_there.field-0.0 c.in_err-check_there.ensures.free)
+
 pub invariant_of-self : goal.invariant_of-self
-invariant_of-self c = record { fresh = below-removed c.remove.result (environment_of c.args.self.now) _ c.args.object c.args.self.now.next c.args.self.now.fresh c.remove.ensures.left }
+invariant_of-self g c =
+    record { fresh = below-removed c.remove.result (state_of c.args.self.now) (state_in c.remove.new.table) c.args.object c.args.self.now.next c.args.self.now.fresh c.remove.ensures.left }
 
-pub returns-then-remove-clause-performed : goal.returns-then-remove-clause-performed
-returns-then-remove-clause-performed c =
-    performed-free c.args.self.now _ c.args.object _ (sym c.if-remove.ensures.there) c.if-remove.ensures.left tt refl
-
-pub returns-else-remove-clause-performed : goal.returns-else-remove-clause-performed
-returns-else-remove-clause-performed c =
-    let gone : (environment_of c.args.self.now).find_object c.args.object ≡ None = none_where _ (sym c.if-remove.ensures.there) in
-    performed-free c.args.self.now _ c.args.object _ (refl, gone) tt c.if-remove.ensures.left refl
+pub returns-clause-performed : goal.returns-clause-performed
+returns-clause-performed g c =
+    let there = act-there (count_in c.args.self.now) ((environment_of c.args.self.now).find_object c.args.object) Free c.in_ok-check_there.ensures.free in
+    performed-free c.args.self.now _ c.args.object _ c.in_ok-check_there.ensures.free (removed-there c.remove.result (state_of c.args.self.now) (state_in c.remove.new.table) c.args.object there c.remove.ensures.there c.remove.ensures.left) refl

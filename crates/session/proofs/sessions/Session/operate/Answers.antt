@@ -1,38 +1,55 @@
--- The output has what the operation leaves.
-use Rattle.std.proofs.Common.{◌≡◌, ◌∙◌, ◌<◌, ap, arith, is_some, subst, sym}
+-- What is known of the objects was found by the checks, and what is left in the output is the operation's result.
+use Rattle.std.proofs.Common.{◌∙◌, [], ap, is_some, sym}
 use Rattle.calls.specs.declared.obj.Obj.{Obj}
-use Rattle.model.specs.Object.{IsObject, Object, cols_of, rows_of}
-use Rattle.model.specs.Run.{Environment, object_at, with_content}
-use Rattle.session.specs.Performed.{environment_of}
-use Rattle.session.specs.Tables.{same_object}
-use Rattle.session.proofs.PerformedLaws.{performed-operate}
-use Rattle.session.proofs.SessionLaws.{below-put}
-use Rattle.store.specs.Stored.{content_of}
+use Rattle.calls.specs.declared.role.Roles.{Roles}
+use Rattle.calls.specs.Recipes.{meaning}
+use Rattle.calls.specs.Roles.{role_of}
+use Rattle.calls.specs.Stores.{object_with}
+use Rattle.calls.proofs.RoleLaws.{roles-known}
+use Rattle.model.specs.declared.call.Call.TheVariants.{Operate}
+use Rattle.model.specs.Marks.{State, put_off}
+use Rattle.model.specs.Object.{Object}
+use Rattle.model.specs.Run.{with_object}
+use Rattle.objects.specs.Tables.{same_object, with_kept}
+use Rattle.objects.specs.Values.{map_with, mark_with}
+use Rattle.session.specs.Deferred.{any_told, maps_at}
+use Rattle.session.specs.Performed.{environment_of, known_in, state_of}
+use Rattle.session.proofs.PerformedLaws.{performed-operate, refused-as}
+use Rattle.session.proofs.ResultLaws.{left-computed, output-there}
+use Rattle.session.proofs.StateLaws.{later-put}
+use Rattle.std.proofs.Common.{refl}
+use Rattle.std.specs.Option.{option_map}
 use Rattle.session.proofs.sessions.Session.operate.Goals as goal
 
-pub replace-requires-clause-there : goal.replace-requires-clause-there
-replace-requires-clause-there c = ap (λ (env : Environment Obj). is_some (env.find_object c.args.out.now.c)) c.result.ensures.kept ∙ c.in_ok-store.ensures.left.there
+pub computed-requires : goal.computed-requires
+computed-requires g c = record {
+  known = λ role. roles-known (known_in c.args.self.now) c.args.out.now c.args.operation c.in_ok-accepted.accepted c.in_ok-accepted.ensures.found role
+      ∙ ap (λ (objects : Roles Obj). option_map (known_in c.args.self.now) (role_of objects role)) (sym c.by_role-objects.ensures);
+}
 
-pub replace-requires-clause-rows : goal.replace-requires-clause-rows
-replace-requires-clause-rows c =
-    subst (λ (env : Environment Obj). c.in_ok-store.store.rows ≡ rows_of (object_at env c.args.out.now.c).shape) (sym c.result.ensures.kept) c.in_ok-store.ensures.left.rows
+pub returns-in_err-value : goal.returns-in_err-value
+returns-in_err-value g c =
+    refused-as c.args.self.now c.computed.new.self (Operate c.args.out.now c.args.operation) c.from_residual-in_err-value.result c.from_residual-in_err-value.ensures.1 c.computed.ensures.state c.computed.ensures.made
 
-pub replace-requires-clause-cols : goal.replace-requires-clause-cols
-replace-requires-clause-cols c =
-    subst (λ (env : Environment Obj). c.in_ok-store.store.cols ≡ cols_of (object_at env c.args.out.now.c).shape) (sym c.result.ensures.kept) c.in_ok-store.ensures.left.cols
-
-pub replace-requires-clause-is_object : goal.replace-requires-clause-is_object
-replace-requires-clause-is_object c =
-    subst (λ (env : Environment Obj). let o : Object = record (object_at env c.args.out.now.c) { content = content_of c.in_ok-store.store } in IsObject o) (sym c.result.ensures.kept) c.in_ok-store.ensures.left.is_object
-
-pub invariant_of-self : goal.invariant_of-self
-invariant_of-self c =
-    let finished = c.result.new.self in
-    let there = ap (λ (env : Environment Obj). is_some (env.find_object c.args.out.now.c)) c.result.ensures.kept ∙ c.in_ok-store.ensures.left.there in
-    let low : c.args.out.now.c.0 < finished.next = finished.fresh c.args.out.now.c there in
-    record { fresh = below-put (environment_of finished) _ c.args.out.now.c _ _ finished.next finished.next finished.fresh low (omega arith) c.replace.ensures }
+pub put-requires-clause-there : goal.put-requires-clause-there
+put-requires-clause-there g c =
+    ap (λ (s : State Obj). is_some (s.environment.find_object c.args.out.now.c)) c.computed.ensures.state
+    ∙ output-there (environment_of c.args.self.now) c.args.out.now c.args.operation c.in_ok-accepted.accepted c.in_ok-accepted.ensures.found
 
 pub returns : goal.returns
-returns c =
-    let left = ap (λ (env : Environment Obj). with_content same_object env c.args.out.now.c (content_of c.in_ok-store.store)) c.result.ensures.kept in
-    performed-operate c.args.self.now _ c.args.out.now c.args.operation (content_of c.in_ok-store.store) _ c.in_ok-store.ensures.status (c.replace.ensures ∙ left) c.in_ok-store.ensures.left.content c.result.ensures.made
+returns g c =
+    let session = c.args.self.now in
+    let s = state_of session in
+    let env = environment_of session in
+    let accepted = c.in_ok-accepted.accepted in
+    let of = accepted.out.c in
+    let left : Roles Obj → Object = λ objects. object_with of (meaning accepted.out accepted.operation (maps_at env objects)) in
+    let objects = c.by_role-objects.result in
+    let value = c.in_ok-value.value in
+    let result = ap left c.by_role-objects.ensures ∙ left-computed env c.args.out.now c.args.operation accepted c.in_ok-accepted.ensures.found in
+    performed-operate session c.put.new.self c.args.out.now c.args.operation _ c.in_ok-accepted.ensures.fault
+    (c.put.ensures.state
+    ∙ ap (λ (s : State Obj). with_kept s c.args.out.now.c (object_with of (map_with g.R.Runner.object_of [] value)) (mark_with [] value)) c.computed.ensures.state
+    ∙ later-put g.R.Runner.object_of s c.args.out.now.c (left objects) env.count (any_told s objects) value of c.in_ok-value.ensures.value refl
+    ∙ (λ t. put_off same_object s (with_object same_object env c.args.out.now.c (result t) env.count) c.args.out.now.c (any_told s (c.by_role-objects.ensures t))))
+    (c.put.ensures.made ∙ c.computed.ensures.made)

@@ -1,19 +1,16 @@
--- The entries are those of the object, on which no edits wait any more.
-use Rattle.std.proofs.Common.{◌≡◌, ◌∙◌, Some, ap, sym}
+-- The entries are those of the object, whose value is there.
+use Rattle.std.proofs.Common.{◌∙◌, ap, map}
 use Rattle.calls.specs.declared.obj.Obj.{Obj}
-use Rattle.model.specs.Run.{Environment}
-use Rattle.session.specs.Objects.{stored_object}
+use Rattle.model.specs.declared.shape.Signature.{Signature}
+use Rattle.model.specs.Run.{Environment, object_at}
+use Rattle.session.specs.Listed.{tuple_of, tuples_of}
 use Rattle.session.specs.Performed.{environment_of}
-use Rattle.session.proofs.PerformedLaws.{performed-again}
+use Rattle.session.proofs.ResultLaws.{stored-entries}
 use Rattle.session.proofs.sessions.Session.tuples.Goals as goal
 
-pub returns-clause-performed : goal.returns-clause-performed
-returns-clause-performed c = performed-again c.args.self.now c.complete.new.self c.args.object _ _ c.in_ok-complete.ensures.performed
-
 pub returns-clause-tuples : goal.returns-clause-tuples
-returns-clause-tuples c =
-    let session = c.args.self.now in
-    let held = c.finished-held.result.now in
-    let found : (environment_of session).find_object c.args.object ≡ Some (stored_object held) =
-    ap (λ (env : Environment Obj). env.find_object c.args.object) (sym c.in_ok-complete.ensures.kept) ∙ c.finished-held.ensures.held in
-    rw (found, ← held.rows, ← held.cols) c.in_ok-tuples.ensures
+returns-clause-tuples g c =
+    let now = object_at (environment_of c.complete.new.self) c.args.object in
+    c.in_ok-tuples.ensures
+    ∙ (λ t. let of : Signature = c.known-domain.ensures t in map (tuple_of of.domain) (stored-entries now c.store.result.now c.store.ensures.object c.store.ensures.store t))
+    ∙ ap (λ (env : Environment Obj). tuples_of (object_at env c.args.object)) c.in_ok-complete.ensures.kept
