@@ -5,6 +5,7 @@ use crate::options::Options;
 use crate::program::{execute, execute_by};
 use crate::words::of_process;
 use model::NoMemory;
+use runner::AtOnce;
 use script::Sources;
 use std::alloc::{AllocError, Global};
 use std::env::{Env, FillError};
@@ -196,7 +197,8 @@ fn run(alloc: Global, line: &str, text: &str) -> Result<Outcome, AllocError> {
 
 fn answers(alloc: Global, text: &str) -> Result<Vec<u8>, AllocError> {
     let mut out = Vec::new(alloc);
-    match script::run(alloc, text.as_bytes(), &NoFiles, &mut out) {
+    let mut runner = AtOnce::new(alloc);
+    match script::run(alloc, text.as_bytes(), &NoFiles, &mut runner, &mut out) {
         Ok(()) => Ok(out),
         Err(_) => Err(AllocError),
     }
