@@ -115,7 +115,7 @@ module _ {R T : Type 0} {g : Ghosts R T} (m n : Table R T g) (o : Obj) (old new 
       ∙ (λ t. record { environment = (state_in m).environment; marks = λ q. marks_same q t })
 
   -- the same object, whose value may have come to be there
-  settles_written : object_in new ≡ object_in old → MayBecome (mark_in old) (mark_in new)
+  pub settles_written : object_in new ≡ object_in old → MayBecome (mark_in old) (mark_in new)
       → Settles (state_in m) (state_in n)
   settles_written is may = subst (Settles (state_in m)) (sym (state_marked is)) (record { environment = refl; marks = point })
     where

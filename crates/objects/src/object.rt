@@ -205,6 +205,14 @@ pub(crate) fn take_ticket<R: Runner>(runner: &mut R, object: &mut Kept<R>)
     value::take_ticket(runner, object.of, &mut object.value);
 }
 
+/// Has the value of an object come to be there, where it can, and gives its ticket back. Edits wait on.
+pub(crate) fn settle<R: Runner>(runner: &mut R, object: &mut Kept<R>)
+    ensures object { object_in object.new ≡ object_in object.old }
+    ensures mark { MayBecome (mark_in object.old) (mark_in object.new) }
+{
+    value::settle(runner, object.of, &mut object.value);
+}
+
 /// Puts another value into an object, of which this is known then, and on which no edits wait.
 pub(crate) fn replace<R: Runner>(
     alloc: Global,

@@ -1,10 +1,10 @@
 //! Objects by their numbers.
-ghost use Rattle.std.specs.Prelude.{◌≡◌, ◌+◌, [], IfOk, None, OnErr, OnOk, false, if◌then◌else◌, not};
+ghost use Rattle.std.specs.Prelude.{◌≡◌, ◌+◌, ◌≤◌, [], IfOk, IfSome, None, OnErr, OnOk, false, if◌then◌else◌, not};
 ghost use Rattle.std.specs.Prelude.{is_some, true};
 ghost use Rattle.std.specs.Option.{option_map};
 ghost use Rattle.calls.specs.declared.obj.Obj.{Obj as AnyObj};
 ghost use Rattle.calls.specs.Stores.{IsStoreOf, object_with};
-ghost use Rattle.model.specs.Marks.{Open, Unmarked, first_state, told, with_mark};
+ghost use Rattle.model.specs.Marks.{Open, Settles, Unmarked, first_state, told, with_mark};
 ghost use Rattle.model.specs.Object.{IsObject, cols_of, rows_of, signature_of};
 ghost use Rattle.model.specs.Run.{object_at, with_object, without_object};
 ghost use Rattle.objects.specs.Values.{IsValueOf, map_with, mark_with};
@@ -113,6 +113,38 @@ pub fn take_ticket<R: Runner>(runner: &mut R, table: &mut Table<R>, object: Obj)
     match table.by_number.get_mut(&object.0) {
         Some(kept) => object::take_ticket(runner, kept),
         None => unreachable!(),
+    }
+}
+
+/// Has the values of all objects come to be there, where they can, and gives their tickets back. An object whose value
+/// doesn't come keeps its ticket, and who asks for it is told then.
+pub fn settle<R: Runner>(runner: &mut R, table: &mut Table<R>)
+    ensures { Settles (state_in table.old) (state_in table.new) }
+{
+    let mut from = 0;
+    while let Some(number) = first_from(table, from) {
+        settle_one(runner, table, Obj(number));
+        if number == u64::MAX {
+            return;
+        }
+        from = number + 1;
+    }
+}
+
+/// The least number from one on that an object has.
+fn first_from<R: Runner>(table: &Table<R>, from: u64) -> Option<u64>
+    ensures { IfSome result (λ number. from ≤ number) }
+{
+    let (number, _) = table.by_number.range(from..).next()?;
+    Some(*number)
+}
+
+/// Has the value of an object come to be there, if there is the object and it can.
+fn settle_one<R: Runner>(runner: &mut R, table: &mut Table<R>, object: Obj)
+    ensures { Settles (state_in table.old) (state_in table.new) }
+{
+    if let Some(kept) = table.by_number.get_mut(&object.0) {
+        object::settle(runner, kept);
     }
 }
 

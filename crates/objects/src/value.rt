@@ -1,6 +1,6 @@
 //! What is there of an object's value.
 ghost use Rattle.std.specs.Prelude.{◌≡◌, [], List, OnErr, OnOk, false, true};
-ghost use Rattle.model.specs.Marks.{Told, Unmarked, is_told, is_unmarked};
+ghost use Rattle.model.specs.Marks.{MayBecome, Told, Unmarked, is_told, is_unmarked};
 ghost use Rattle.model.specs.Object.{no_content};
 ghost use Rattle.objects.specs.Values.{HasTicket, IsMade, IsValueOf, is_finished_with, is_ready_with, map_with};
 ghost use Rattle.objects.specs.Values.{mark_with};
@@ -51,6 +51,30 @@ pub(crate) fn take_ticket<R: Runner>(runner: &mut R, of: Signature, value: &mut 
             runner.let_go(ticket);
             *value = Value::Here(store);
         }
+        other => *value = other,
+    }
+}
+
+/// Has the store come to be there for which a ticket stands, where it can, and gives the ticket back. A value whose store
+/// doesn't come keeps its ticket, since nobody asked for it.
+pub(crate) fn settle<R: Runner>(runner: &mut R, of: Signature, value: &mut Value<R::Ticket>)
+    requires sound { IsValueOf R.object_of of value.old }
+    ensures sound { IsValueOf R.object_of of value.new }
+    ensures map { (edits : List AnyEdit) → map_with R.object_of edits value.new ≡ map_with R.object_of edits value.old }
+    ensures mark { (edits : List AnyEdit) → MayBecome (mark_with edits value.old) (mark_with edits value.new) }
+{
+    match mem::replace(value, Value::Failed) {
+        Value::Both(store, ticket) => {
+            runner.let_go(ticket);
+            *value = Value::Here(store);
+        }
+        Value::Open(ticket) => match runner.fetch(&ticket) {
+            Ok(store) => {
+                runner.let_go(ticket);
+                *value = Value::Here(store);
+            }
+            Err(_) => *value = Value::Open(ticket),
+        },
         other => *value = other,
     }
 }

@@ -1,4 +1,5 @@
 pub mod AcceptedLaws
+pub mod EpochLaws
 pub mod ListingLaws
 pub mod NumberLaws
 pub mod PerformedLaws

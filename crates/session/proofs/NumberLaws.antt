@@ -3,7 +3,7 @@ use Rattle.std.proofs.Common.{◌≡◌, ◌∙◌, ℕ, ◌<◌, ◌≤◌, ◌
 use Rattle.std.specs.Prelude.{OnErr, OnOk}
 use Rattle.std.proofs.lemmas.Bool.{cases_Bool, eqb-true}
 use Rattle.calls.specs.declared.obj.Obj.{Obj}
-use Rattle.model.specs.Marks.{Mark, State, Told, Unmarked, with_mark}
+use Rattle.model.specs.Marks.{Mark, Settles, State, Told, Unmarked, with_mark}
 use Rattle.model.specs.Object.{Object, no_content}
 use Rattle.model.specs.Run.{Environment, object_at, with_object, without_object}
 use Rattle.objects.specs.declared.kept.Refusal.{Refusal}
@@ -89,3 +89,7 @@ pub below-removed : (removed : Bool) (before after : State Obj) (o : Obj) (n : �
 below-removed true before after o n below is = λ q there.
     below q (left_there (same_object o q) (before.environment.find_object q) (ap (λ (s : State Obj). is_some (s.environment.find_object q)) (sym is) ∙ there))
 below-removed false before after o n below is = below-same before after n below is
+
+-- ..where values came to be there
+pub below-settled : (before after : State Obj) (n : ℕ) → AreBelow before n → Settles before after → AreBelow after n
+below-settled before after n below settles = below-kept before.environment after.environment n below settles.environment

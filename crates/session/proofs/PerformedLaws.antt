@@ -249,7 +249,7 @@ module _ {R T : Type 0} {g : Ghosts R T} (old new : Session R T g) where
 
   -- ---- operations
 
-  early-operate : (out : Out Obj) (operation : Operation Obj)
+  pub early-operate : (out : Out Obj) (operation : Operation Obj)
       → early_in old (Operate out operation) ≡ early_fault (count_in old) (Operate (renamed_out (known_in old) out) (renamed_operation (known_in old) operation))
   early-operate out operation =
       let find = (environment_of old).find_object in

@@ -33,6 +33,7 @@ impl<R: Runner + Drop> Session<R> {
         ensures unused { (environment_of self.old).find_object (next_object self.old) ≡ None }
     {
         check_dup(self, object)?;
+        self.begin()?;
         let of = self.known(object);
         let value = self.copied(object)?;
         let made = self.insert(of, value)?;
@@ -60,6 +61,7 @@ impl<R: Runner + Drop> Session<R> {
         ensures { IsPerformed self.old self.new (Call.On object (Act.Resize shape)) result }
     {
         check_resize(self, object, shape)?;
+        self.begin()?;
         let of = self.known(object);
         let value = self.resized(object, of, shape)?;
         self.put(object, Signature { shape, ..of }, value);

@@ -219,6 +219,7 @@ impl<R: Runner + Drop> Session<R> {
         let objects = by_role(out, &operation);
         let accepted = check_operate(self, out, operation)?;
         let of = accepted.out.c;
+        self.begin()?;
         let value = self.computed(accepted, &objects)?;
         self.put(out.c, of, value);
         Ok(())

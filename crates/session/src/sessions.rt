@@ -5,7 +5,7 @@ ghost use Rattle.algebra.specs.Value.{IsWordOf, is_built_in};
 ghost use Rattle.calls.specs.Stores.{object_with};
 ghost use Rattle.calls.specs.declared.obj.Obj.{Obj as Object};
 ghost use Rattle.model.specs.Entries.{IsInside};
-ghost use Rattle.model.specs.Marks.{first_state, with_mark};
+ghost use Rattle.model.specs.Marks.{Settles, first_state, with_mark};
 ghost use Rattle.model.specs.MatrixMarket.{object_read};
 ghost use Rattle.model.specs.Run.{with_object};
 ghost use Rattle.objects.specs.Tables.{same_object, state_in};
@@ -14,12 +14,15 @@ ghost use Rattle.objects.specs.Values.{IsValueOf, map_with, mark_with};
 use algebra::Domain;
 use calls::{Act, Call, Obj, Shape, Shapes, Signature, check_create, check_there};
 use model::{MOST_OBJECTS, NoMemory, Status};
-use objects::{Table, Value, insert, remove, signature};
+use objects::{Table, Value, insert, remove, settle, signature};
 use patch::sum_entries;
 use runner::Runner;
 use std::alloc::Global;
 use std::sync::Arc;
 use store::Tuples;
+
+/// So many calls hand work to a runner before it is emptied, and what it knows of them is forgotten.
+const EPOCH: u64 = 4_096;
 
 /// Objects by number, and all calls on them. Each call is checked at once; what an accepted call has to do is handed to
 /// a runner, and done when it likes, or when a call asks for the value. A call that answers an error changes nothing.
@@ -29,6 +32,7 @@ pub struct Session<R: Runner + Drop> {
     pub(crate) runner: R,
     pub(crate) table: Table<R>,
     next: u64,
+    submitting: u64,
     ghost fresh: { (object : Object) → is_some ((state_in table).environment.find_object object) ≡ true
         → object.0 < next },
 }
@@ -69,6 +73,7 @@ impl<R: Runner + Drop> Session<R> {
             runner,
             table: Table::new(alloc),
             next: 0,
+            submitting: 0,
         }
     }
 
@@ -133,6 +138,30 @@ impl<R: Runner + Drop> Session<R> {
         )?;
         self.next += 1;
         Ok(object)
+    }
+
+    /// Begins a call that hands work to the runner, and ends the epoch before it where that is over.
+    pub(crate) fn begin(&mut self) -> Result<(), NoMemory>
+        ensures settles { Settles (state_of self.old) (state_of self.new) }
+        ensures made { made_in self.new ≡ made_in self.old }
+    {
+        if self.submitting < EPOCH {
+            self.submitting += 1;
+            return Ok(());
+        }
+        self.end_epoch()
+    }
+
+    /// Has the values of all objects come to be there, where they can, and empties the runner. Refused, the objects keep
+    /// their values, and the epoch isn't over.
+    fn end_epoch(&mut self) -> Result<(), NoMemory>
+        ensures settles { Settles (state_of self.old) (state_of self.new) }
+        ensures made { made_in self.new ≡ made_in self.old }
+    {
+        settle(&mut self.runner, &mut self.table);
+        self.runner.renew()?;
+        self.submitting = 1;
+        Ok(())
     }
 
     /// Frees an object (`GrB_free`). Its number is never used again.
