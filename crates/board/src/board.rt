@@ -1,0 +1,334 @@
+//! Boards.
+ghost use Rattle.std.specs.Prelude.{◌≡◌, map};
+ghost use Rattle.std.specs.VecDeque.{deque_capacity};
+ghost use Rattle.board.specs.Slots.{task_of};
+ghost use Rattle.board.specs.Sound.{IsSound};
+
+use crate::admitting::{first_stage, is_ready_at_once, make_room, none_failed, offer, read_if};
+use crate::blocks::has_rows;
+use crate::falling::{end, spread};
+use crate::fitting::are_there;
+use crate::look::{Look, Refusal};
+use crate::looking::{is_gone, look_at};
+use crate::piece::{Given, Piece, Stores};
+use crate::reads::{hold_less, hold_more, read_less, release, release_each};
+use crate::ready::withdraw;
+use crate::sharing::{claim, share};
+use crate::slot::Slot;
+use crate::stage::{Stage, is_joining, is_running, put, take_recipe};
+use crate::waiting::{Readers, wait_for};
+use crate::waking::{can_fail, wake};
+use calls::{Recipe, Roles};
+use kernel::Block;
+use model::NoMemory;
+use smallvec::SmallVec;
+use std::alloc::Global;
+use std::collections::VecDeque;
+use std::sync::Arc;
+use store::Store;
+
+/// Numbered slots, each with a task on lower ones, and what there is of its store.
+#[derive(Drop)]
+pub struct Board<N: Drop> {
+    alloc: Global,
+    slots: Vec<Slot<N>>,
+    stages: Vec<Stage>,
+    holds: Vec<u64>,
+    reads: Vec<u64>,
+    readers: Vec<Readers>,
+    ready: VecDeque<u64>,
+    ghost sound: { IsSound (map task_of slots.items) stages.items holds.items reads.items
+        (map (λ r. r.items) readers.items)
+        ready.items (deque_capacity ready) },
+}
+
+impl<N: Drop> Board<N> {
+    ghost use Rattle.std.specs.Prelude.{◌≡◌, ◌+◌, ◌&&◌, ◌↔◌, ◌-◌, [], IfErr, IfOk, IfSome, None, OnErr, OnOk, Some};
+    ghost use Rattle.std.specs.Prelude.{if◌then◌else◌, length, nat_lt, not, slice_get, slice_index, true, ℕ, false};
+    ghost use Rattle.std.specs.Arc.{arc_value};
+    ghost use Rattle.std.specs.Option.{option_copied};
+    ghost use Rattle.board.specs.Boards.{view_of};
+    ghost use Rattle.board.specs.Events.{Accepts, empty_view, failed, given_to, issued, may_fail, may_hold};
+    ghost use Rattle.board.specs.Events.{may_let_go, picked, taken, with_holds, with_progress};
+    ghost use Rattle.board.specs.Fits.{AreThere};
+    ghost use Rattle.board.specs.Looks.{seen_in, seen_of, store_in};
+    ghost use Rattle.board.specs.Pieces.{IsPieceFor, fits_slot};
+    ghost use Rattle.board.specs.Progress.{Joining, Made, Progress as AnyProgress, is_joining, is_running};
+    ghost use Rattle.board.specs.Progress.{is_unfinished};
+    ghost use Rattle.board.specs.Tasks.{object_at};
+    ghost use Rattle.board.specs.Views.{offered, state_of};
+    ghost use Rattle.runner.specs.Tickets.{IsStoreFor};
+
+    /// An empty board. It takes no memory.
+    pub fn new(alloc: Global) -> Board<N>
+        ensures { view_of result ≡ empty_view }
+    {
+        Board {
+            alloc,
+            slots: Vec::new(alloc),
+            stages: Vec::new(alloc),
+            holds: Vec::new(alloc),
+            reads: Vec::new(alloc),
+            readers: Vec::new(alloc),
+            ready: VecDeque::new(alloc),
+        }
+    }
+
+    /// The next slot has a task, and one hold; it says which slot that is. It has failed where an input has.
+    pub fn issue(&mut self, note: N, recipe: Recipe, inputs: Roles<u64>) -> Result<u64, Refusal>
+        ensures number { IfOk result (λ number. number ≡ length (view_of self.old).tasks) }
+        ensures accepted { OnOk result (Accepts (view_of self.old) recipe inputs) }
+        ensures issued { OnOk result (view_of self.new ≡ issued (view_of self.old) note recipe inputs) }
+        ensures stranger { result ≡ Err Refusal.Stranger → Accepts (view_of self.old) recipe inputs → ⊥ }
+        ensures once { result ≡ Err Refusal.Twice → ⊥ }
+        ensures refused { OnErr result (view_of self.new ≡ view_of self.old) }
+    {
+        if !are_there(&self.slots, &self.stages, &recipe, &inputs) {
+            return Err(Refusal::Stranger);
+        }
+        match self.admit(note, recipe, inputs) {
+            Ok(number) => Ok(number),
+            Err(NoMemory) => Err(Refusal::NoMemory),
+        }
+    }
+
+    // The next slot, where its inputs are there.
+    fn admit(&mut self, note: N, recipe: Recipe, inputs: Roles<u64>) -> Result<u64, NoMemory>
+        requires { AreThere (view_of self.old).tasks self.old.stages.items recipe inputs }
+        ensures number { IfOk result (λ number. number ≡ length (view_of self.old).tasks) }
+        ensures issued { OnOk result (view_of self.new ≡ issued (view_of self.old) note recipe inputs) }
+        ensures refused { OnErr result (view_of self.new ≡ view_of self.old) }
+    {
+        let number = self.slots.len() as u64;
+        wait_for(&mut self.readers, &self.stages, number, &inputs)?;
+        let has_room = make_room(
+            &mut self.slots,
+            &mut self.stages,
+            &mut self.holds,
+            &mut self.reads,
+            &mut self.readers,
+            &mut self.ready,
+        );
+        if !has_room {
+            return Err(NoMemory);
+        }
+        let waits = none_failed(&self.stages, &inputs);
+        let is_ready = is_ready_at_once(&self.stages, &inputs, waits);
+        read_if(&mut self.reads, &inputs, waits);
+        self.slots.push_reserved(Slot::new(note, &recipe, inputs));
+        self.stages.push_reserved(first_stage(recipe, waits));
+        self.holds.push_reserved(1);
+        self.reads.push_reserved(0);
+        self.readers.push_reserved(SmallVec::new(self.alloc));
+        offer(&mut self.ready, number, is_ready);
+        Ok(number)
+    }
+
+    /// Empties a board, and keeps the room of its lists.
+    pub fn clear(&mut self)
+        ensures { view_of self.new ≡ empty_view }
+    {
+        self.slots.clear();
+        self.stages.clear();
+        self.holds.clear();
+        self.reads.clear();
+        self.readers.clear();
+        self.ready.clear();
+    }
+
+    /// A law: when no slot can be taken, and nobody works on one, every slot is finished.
+    pub fn settled(&self)
+        requires none { offered (view_of self.now).tasks (view_of self.now).progress ≡ [] }
+        requires idle { (k : ℕ) → (is_running (slice_get (view_of self.now).progress k) ≡ false)
+            × (is_joining (slice_get (view_of self.now).progress k) ≡ false) }
+        ensures { (k : ℕ) (p : AnyProgress) → slice_get (view_of self.now).progress k ≡ Some p
+            → is_unfinished p ≡ false }
+    {}
+
+    /// What there is of a slot.
+    pub fn look(&self, number: u64) -> Look<'_>
+        ensures seen { seen_in result ≡ seen_of (state_of (view_of self.now) number) }
+        ensures right { IfSome (store_in result) (IsStoreFor (object_at (view_of self.now).tasks number)) }
+    {
+        look_at(&self.stages, number)
+    }
+
+    /// What the caller gave with a slot.
+    pub fn note(&self, number: u64) -> Option<&N>
+        ensures { option_copied result ≡ slice_get (view_of self.now).notes number }
+    {
+        match self.slots.get(number as usize) {
+            Some(slot) => Some(&slot.note),
+            None => None,
+        }
+    }
+
+    /// A piece of the slot at this place of those that can be taken, counted round; None where none can. `Err`: the
+    /// slot's number, where a share of a store was refused; it is taken or failed later. A task is one piece, so that
+    /// the cuts cut nothing.
+    pub fn take(&mut self, pick: u64, _cuts: &[u64]) -> Result<Option<Piece>, u64>
+        ensures none { IfOk result (λ o. (o ≡ None)
+            ↔ (offered (view_of self.old).tasks (view_of self.old).progress ≡ [])) }
+        ensures picked { IfOk result (λ o. IfSome o (λ piece. piece.number ≡ picked (view_of self.old) pick)) }
+        ensures taken { IfOk result (λ o. IfSome o (λ piece.
+            view_of self.new ≡ taken (view_of self.old) piece.number)) }
+        ensures piece { IfOk result (λ o. IfSome o (IsPieceFor (view_of self.new).tasks)) }
+        ensures same { IfOk result (λ o. o ≡ None → view_of self.new ≡ view_of self.old) }
+        ensures number { IfErr result (λ number. number ≡ picked (view_of self.old) pick) }
+        ensures refused { OnErr result (view_of self.new ≡ view_of self.old) }
+    {
+        let count = self.ready.len();
+        if count == 0 {
+            return Ok(None);
+        }
+        let at = (pick % count as u64) as usize;
+        let number = self.ready[at];
+        match self.take_at(at, number) {
+            Ok(piece) => Ok(Some(piece)),
+            Err(NoMemory) => Err(number),
+        }
+    }
+
+    // The piece of the slot at a place among those that can be taken.
+    fn take_at(&mut self, at: usize, number: u64) -> Result<Piece, NoMemory>
+        requires { slice_get self.old.ready.items at ≡ Some number }
+        ensures number { IfOk result (λ piece. piece.number ≡ number) }
+        ensures taken { OnOk result (view_of self.new ≡ taken (view_of self.old) number) }
+        ensures piece { IfOk result (IsPieceFor (view_of self.new).tasks) }
+        ensures refused { OnErr result (view_of self.new ≡ view_of self.old) }
+    {
+        let slot = &self.slots[number as usize];
+        let inputs = slot.inputs;
+        let rows = slot.of.shape.rows();
+        let mask = share(&self.stages, inputs.mask)?;
+        let first = share(&self.stages, inputs.first)?;
+        let second = share(&self.stages, inputs.second)?;
+        let old = claim(&mut self.stages, &self.holds, &self.reads, inputs.old)?;
+        let recipe = take_recipe(&mut self.stages, number);
+        let _ = self.ready.remove(at);
+        Ok(Piece {
+            number,
+            piece: 0,
+            rows: 0..rows,
+            recipe,
+            inputs: Stores {
+                old,
+                mask,
+                first,
+                second,
+            },
+        })
+    }
+
+    /// A piece of a slot that runs was done. The block of its last piece is to be joined.
+    pub fn give(&mut self, number: u64, piece: u64, block: Block) -> Result<Given, Refusal>
+        ensures answer { result ≡ given_to (view_of self.old) number piece block }
+        ensures joining { OnOk result (view_of self.new ≡ with_progress (view_of self.old) number Joining) }
+        ensures refused { OnErr result (view_of self.new ≡ view_of self.old) }
+    {
+        if piece == 0 && is_joining(&self.stages, number) {
+            return Err(Refusal::Twice);
+        }
+        if piece != 0 || !is_running(&self.stages, number) || !self.fits_slot(number, &block) {
+            return Err(Refusal::Stranger);
+        }
+        put(&mut self.stages, number, Stage::Joining);
+        Ok(Given::Last(block))
+    }
+
+    /// The store of a slot whose blocks were joined.
+    pub fn whole(&mut self, number: u64, store: Arc<Store>) -> Result<(), Refusal>
+        requires right { is_joining (slice_get (view_of self.old).progress number) ≡ true
+            → IsStoreFor (object_at (view_of self.old).tasks number) (arc_value store) }
+        ensures answer { result ≡ (if is_joining (slice_get (view_of self.old).progress number) then Ok tt
+            else Err Refusal.Stranger) }
+        ensures made { OnOk result (view_of self.new ≡ with_progress (view_of self.old) number Made) }
+        ensures refused { OnErr result (view_of self.new ≡ view_of self.old) }
+    {
+        if !is_joining(&self.stages, number) {
+            return Err(Refusal::Stranger);
+        }
+        let inputs = self.slots[number as usize].inputs;
+        put(&mut self.stages, number, Stage::Done(store));
+        read_less(&mut self.reads, &inputs);
+        release_each(&mut self.stages, &self.holds, &self.reads, &inputs);
+        release(&mut self.stages, &self.holds, &self.reads, Some(number));
+        wake(
+            &mut self.ready,
+            &self.slots,
+            &self.stages,
+            &self.readers[number as usize],
+        );
+        Ok(())
+    }
+
+    /// Whether a block has all rows of what the task of a slot makes.
+    fn fits_slot(&self, number: u64, block: &Block) -> bool
+        ensures { result ≡ fits_slot (view_of self.now).tasks number block.now }
+    {
+        match self.slots.get(number as usize) {
+            Some(slot) => has_rows(slot.of.shape.rows(), block),
+            None => false,
+        }
+    }
+
+    /// A slot that can be taken, or that somebody works on, fails, and with it each unfinished slot that rests on it.
+    pub fn fail(&mut self, number: u64) -> Result<(), Refusal>
+        ensures answer { result ≡ (if may_fail (view_of self.old) number then Ok tt else Err Refusal.Stranger) }
+        ensures failed { OnOk result (view_of self.new ≡ failed (view_of self.old) number) }
+        ensures refused { OnErr result (view_of self.new ≡ view_of self.old) }
+    {
+        if !can_fail(&self.slots, &self.stages, number) {
+            return Err(Refusal::Stranger);
+        }
+        withdraw(&mut self.ready, number);
+        end(
+            &self.slots,
+            &mut self.stages,
+            &self.holds,
+            &mut self.reads,
+            number,
+        );
+        spread(
+            &self.slots,
+            &mut self.stages,
+            &self.holds,
+            &mut self.reads,
+            number + 1,
+        );
+        Ok(())
+    }
+
+    /// One hold more.
+    pub fn hold(&mut self, number: u64) -> Result<(), Refusal>
+        ensures answer { result ≡ (if may_hold (view_of self.old) number then Ok tt else Err Refusal.Stranger) }
+        ensures held { OnOk result (view_of self.new
+            ≡ with_holds (view_of self.old) number (slice_index (view_of self.old).holds number + 1)) }
+        ensures refused { OnErr result (view_of self.new ≡ view_of self.old) }
+    {
+        if is_gone(&self.stages, number) {
+            return Err(Refusal::Stranger);
+        }
+        if !hold_more(&mut self.holds, number) {
+            return Err(Refusal::Stranger);
+        }
+        Ok(())
+    }
+
+    /// One hold less.
+    pub fn let_go(&mut self, number: u64) -> Result<(), Refusal>
+        ensures answer { result ≡ (if may_let_go (view_of self.old) number then Ok tt else Err Refusal.Stranger) }
+        ensures gone { OnOk result (view_of self.new
+            ≡ with_holds (view_of self.old) number (slice_index (view_of self.old).holds number - 1)) }
+        ensures refused { OnErr result (view_of self.new ≡ view_of self.old) }
+    {
+        if is_gone(&self.stages, number) {
+            return Err(Refusal::Stranger);
+        }
+        if !hold_less(&mut self.holds, number) {
+            return Err(Refusal::Stranger);
+        }
+        release(&mut self.stages, &self.holds, &self.reads, Some(number));
+        Ok(())
+    }
+}

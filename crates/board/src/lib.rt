@@ -1,0 +1,22 @@
+//! Boards of tasks that wait for others, in whatever order they are done (GraphBLAS's nonblocking mode).
+#![tactic(auto)]
+
+mod admitting;
+mod blocks;
+mod board;
+mod falling;
+mod fitting;
+mod look;
+mod looking;
+mod piece;
+mod reads;
+mod ready;
+mod sharing;
+mod slot;
+mod stage;
+mod waiting;
+mod waking;
+
+pub use board::Board;
+pub use look::{Look, Refusal};
+pub use piece::{Given, Piece, Stores};

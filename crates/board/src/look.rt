@@ -1,0 +1,25 @@
+//! What a board answers.
+
+use std::sync::Arc;
+use store::Store;
+
+/// Why an event was refused; it changed nothing.
+#[derive(Clone, Copy, Debug, PartialEq, Eq)]
+pub enum Refusal {
+    /// What it names isn't there, or isn't in a state for it.
+    Stranger,
+    /// The piece was given before.
+    Twice,
+    NoMemory,
+}
+
+/// What there is of a slot.
+#[derive(Clone, Copy)]
+pub enum Look<'a> {
+    /// Its store is to come.
+    Unfinished,
+    Done(&'a Arc<Store>),
+    Failed,
+    /// Its store was there, and nobody needs it, or no slot has the number.
+    Gone,
+}

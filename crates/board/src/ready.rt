@@ -1,0 +1,54 @@
+//! The slots that can be taken: their numbers, rising.
+ghost use Rattle.std.specs.Prelude.{◌≡◌, ◌≤◌, ◌<◌, ◌||◌, ◌&&◌, ◌==◌, ◌≢◌, ℕ, Bool as Test, MatchBool, Some, not};
+ghost use Rattle.std.specs.Prelude.{slice_get};
+ghost use Rattle.std.specs.VecDeque.{deque_capacity};
+ghost use Rattle.board.specs.Numbers.{IsPlace, numbers};
+
+use std::collections::VecDeque;
+
+/// A number is among those that rise.
+pub(crate) fn insert(ready: &mut VecDeque<u64>, number: u64)
+    ensures numbers { (p : ℕ → Test) (n : ℕ) → ready.old.items ≡ numbers p n → number < n → n ≤ deque_capacity ready.old
+        → ready.new.items ≡ numbers (λ k. p k || (k == number)) n }
+    ensures capacity { deque_capacity ready.old ≤ deque_capacity ready.new }
+{
+    let place = place_of(ready, number);
+    if stands_at(ready, place, number) {
+        return;
+    }
+    let _ = ready.insert(place, number);
+}
+
+/// A number is among them no longer, if it was.
+pub(crate) fn withdraw(ready: &mut VecDeque<u64>, number: u64)
+    ensures numbers { (p : ℕ → Test) (n : ℕ) → ready.old.items ≡ numbers p n → number < n
+        → ready.new.items ≡ numbers (λ k. p k && not (k == number)) n }
+    ensures capacity { deque_capacity ready.old ≤ deque_capacity ready.new }
+{
+    let place = place_of(ready, number);
+    if stands_at(ready, place, number) {
+        let _ = ready.remove(place);
+    }
+}
+
+fn stands_at(ready: &VecDeque<u64>, place: usize, number: u64) -> bool
+    ensures { MatchBool result (slice_get ready.now.items place ≡ Some number)
+        (slice_get ready.now.items place ≢ Some number) }
+{
+    match ready.get(place) {
+        Some(found) => *found == number,
+        None => false,
+    }
+}
+
+/// The place of a number among those that rise. The highest are looked at first, since most numbers come last.
+fn place_of(ready: &VecDeque<u64>, number: u64) -> usize
+    ensures { IsPlace ready.now.items number result }
+{
+    for place in (0..ready.len()).rev() {
+        if ready[place] < number {
+            return place + 1;
+        }
+    }
+    0
+}

@@ -1,0 +1,156 @@
+//! How far slots have come, with what each has then.
+ghost use Rattle.std.specs.Prelude.{◌≡◌, None, Some, false, map, slice_get, slice_set, true};
+ghost use Rattle.std.specs.Arc.{arc_value};
+ghost use Rattle.std.specs.Option.{option_and_then, option_map, option_map_or};
+ghost use Rattle.board.specs.Places.{each, passes};
+ghost use Rattle.board.specs.Progress.{is_failed, is_joining, is_made, is_running, is_unfinished, is_untaken};
+ghost use Rattle.board.specs.Stages.{has_store, progress_of, recipe_in, stored_in};
+
+use calls::{Recipe, Roles};
+use std::mem;
+use std::sync::Arc;
+use store::Store;
+
+#[derive(Drop)]
+pub(crate) enum Stage {
+    Untaken(Recipe),
+    Running,
+    Joining,
+    Done(Arc<Store>),
+    Gone,
+    Moved,
+    Failed,
+}
+
+/// The store of a slot.
+pub(crate) fn store_of(stages: &[Stage], number: u64) -> Option<&Arc<Store>>
+    ensures { option_map (λ s. arc_value s.now) result ≡ option_and_then stored_in (slice_get stages.now number) }
+{
+    match stages.get(number as usize) {
+        Some(Stage::Done(store)) => Some(store),
+        _ => None,
+    }
+}
+
+pub(crate) fn is_running(stages: &[Stage], number: u64) -> bool
+    ensures { result ≡ is_running (slice_get (map progress_of stages.now) number) }
+{
+    match stages.get(number as usize) {
+        Some(stage) => matches!(stage, Stage::Running),
+        None => false,
+    }
+}
+
+pub(crate) fn is_joining(stages: &[Stage], number: u64) -> bool
+    ensures { result ≡ is_joining (slice_get (map progress_of stages.now) number) }
+{
+    match stages.get(number as usize) {
+        Some(stage) => matches!(stage, Stage::Joining),
+        None => false,
+    }
+}
+
+pub(crate) fn is_untaken(stages: &[Stage], number: u64) -> bool
+    ensures { result ≡ is_untaken (slice_get (map progress_of stages.now) number) }
+{
+    match stages.get(number as usize) {
+        Some(stage) => matches!(stage, Stage::Untaken(_)),
+        None => false,
+    }
+}
+
+pub(crate) fn is_made(stages: &[Stage], number: u64) -> bool
+    ensures { result ≡ is_made (slice_get (map progress_of stages.now) number) }
+{
+    match stages.get(number as usize) {
+        Some(stage) => matches!(stage, Stage::Done(_) | Stage::Gone | Stage::Moved),
+        None => false,
+    }
+}
+
+pub(crate) fn is_failed(stages: &[Stage], number: u64) -> bool
+    ensures { result ≡ is_failed (slice_get (map progress_of stages.now) number) }
+{
+    match stages.get(number as usize) {
+        Some(stage) => matches!(stage, Stage::Failed),
+        None => false,
+    }
+}
+
+/// Whether the store of a slot is to come.
+pub(crate) fn is_unfinished(stages: &[Stage], number: u64) -> bool
+    ensures { result ≡ option_map_or is_unfinished (slice_get (map progress_of stages.now) number) false }
+{
+    match stages.get(number as usize) {
+        Some(stage) => matches!(stage, Stage::Untaken(_) | Stage::Running | Stage::Joining),
+        None => false,
+    }
+}
+
+/// Whether the store of a slot is there.
+pub(crate) fn is_done(stages: &[Stage], number: u64) -> bool
+    ensures { result ≡ has_store (slice_get stages.now number) }
+{
+    match stages.get(number as usize) {
+        Some(stage) => matches!(stage, Stage::Done(_)),
+        None => false,
+    }
+}
+
+/// Whether each of these was made.
+pub(crate) fn are_made(stages: &[Stage], inputs: &Roles<u64>) -> bool
+    ensures { result ≡ each (λ i. is_made (slice_get (map progress_of stages.now) i)) inputs.now }
+{
+    was_made(stages, inputs.old)
+        && was_made(stages, inputs.mask)
+        && was_made(stages, inputs.first)
+        && was_made(stages, inputs.second)
+}
+
+fn was_made(stages: &[Stage], input: Option<u64>) -> bool
+    ensures { result ≡ passes (λ i. is_made (slice_get (map progress_of stages.now) i)) input }
+{
+    match input {
+        Some(number) => is_made(stages, number),
+        None => true,
+    }
+}
+
+/// One slot comes to another stage. What it had goes.
+pub(crate) fn put(stages: &mut Vec<Stage>, number: u64, stage: Stage)
+    ensures { stages.new.items ≡ slice_set stages.old.items number stage }
+{
+    if let Some(place) = stages.get_mut(number as usize) {
+        *place = stage;
+    }
+}
+
+/// The recipe of a slot that nobody took: it runs.
+pub(crate) fn take_recipe(stages: &mut Vec<Stage>, number: u64) -> Recipe
+    requires { is_untaken (slice_get (map progress_of stages.old.items) number) ≡ true }
+    ensures stages { stages.new.items ≡ slice_set stages.old.items number Stage.Running }
+    ensures recipe { option_and_then recipe_in (slice_get stages.old.items number) ≡ Some result }
+{
+    let Some(place) = stages.get_mut(number as usize) else {
+        unreachable!()
+    };
+    match mem::replace(place, Stage::Running) {
+        Stage::Untaken(recipe) => recipe,
+        _ => unreachable!(),
+    }
+}
+
+/// The store of a slot that is done: it is moved out.
+pub(crate) fn take_store(stages: &mut Vec<Stage>, number: u64) -> Arc<Store>
+    requires { has_store (slice_get stages.old.items number) ≡ true }
+    ensures stages { stages.new.items ≡ slice_set stages.old.items number Stage.Moved }
+    ensures store { option_and_then stored_in (slice_get stages.old.items number) ≡ Some (arc_value result) }
+{
+    let Some(place) = stages.get_mut(number as usize) else {
+        unreachable!()
+    };
+    match mem::replace(place, Stage::Moved) {
+        Stage::Done(store) => store,
+        _ => unreachable!(),
+    }
+}
