@@ -1,0 +1,2 @@
+pub mod DeskLaws
+pub mod WorkLaws

@@ -1,0 +1,100 @@
+//! Pieces of work, done.
+ghost use Rattle.std.specs.Prelude.{◌≡◌, IfOk, IfSome};
+ghost use Rattle.std.specs.Arc.{arc_value};
+ghost use Rattle.board.specs.Boards.{view_of};
+ghost use Rattle.board.specs.Pieces.{IsPieceFor};
+ghost use Rattle.board.specs.Tasks.{object_at};
+ghost use Rattle.runner.specs.Tickets.{IsStoreFor};
+
+use crate::picker::Picker;
+use board::{Board, Given, Look, Piece};
+use kernel::{eval_piece, join};
+use model::NoMemory;
+use runner::Failed;
+use std::alloc::Global;
+use std::sync::Arc;
+use store::Store;
+
+/// The store of a slot, once what it rests on is done, and whatever is picked before.
+pub(crate) fn finish<P: Picker, N: Drop>(
+    alloc: Global,
+    picker: &mut P,
+    board: &mut Board<N>,
+    slot: u64,
+) -> Result<Arc<Store>, Failed>
+    ensures store { IfOk result (λ store. IsStoreFor (object_at (view_of board.old).tasks slot) (arc_value store)) }
+    ensures tasks { (view_of board.new).tasks ≡ (view_of board.old).tasks }
+    ensures notes { (view_of board.new).notes ≡ (view_of board.old).notes }
+{
+    // Each round does a task or fails one, and a board has fewer.
+    for _ in 0..u64::MAX {
+        if let Some(found) = look(board, slot) {
+            return found;
+        }
+        if !work_once(alloc, picker, board) {
+            return Err(Failed);
+        }
+    }
+    Err(Failed)
+}
+
+/// The store of a slot, or that none will come. None while it is still to come.
+fn look<N: Drop>(board: &Board<N>, slot: u64) -> Option<Result<Arc<Store>, Failed>>
+    ensures { IfSome result (λ found. IfOk found
+        (λ store. IsStoreFor (object_at (view_of board.now).tasks slot) (arc_value store))) }
+{
+    match board.look(slot) {
+        Look::Done(store) => Some(Arc::try_clone(store).map_err(|_| Failed)),
+        Look::Failed | Look::Gone => Some(Err(Failed)),
+        Look::Unfinished => None,
+    }
+}
+
+/// Does one of the tasks that can be done, if there is one.
+fn work_once<P: Picker, N: Drop>(alloc: Global, picker: &mut P, board: &mut Board<N>) -> bool
+    ensures tasks { (view_of board.new).tasks ≡ (view_of board.old).tasks }
+    ensures notes { (view_of board.new).notes ≡ (view_of board.old).notes }
+{
+    match board.take(picker.pick(), &[]) {
+        Ok(Some(piece)) => work(alloc, board, piece),
+        Ok(None) => return false,
+        Err(number) => {
+            let _ = board.fail(number);
+        }
+    }
+    true
+}
+
+/// Does a piece of work that was taken, and hands in what it makes; where there is no memory for it, its slot fails.
+fn work<N: Drop>(alloc: Global, board: &mut Board<N>, piece: Piece)
+    requires { IsPieceFor (view_of board.old).tasks piece }
+    ensures tasks { (view_of board.new).tasks ≡ (view_of board.old).tasks }
+    ensures notes { (view_of board.new).notes ≡ (view_of board.old).notes }
+{
+    let number = piece.number;
+    if do_piece(alloc, board, piece).is_err() {
+        let _ = board.fail(number);
+    }
+}
+
+/// Does a piece of work, and hands in what it makes.
+fn do_piece<N: Drop>(alloc: Global, board: &mut Board<N>, piece: Piece) -> Result<(), NoMemory>
+    requires { IsPieceFor (view_of board.old).tasks piece }
+    ensures tasks { (view_of board.new).tasks ≡ (view_of board.old).tasks }
+    ensures notes { (view_of board.new).notes ≡ (view_of board.old).notes }
+{
+    let Piece {
+        number,
+        piece,
+        rows,
+        recipe,
+        inputs,
+    } = piece;
+    let block = eval_piece(alloc, &recipe, &inputs.lent(), rows)?;
+    let Ok(Given::Last(block)) = board.give(number, piece, block) else {
+        return Ok(());
+    };
+    let store = Arc::new(alloc, join(&recipe, block))?;
+    let _ = board.whole(number, store);
+    Ok(())
+}
