@@ -60,7 +60,8 @@ fn place_of<J: Naming>(
     ticket: Option<&Ticket<J>>,
 ) -> Option<Option<u64>>
     requires { AreTold (view_of board.now) }
-    ensures { IfSome result (λ place. IsPlaceOf (view_of board.now).tasks place (option_map (λ t. t.now) ticket.entry)) }
+    ensures { IfSome result (λ place.
+        IsPlaceOf (view_of board.now).tasks place (option_map (λ t. t.now) ticket.entry)) }
 {
     match ticket {
         Some(ticket) => Some(Some(slot_of(board, epoch, ticket)?)),

@@ -55,8 +55,8 @@ pub(crate) fn take_ticket<R: Runner>(runner: &mut R, of: Signature, value: &mut 
     }
 }
 
-/// Has the store come to be there for which a ticket stands, where it can, and gives the ticket back. A value whose store
-/// doesn't come keeps its ticket, since nobody asked for it.
+/// Has the store come to be there for which a ticket stands, where it can, and gives the ticket back. A value whose
+/// store doesn't come keeps its ticket, since nobody asked for it.
 pub(crate) fn settle<R: Runner>(runner: &mut R, of: Signature, value: &mut Value<R::Ticket>)
     requires sound { IsValueOf R.object_of of value.old }
     ensures sound { IsValueOf R.object_of of value.new }

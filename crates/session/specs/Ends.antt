@@ -46,7 +46,8 @@ IsFaulty s fault = ((early_of s ≡ Some fault) × (s.after ≡ s.before))
 
 -- it is told that the object for whose value it asks failed
 abbrev pub IsTold : {K : Type 0} → Setting K → Status → Type 0
-IsTold s answer = (answer ≡ status.InvalidObject) × (early_of s ≡ None) × HasFailed s.same s.before (asked_by s.call) s.after
+IsTold s answer = (answer ≡ status.InvalidObject) × (early_of s ≡ None)
+    × HasFailed s.same s.before (asked_by s.call) s.after
 
 -- it is refused memory, and nothing is changed but that values may have come to be there
 abbrev pub IsRefused : {K : Type 0} → State K → State K → Status → Type 0

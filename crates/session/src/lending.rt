@@ -21,8 +21,8 @@ impl<R: Runner + Drop> Session<R> {
     ghost use Rattle.session.specs.Listed.{tuples_of};
     ghost use Rattle.session.specs.Performed.{IsPerformed, early_in, environment_of, is_finished_in, state_of};
 
-    /// The store of an object, once its value is there (`GrB_Matrix_wait`, `GrB_Vector_wait`). It is lent, and nothing is
-    /// copied; where the value is there it takes no memory.
+    /// The store of an object, once its value is there (`GrB_Matrix_wait`, `GrB_Vector_wait`). It is lent, and nothing
+    /// is copied; where the value is there it takes no memory.
     pub fn store(&mut self, object: Obj) -> Result<&Store, Status>
         ensures* performed { sem 𝓛 (Rests (the_row R.row R.Ticket.row R.Runner) self.entry
             (λ new. IsPerformed self.entry.now new (Call.On object Act.Print) result)) }

@@ -152,8 +152,8 @@ impl<R: Runner + Drop> Session<R> {
         self.end_epoch()
     }
 
-    /// Has the values of all objects come to be there, where they can, and empties the runner. Refused, the objects keep
-    /// their values, and the epoch isn't over.
+    /// Has the values of all objects come to be there, where they can, and empties the runner. Refused, the objects
+    /// keep their values, and the epoch isn't over.
     fn end_epoch(&mut self) -> Result<(), NoMemory>
         ensures settles { Settles (state_of self.old) (state_of self.new) }
         ensures made { made_in self.new ≡ made_in self.old }
