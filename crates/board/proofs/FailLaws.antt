@@ -1,15 +1,16 @@
 -- Steps of slots that fail.
-use Rattle.std.proofs.Common.{get_or, inl, inr, ◌≡◌, ◌∙◌, ℕ, suc, ◌+◌, ◌<◌, ◌≤◌, ◌&&◌, ◌||◌, Bool, true, false, eqb, List, length, map, not, Option, Some, None, slice_get, slice_set, refl, sym, ap, arith, subst}
+use Rattle.std.proofs.Common.{get_or, inl, inr, ◌≡◌, ◌∙◌, ℕ, suc, ◌+◌, ◌<◌, ◌≤◌, ◌&&◌, ◌||◌, Bool, true, false, eqb, ltb, List, length, map, not, Option, Some, None, slice_get, slice_set, refl, sym, ap, arith, subst}
 use Rattle.std.specs.Prelude.{slice_index}
 use Rattle.std.specs.Option.{option_map, option_map_or}
-use Rattle.std.proofs.lemmas.Bool.{and_parts, cases_eq, eq-eqb, ne_eqb}
+use Rattle.std.proofs.lemmas.Bool.{and_parts, cases_eq, cases_lt, eq-eqb, ne_eqb}
+use Rattle.std.proofs.lemmas.Bool.Decides.{nat_tests}
 use Rattle.std.proofs.lemmas.List.{map-set}
 use Rattle.std.proofs.lemmas.Option.{slice_get-get_or, slice_get-map, slice_get_within}
 use Rattle.board.specs.Falling.{IsFalling}
-use Rattle.board.specs.Flows.{FlowsBelow}
+use Rattle.board.specs.Flows.{Flows, FlowsBelow}
 use Rattle.board.specs.Falls.{KeepsReady, fallen, fallen_below, falls}
 use Rattle.board.specs.Places.{each, places_of}
-use Rattle.board.specs.Progress.{Progress, Untaken, Running, Joining, Made, Moved, Failed, is_failed, is_joining, is_made, is_running, is_unfinished, is_untaken}
+use Rattle.board.specs.Progress.{Progress, Untaken, Running, Joining, Made, Moved, Failed, allows, is_failed, is_joining, is_made, is_running, is_unfinished, is_untaken}
 use Rattle.board.specs.Sound.{IsKept, IsSound}
 use Rattle.board.specs.Stages.{is_among, progress_of, released_if}
 use Rattle.board.specs.Tasks.{Task}
@@ -18,8 +19,10 @@ use Rattle.board.specs.declared.stage.Stage.{Stage}
 use Rattle.board.specs.declared.stage.Stage.TheVariants as stage
 use Rattle.board.proofs.BoardLaws.{among_none}
 use Rattle.board.proofs.FallLaws.{fallen_stays, fallen_unfolds, falls_parts, falls_unready, flows_all, flows_fall, flows_skip, flows_weaken, keeps_fall, offered_keeps, unmade_now, waked_keeps}
+use Rattle.board.proofs.FlowLaws.{flows_set}
 use Rattle.board.proofs.ListLaws.{get_set_same, get_there}
 use Rattle.board.proofs.NumberLaws.{and_none, and_true, numbers_same}
+use Rattle.board.proofs.PlaceLaws.{each-from}
 use Rattle.board.proofs.ReadyLaws.{offered_is, ready_not, ready_other}
 use Rattle.board.proofs.WakeLaws.{waked_set}
 use Rattle.board.specs.Numbers.{numbers}
@@ -29,6 +32,13 @@ use Rattle.board.proofs.SoundLaws.{kept_released, kept_set, progress_released}
 some_unfinished : (o : Option Progress) → option_map_or is_unfinished o false ≡ true → (p : Progress) × (o ≡ Some p) × (is_unfinished p ≡ true)
 some_unfinished None h = absurd cc
 some_unfinished (Some p) h = (p, refl, h)
+
+-- nothing is above nothing
+pub none_left : (n : ℕ) → not (ltb 0 n) ≡ true → n ≡ 0
+none_left n h = elim (cases_lt 0 n) [
+  | inl some ↦ absurd (let e : ltb 0 n ≡ true = grind (arith, nat_tests) in cc (e, h))
+  | inr none ↦ omega (arith, none)
+]
 
 module _ (n : ℕ) (ts : List Task) (stages : List Stage) (holds reads : List ℕ) (falling : IsFalling n ts stages holds reads)
     (un : option_map_or is_unfinished (slice_get (map progress_of stages) n) false ≡ true) where
@@ -118,16 +128,50 @@ module _ (ts : List Task) (stages : List Stage) (holds reads : List ℕ) (reader
   pub low_from : k < length ts
   low_from = within k ts stages holds reads (falling_from ts holds refl refl) un
 
-  pub ready_without : numbers (λ j. is_ready ts (map progress_of stages) j && not (eqb j k)) (length ts) ≡ offered ts (slice_set (map progress_of stages) k Failed)
-  ready_without = let (p, at, u) = some_unfinished (slice_get (map progress_of stages) k) un in
-      numbers_same (λ j. is_ready ts (map progress_of stages) j && not (eqb j k)) (is_ready ts (slice_set (map progress_of stages) k Failed)) (length ts)
+  pub ready_without : (q : Progress) → is_untaken (Some q) ≡ false → is_made (Some q) ≡ false
+      → numbers (λ j. is_ready ts (map progress_of stages) j && not (eqb j k)) (length ts) ≡ offered ts (slice_set (map progress_of stages) k q)
+  ready_without q taken unmade = let (p, at, u) = some_unfinished (slice_get (map progress_of stages) k) un in
+      numbers_same (λ j. is_ready ts (map progress_of stages) j && not (eqb j k)) (is_ready ts (slice_set (map progress_of stages) k q)) (length ts)
       (λ j low. elim (cases_eq j k) [
         | inl e ↦ ap (λ b. is_ready ts (map progress_of stages) j && not b) (eq-eqb j k e) ∙ (and_none (is_ready ts (map progress_of stages) j)
-            ∙ sym (ap (is_ready ts (slice_set (map progress_of stages) k Failed)) e ∙ ready_not ts (slice_set (map progress_of stages) k Failed) k (ap is_untaken (get_set_same (map progress_of stages) k Failed p at))))
+            ∙ sym (ap (is_ready ts (slice_set (map progress_of stages) k q)) e ∙ ready_not ts (slice_set (map progress_of stages) k q) k (ap is_untaken (get_set_same (map progress_of stages) k q p at) ∙ taken)))
         | inr far ↦ ap (λ b. is_ready ts (map progress_of stages) j && not b) (ne_eqb j k far) ∙ (and_true (is_ready ts (map progress_of stages) j)
-            ∙ sym (ready_other ts (map progress_of stages) k j p Failed at (unmade_now p u) far))
+            ∙ sym (ready_other ts (map progress_of stages) k j p q at (unmade ∙ unmade_now p u) far))
       ])
-      ∙ offered_is ts (slice_set (map progress_of stages) k Failed)
+      ∙ offered_is ts (slice_set (map progress_of stages) k q)
+
+  -- where no slot that is to come reads it, no other fails with it
+  pub falling_alone : (n : ℕ) (next : List Stage) (reads' : List ℕ) (ts' : List Task) (holds' : List ℕ) → ts' ≡ ts
+      → slice_index reads k ≡ 0 → map progress_of next ≡ slice_set (map progress_of stages) k Failed
+      → IsFalling n ts' next holds' reads' → IsFalling (length ts) ts' next holds' reads'
+  falling_alone n next reads' ts' holds' a unread next_is falling =
+      let (p, at, u) = some_unfinished (slice_get (map progress_of stages) k) un in
+      let (t, is) = get_there ts k low_from in
+      let flows : Flows ts (slice_set (map progress_of stages) k Failed) = flows_set ts (map progress_of stages) k t p Failed sound.flows is at
+      (λ j w r there has names h. stays r j w there has names p u h)
+      (each-from (λ i. allows Failed (slice_get (map progress_of stages) i)) t.inputs (λ role i takes. refl)) in
+      record {
+        flows = subst (λ (x : List Task). FlowsBelow (length ts) x (map progress_of next)) (sym a)
+            (subst (λ (qs : List Progress). FlowsBelow (length ts) ts qs) (sym next_is) (flows_weaken (length ts) ts (slice_set (map progress_of stages) k Failed) flows));
+        counted = falling.counted;
+        kept = falling.kept;
+      }
+    where
+      unread_by : (r : Progress) (j : ℕ) (w : Task) → slice_get ts j ≡ Some w → slice_get (map progress_of stages) j ≡ Some r → is_unfinished r ≡ true
+          → 0 < places_of w.inputs k → ⊥
+      unread_by r j w there has un names =
+          let a = reads_above ts (map progress_of stages) j k w r there has un in
+          let c = sound.counted.counted k in
+          omega (arith, a, c, names, unread)
+
+      stays : (r : Progress) (j : ℕ) (w : Task) → slice_get ts j ≡ Some w → slice_get (map progress_of stages) j ≡ Some r → 0 < places_of w.inputs k
+          → (p : Progress) → is_unfinished p ≡ true → allows r (Some p) ≡ true → allows r (Some Failed) ≡ true
+      stays Untaken j w there has names p u h = absurd (unread_by Untaken j w there has refl names)
+      stays Running j w there has names p u h = absurd (unread_by Running j w there has refl names)
+      stays Joining j w there has names p u h = absurd (unread_by Joining j w there has refl names)
+      stays Made j w there has names p u h = absurd (let e = unmade_now p u in cc (e, h))
+      stays Moved j w there has names p u h = absurd (let e = unmade_now p u in cc (e, h))
+      stays Failed j w there has names p u h = refl
 
   pub sound_failed : (one next : List Stage) (reads' ready' : List ℕ) (room' n : ℕ) (ts' : List Task) (holds' : List ℕ) → ts' ≡ ts → holds' ≡ holds → n ≡ length ts
       → map progress_of one ≡ slice_set (map progress_of stages) k Failed
@@ -145,7 +189,7 @@ module _ (ts : List Task) (stages : List Stage) (holds reads : List ℕ) (reader
         kept = f.kept;
         waked = waked_keeps ts (slice_set (map progress_of stages) k Failed) (map progress_of next) readers
             (waked_set ts (map progress_of stages) readers k p Failed sound.waked at refl (λ h. absurd (let e : false ≡ is_made (Some p) = unmade_now p u in cc (e, h)))) kept;
-        offers = without ∙ (ready_without ∙ sym (offered_keeps ts (slice_set (map progress_of stages) k Failed) (map progress_of next) kept));
+        offers = without ∙ (ready_without Failed refl refl ∙ sym (offered_keeps ts (slice_set (map progress_of stages) k Failed) (map progress_of next) kept));
         roomy = omega (arith, sound.roomy, more);
       }
 

@@ -16,4 +16,5 @@ pub mod OutLaws
 pub mod FitLaws
 pub mod FallLaws
 pub mod FailLaws
+pub mod GivenLaws
 pub mod SettledLaws

@@ -2,18 +2,21 @@
 use Rattle.std.specs.Prelude.{◌||◌, ℕ, ◌≡◌, ◌%◌, ◌++◌, ◌∷◌, ◌==◌, ◌&&◌, not, true, false, List, [], length, nat_lt}
 use Rattle.std.specs.Prelude.{Result, Ok, Err, if◌then◌else◌, Bool, Option, Some, None, slice_get, slice_index}
 use Rattle.std.specs.Prelude.{slice_set}
-use Rattle.std.specs.Option.{option_and_then}
+use Rattle.std.specs.Option.{option_and_then, option_map_or}
+use Rattle.calls.specs.declared.recipe.Given.{Given as There}
 use Rattle.calls.specs.declared.recipe.Recipe.{Recipe}
+use Rattle.calls.specs.declared.recipe.Recipe.TheVariants as recipe
 use Rattle.calls.specs.declared.role.Role.{Role}
 use Rattle.calls.specs.declared.role.Roles.{Roles}
 use Rattle.calls.specs.Recipes.{known_by}
-use Rattle.calls.specs.Roles.{role_of}
+use Rattle.calls.specs.Roles.{no_roles, role_of}
 use Rattle.kernel.specs.declared.block.Block.{Block}
 use Rattle.model.specs.declared.shape.Signature.{Signature}
 use Rattle.board.specs.Falls.{fallen}
 use Rattle.board.specs.Pieces.{fits_slot}
 use Rattle.board.specs.Places.{each}
-use Rattle.board.specs.Progress.{Progress, Untaken, Running, Moved, Failed, is_failed, is_joining, is_running}
+use Rattle.board.specs.Progress.{Progress, Untaken, Running, Made, Moved, Failed, is_failed, is_joining, is_running}
+use Rattle.board.specs.Progress.{is_unfinished}
 use Rattle.board.specs.Tasks.{Task, known_at}
 use Rattle.board.specs.declared.look.Refusal.{Refusal}
 use Rattle.board.specs.declared.look.Refusal.TheVariants.{Stranger, Twice}
@@ -94,6 +97,19 @@ may_fail v k = is_ready v.tasks v.progress k
 -- it has failed, and so has each unfinished slot that rests on it
 abbrev pub failed : {N : Type 0} → View N → ℕ → View N
 failed v k = record v { progress = fallen v.tasks (slice_set v.progress k Failed) }
+
+-- ---- a store that is there
+
+-- the next slot has one hold and is made at once: its task is a store that is there
+abbrev pub placed : {N : Type 0} → View N → N → There → View N
+placed v note given = with_progress (issued v note (recipe.Given given) no_roles) (length v.tasks) Made
+
+-- ---- what nobody can ask for
+
+-- it is to come, nobody holds it, and no slot that is to come reads it
+abbrev pub is_unasked : {N : Type 0} → View N → ℕ → Bool
+is_unasked v k = option_map_or is_unfinished (slice_get v.progress k) false
+    && (not (nat_lt 0 (slice_index v.holds k)) && not (nat_lt 0 (reads_in v.tasks v.progress k)))
 
 -- ---- hold and let_go
 

@@ -11,9 +11,9 @@ use crate::fitting::are_there;
 use crate::look::{Look, Refusal};
 use crate::looking::{is_gone, look_at};
 use crate::piece::{Given, Piece, Stores};
-use crate::reads::{hold_less, hold_more, read_less, release, release_each};
+use crate::reads::{hold_less, hold_more, is_unasked, read_less, release, release_each};
 use crate::ready::withdraw;
-use crate::sharing::{claim, share};
+use crate::sharing::{again, claim, share};
 use crate::slot::Slot;
 use crate::stage::{Stage, is_joining, is_running, put, take_recipe};
 use crate::waiting::{Readers, wait_for};
@@ -46,17 +46,20 @@ impl<N: Drop> Board<N> {
     ghost use Rattle.std.specs.Prelude.{◌≡◌, ◌+◌, ◌&&◌, ◌↔◌, ◌-◌, [], IfErr, IfOk, IfSome, None, OnErr, OnOk, Some};
     ghost use Rattle.std.specs.Prelude.{if◌then◌else◌, length, nat_lt, not, slice_get, slice_index, true, ℕ, false};
     ghost use Rattle.std.specs.Arc.{arc_value};
-    ghost use Rattle.std.specs.Option.{option_copied};
+    ghost use Rattle.std.specs.Option.{option_copied, option_map};
     ghost use Rattle.board.specs.Boards.{view_of};
     ghost use Rattle.board.specs.Events.{Accepts, empty_view, failed, given_to, issued, may_fail, may_hold};
-    ghost use Rattle.board.specs.Events.{may_let_go, picked, taken, with_holds, with_progress};
+    ghost use Rattle.board.specs.Events.{is_unasked, may_let_go, picked, placed, taken, with_holds, with_progress};
     ghost use Rattle.board.specs.Fits.{AreThere};
     ghost use Rattle.board.specs.Looks.{seen_in, seen_of, store_in};
     ghost use Rattle.board.specs.Pieces.{IsPieceFor, fits_slot};
-    ghost use Rattle.board.specs.Progress.{Joining, Made, Progress as AnyProgress, is_joining, is_running};
-    ghost use Rattle.board.specs.Progress.{is_unfinished};
+    ghost use Rattle.board.specs.Places.{each};
+    ghost use Rattle.board.specs.Progress.{Failed, Joining, Made, Progress as AnyProgress, is_joining, is_running};
+    ghost use Rattle.board.specs.Progress.{is_unfinished, is_untaken};
     ghost use Rattle.board.specs.Tasks.{object_at};
     ghost use Rattle.board.specs.Views.{offered, state_of};
+    ghost use Rattle.calls.specs.Roles.{no_roles};
+    ghost use Rattle.model.specs.Object.{IsObject};
     ghost use Rattle.runner.specs.Tickets.{IsStoreFor};
 
     /// An empty board. It takes no memory.
@@ -80,6 +83,7 @@ impl<N: Drop> Board<N> {
         ensures accepted { OnOk result (Accepts (view_of self.old) recipe inputs) }
         ensures issued { OnOk result (view_of self.new ≡ issued (view_of self.old) note recipe inputs) }
         ensures stranger { result ≡ Err Refusal.Stranger → Accepts (view_of self.old) recipe inputs → ⊥ }
+        ensures absent { (Accepts (view_of self.old) recipe inputs → ⊥) → result ≡ Err Refusal.Stranger }
         ensures once { result ≡ Err Refusal.Twice → ⊥ }
         ensures refused { OnErr result (view_of self.new ≡ view_of self.old) }
     {
@@ -122,6 +126,32 @@ impl<N: Drop> Board<N> {
         self.readers.push_reserved(SmallVec::new(self.alloc));
         offer(&mut self.ready, number, is_ready);
         Ok(number)
+    }
+
+    /// The next slot has a store that is there, and one hold. It is done at once, as if its task had been taken, given
+    /// back whole and joined, but for that nothing is copied: the store is shared.
+    pub fn issue_given(&mut self, note: N, given: calls::Given) -> Result<u64, NoMemory>
+        ensures number { IfOk result (λ number. number ≡ length (view_of self.old).tasks) }
+        ensures placed { OnOk result (view_of self.new ≡ placed (view_of self.old) note given) }
+        ensures refused { OnErr result (view_of self.new ≡ view_of self.old) }
+    {
+        let store = again(&given.store)?;
+        let number = self.admit(note, Recipe::Given(given), Roles::none())?;
+        self.fill(number, store);
+        Ok(number)
+    }
+
+    // A slot that can be taken, and reads no other, has its store.
+    fn fill(&mut self, number: u64, store: Arc<Store>)
+        requires untaken { is_untaken (slice_get (view_of self.old).progress number) ≡ true }
+        requires alone { option_map (λ t. t.inputs) (slice_get (view_of self.old).tasks number) ≡ Some no_roles }
+        requires object { IsObject (object_at (view_of self.old).tasks number) }
+        requires right { IsStoreFor (object_at (view_of self.old).tasks number) (arc_value store) }
+        ensures { view_of self.new ≡ with_progress (view_of self.old) number Made }
+    {
+        withdraw(&mut self.ready, number);
+        put(&mut self.stages, number, Stage::Joining);
+        let _ = self.whole(number, store);
     }
 
     /// Empties a board, and keeps the room of its lists.
@@ -297,6 +327,36 @@ impl<N: Drop> Board<N> {
             number + 1,
         );
         Ok(())
+    }
+
+    /// A slot fails that is to come and for which nobody can ask: nobody holds it, and no slot that is to come reads it.
+    /// Its time is that of a look at its inputs, and of finding it among those that can be taken.
+    pub fn give_up(&mut self, number: u64) -> Result<(), Refusal>
+        ensures answer { result ≡ (if is_unasked (view_of self.old) number then Ok tt else Err Refusal.Stranger) }
+        ensures failed { OnOk result (view_of self.new ≡ with_progress (view_of self.old) number Failed) }
+        ensures refused { OnErr result (view_of self.new ≡ view_of self.old) }
+    {
+        if !is_unasked(&self.stages, &self.holds, &self.reads, number) {
+            return Err(Refusal::Stranger);
+        }
+        withdraw(&mut self.ready, number);
+        end(
+            &self.slots,
+            &mut self.stages,
+            &self.holds,
+            &mut self.reads,
+            number,
+        );
+        Ok(())
+    }
+
+    /// The slots that take the roles of a slot's task.
+    pub fn inputs(&self, number: u64) -> Option<Roles<u64>>
+        ensures inputs { result ≡ option_map (λ t. t.inputs) (slice_get (view_of self.now).tasks number) }
+        ensures lower { IfSome result (λ inputs. each (λ i. nat_lt i number) inputs ≡ true) }
+    {
+        let slot = self.slots.get(number as usize)?;
+        Some(slot.inputs)
     }
 
     /// One hold more.

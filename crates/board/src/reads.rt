@@ -1,12 +1,13 @@
 //! Counts of the places that still read slots.
-ghost use Rattle.std.specs.Prelude.{◌≡◌, ◌≤◌, ◌<◌, ◌+◌, ◌-◌, ℕ, ◌^◌, if◌then◌else◌, length, nat_lt, slice_get};
-ghost use Rattle.std.specs.Prelude.{slice_index, slice_set};
-ghost use Rattle.std.specs.Option.{option_map};
+ghost use Rattle.std.specs.Prelude.{◌≡◌, ◌≤◌, ◌<◌, ◌+◌, ◌-◌, ◌&&◌, ℕ, ◌^◌, false, if◌then◌else◌, length, map, nat_lt};
+ghost use Rattle.std.specs.Prelude.{not, slice_get, slice_index, slice_set};
+ghost use Rattle.std.specs.Option.{option_map, option_map_or};
 ghost use Rattle.std.specs.Vec.{vec_capacity};
 ghost use Rattle.board.specs.Places.{place_of, places_of};
-ghost use Rattle.board.specs.Stages.{is_among, is_at, released_if};
+ghost use Rattle.board.specs.Progress.{is_unfinished};
+ghost use Rattle.board.specs.Stages.{is_among, is_at, progress_of, released_if};
 
-use crate::stage::{Stage, is_done, put};
+use crate::stage::{Stage, is_done, is_unfinished, put};
 use calls::Roles;
 
 /// Each of these places reads its slot no longer.
@@ -70,6 +71,14 @@ pub(crate) fn release(stages: &mut Vec<Stage>, holds: &[u64], reads: &[u64], inp
         return;
     }
     put(stages, number, Stage::Gone);
+}
+
+/// Whether a slot is to come, nobody holds it, and no place reads it.
+pub(crate) fn is_unasked(stages: &[Stage], holds: &[u64], reads: &[u64], number: u64) -> bool
+    ensures { result ≡ (option_map_or is_unfinished (slice_get (map progress_of stages.now) number) false
+        && (not (nat_lt 0 (slice_index holds.now number)) && not (nat_lt 0 (slice_index reads.now number)))) }
+{
+    is_unfinished(stages, number) && !is_used(holds, number) && !is_used(reads, number)
 }
 
 fn is_used(counts: &[u64], number: u64) -> bool

@@ -11,6 +11,13 @@ use model::NoMemory;
 use std::sync::Arc;
 use store::Store;
 
+/// Another share of a store.
+pub(crate) fn again(store: &Arc<Store>) -> Result<Arc<Store>, NoMemory>
+    ensures { IfOk result (λ share. arc_value share ≡ arc_value store.now) }
+{
+    Arc::try_clone(store).map_err(|_| NoMemory)
+}
+
 /// A share of the store of a slot, where there is one.
 pub(crate) fn share(stages: &[Stage], input: Option<u64>) -> Result<Option<Arc<Store>>, NoMemory>
     requires { passes (λ i. has_store (slice_get stages.now i)) input ≡ true }
@@ -19,7 +26,7 @@ pub(crate) fn share(stages: &[Stage], input: Option<u64>) -> Result<Option<Arc<S
     let Some(number) = input else { return Ok(None) };
     match store_of(stages, number) {
         Some(store) => {
-            let share = Arc::try_clone(store).map_err(|_| NoMemory)?;
+            let share = again(store)?;
             Ok(Some(share))
         }
         None => Ok(None),

@@ -14,3 +14,9 @@ pub returns-in-Ok-clause-accepted : goal.returns-in-Ok-clause-accepted
 returns-in-Ok-clause-accepted g c =
     there_accepts _ _ _ _ _ _ _ c.args.self.now.sound c.args.recipe c.args.inputs
     (there_by _ _ _ _ _ _ (ap (map (task_of {N = _})) c.deref.ensures.value) c.deref-2.ensures.value (MatchBool-at_true _ _ c.if-not-are_there.false c.are_there.ensures))
+
+pub returns-in-Ok-clause-absent : goal.returns-in-Ok-clause-absent
+returns-in-Ok-clause-absent g c refused = absurd (refused (there_accepts _ _ _ _ _ _ _ c.args.self.now.sound c.args.recipe c.args.inputs (there_by _ _ _ _ _ _ (ap (map (task_of {N = _})) c.deref.ensures.value) c.deref-2.ensures.value (MatchBool-at_true _ _ c.if-not-are_there.false c.are_there.ensures))))
+
+pub returns-in-Err-clause-absent : goal.returns-in-Err-clause-absent
+returns-in-Err-clause-absent g c refused = absurd (refused (there_accepts _ _ _ _ _ _ _ c.args.self.now.sound c.args.recipe c.args.inputs (there_by _ _ _ _ _ _ (ap (map (task_of {N = _})) c.deref.ensures.value) c.deref-2.ensures.value (MatchBool-at_true _ _ c.if-not-are_there.false c.are_there.ensures))))
