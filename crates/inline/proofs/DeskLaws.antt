@@ -3,22 +3,26 @@ use Rattle.std.proofs.Common.{◌≡◌, ◌∙◌, ◌⊎◌, ℕ, zero, suc, �
 use Rattle.std.specs.Prelude.{nat_lt, Result, Ok, Err, OnOk, OnErr}
 use Rattle.std.specs.Option.{option_map, option_map_or}
 use Rattle.std.proofs.lemmas.Bool.Decides.{nat_tests}
-use Rattle.board.specs.Events.{Accepts, IsTaken, issued}
+use Rattle.board.specs.Events.{Accepts, IsTaken, issued, placed}
 use Rattle.board.specs.Places.{each, passes}
 use Rattle.board.specs.Tasks.{Task, known_at, maps_of, object_at, objects}
 use Rattle.board.specs.Views.{View}
 use Rattle.board.specs.declared.look.Refusal.{Refusal}
+use Rattle.board.proofs.GivenLaws.{given_object}
 use Rattle.board.proofs.ObjectLaws.{made_unfolds, object_at_left, object_at_made}
+use Rattle.calls.specs.declared.recipe.Given.{Given}
 use Rattle.calls.specs.declared.recipe.Recipe.{Recipe}
+use Rattle.calls.specs.declared.recipe.Recipe.TheVariants as recipe
 use Rattle.calls.specs.declared.role.Role.{Role}
 use Rattle.calls.specs.declared.role.Role.TheVariants.{Old, Mask, First, Second}
 use Rattle.calls.specs.declared.role.Roles.{Roles}
 use Rattle.calls.specs.Recipes.{known_by, known_of, meaning_of}
-use Rattle.calls.specs.Roles.{role_of}
+use Rattle.calls.specs.Roles.{no_roles, role_of}
 use Rattle.calls.specs.Stores.{object_with}
 use Rattle.history.specs.Histories.{Told, object_of}
 use Rattle.inline.specs.declared.ticket.Ticket.{Ticket}
 use Rattle.inline.specs.Desks.{AreTold, IsPlaceOf, object_in}
+use Rattle.model.specs.declared.memory.NoMemory.{NoMemory}
 use Rattle.model.specs.declared.shape.Signature.{Signature}
 use Rattle.model.specs.Object.{Content, Object, no_content}
 use Rattle.runner.specs.Tickets.{known_by_role, known_by_ticket, lent_in, made_by, map_by_ticket, maps_by}
@@ -130,3 +134,22 @@ told-after v w (Ok slot) note recipe inputs tickets issued refused accepts sized
     subst AreTold (sym issued) (told-issued v recipe inputs accepts note tickets sized told places makes)
 told-after v w (Err refusal) note recipe inputs tickets issued refused accepts sized told places makes =
     subst AreTold (sym refused) told
+
+-- the same where the slot has a store that is there
+told-placed : {J : Type 0} (v : View Told) (note : Told) (given : Given) (tickets : Roles (Bor (Ticket J))) → length v.notes ≡ length v.tasks → AreTold v
+    → object_of note ≡ made_by object_in (recipe.Given given) tickets → AreTold (placed v note given)
+told-placed v note given tickets sized told makes k n at = elim (snoc_at v.notes note n k at) [
+  | inl before ↦ object_at_left v.tasks (record { recipe = recipe.Given given; inputs = no_roles }) k (omega (arith, sized, before.0)) ∙ told k n before.1
+  | inr last ↦
+      let after : List Task = v.tasks ++ record { recipe = recipe.Given given; inputs = no_roles } ∷ [] in
+      ap (object_at after) (last.0 ∙ sized)
+      ∙ given_object after (length v.tasks) given (snoc_last v.tasks (record { recipe = recipe.Given given; inputs = no_roles }))
+      ∙ sym makes ∙ ap object_of last.1
+]
+
+pub told-after_given : {J : Type 0} (v w : View Told) (result : Result ℕ NoMemory) (note : Told) (given : Given) (tickets : Roles (Bor (Ticket J)))
+    → OnOk result (w ≡ placed v note given) → OnErr result (w ≡ v) → length v.notes ≡ length v.tasks → AreTold v
+    → object_of note ≡ made_by object_in (recipe.Given given) tickets → AreTold w
+told-after_given v w (Ok slot) note given tickets new refused sized told makes =
+    subst AreTold (sym new) (told-placed v note given tickets sized told makes)
+told-after_given v w (Err refusal) note given tickets new refused sized told makes = subst AreTold (sym refused) told

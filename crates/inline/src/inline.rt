@@ -6,6 +6,7 @@ ghost use Rattle.inline.specs.Desks.{AreTold, object_in};
 ghost use Rattle.runner.specs.Tickets.{made_by};
 
 use crate::desk::{notes_of, places_of, slot_of};
+use crate::dropping::give_up;
 use crate::picker::Picker;
 use crate::ticket::Ticket;
 use crate::work::finish;
@@ -48,8 +49,25 @@ impl<J: Naming, P: Picker + Drop> Inline<J, P> {
         }
     }
 
-    /// A slot for what was noted, where all its inputs are on the board.
+    /// A slot for what was noted, where all its inputs are on the board. A store that is there is shared, and nothing is
+    /// to be done for it.
     fn place(
+        &mut self,
+        note: Note<J>,
+        recipe: Recipe,
+        inputs: &Roles<&Ticket<J>>,
+    ) -> Result<u64, NoMemory>
+        requires { object_of note ≡ made_by object_in recipe inputs.now }
+        ensures { self.new.epoch ≡ self.old.epoch }
+    {
+        match recipe {
+            Recipe::Given(given) => self.board.issue_given(note, given),
+            recipe => self.issue(note, recipe, inputs),
+        }
+    }
+
+    /// A slot for what was noted, which is done when it is asked for, where all its inputs are on the board.
+    fn issue(
         &mut self,
         note: Note<J>,
         recipe: Recipe,
@@ -111,6 +129,7 @@ impl<J: Naming, P: Picker + Drop> Runner for Inline<J, P> {
     fn let_go(&mut self, ticket: Ticket<J>) {
         if let Some(slot) = slot_of(&self.board, self.epoch, &ticket) {
             let _ = self.board.let_go(slot);
+            give_up(&mut self.board, slot);
         }
     }
 

@@ -2,6 +2,7 @@
 #![tactic(auto)]
 
 mod desk;
+mod dropping;
 mod inline;
 mod picker;
 mod ticket;
