@@ -1,19 +1,23 @@
 //! The answers to a script, by the runtime and by the plain evaluator.
 
 use crate::held::Files;
+use inline::Order;
 use itoa::Buffer;
 use lines::{Line, LineFault, first_line, parse_line};
 use model::Status;
 use plain::{PlainAnswer, PlainEnvironment};
-use runner::AtOnce;
 use script::Sources;
 use std::alloc::{AllocError, Global};
 
-/// What the runtime answers.
-pub fn of_runtime(alloc: Global, script: &[u8], files: Files<'_>) -> Result<Vec<u8>, AllocError> {
+/// What the runtime answers that does in this order the work that was put off.
+pub fn of_runtime(
+    alloc: Global,
+    script: &[u8],
+    files: Files<'_>,
+    order: Order,
+) -> Result<Vec<u8>, AllocError> {
     let mut out = Vec::new(alloc);
-    let mut runner = AtOnce::new(alloc);
-    script::run(alloc, script, &files, &mut runner, &mut out).map_err(|_| AllocError)?;
+    deferral::run(alloc, script, &files, order, &mut out).map_err(|_| AllocError)?;
     Ok(out)
 }
 

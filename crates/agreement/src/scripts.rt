@@ -3,6 +3,7 @@
 use crate::answers::{of_plain, of_runtime};
 use crate::compared::Compared;
 use crate::held::Files;
+use inline::Order;
 use lines::{Line, first_line, parse_line};
 use mmio::read_entries;
 use model::{Act, Call, Shape};
@@ -15,6 +16,9 @@ const LEAST_UNCUT: usize = 2_000;
 /// The plain evaluator looks at each position of an object, so texts that make larger ones are left out.
 const MOST_POSITIONS: u64 = 4_096;
 
+/// The orders in which the runtime does the work of a whole script.
+const ORDERS: [Order; 4] = [Order::First, Order::Last, Order::Seed(1), Order::Seed(2)];
+
 /// Compares a script, and where it is short each beginning of it before. It ends at the first difference.
 pub fn compare(alloc: Global, script: &[u8], files: Files<'_>) -> Result<Compared, AllocError> {
     let mut compared = Compared::new();
@@ -25,10 +29,16 @@ pub fn compare(alloc: Global, script: &[u8], files: Files<'_>) -> Result<Compare
     };
     for end in shortest..=script.len() {
         let text = &script[..end];
+        // One order is enough for a beginning, of which there are many.
+        let orders = if end == script.len() {
+            &ORDERS[..]
+        } else {
+            &ORDERS[..1]
+        };
         compared.is_whole = is_small(alloc, text, files);
         if compared.is_whole {
             compared.count();
-            compared.difference = difference(alloc, text, files)?;
+            compared.difference = difference(alloc, text, files, orders)?;
         }
         if compared.difference.is_some() {
             break;
@@ -37,23 +47,26 @@ pub fn compare(alloc: Global, script: &[u8], files: Files<'_>) -> Result<Compare
     Ok(compared)
 }
 
-/// Where the answers to a script first differ, in words.
+/// Where the answers to a script first differ by one of the orders, in words.
 fn difference(
     alloc: Global,
     script: &[u8],
     files: Files<'_>,
+    orders: &[Order],
 ) -> Result<Option<String>, AllocError> {
-    let run = of_runtime(alloc, script, files)?;
     let plain = of_plain(alloc, script, files)?;
-    if run == plain {
-        return Ok(None);
+    for order in orders {
+        let run = of_runtime(alloc, script, files, *order)?;
+        if run != plain {
+            let length = script.len();
+            let lines = common_lines(run.as_slice(), plain.as_slice());
+            let text = format!(in alloc;
+                "cut to {length} bytes, the answers in the order {order:?} differ behind line {lines} of them"
+            )?;
+            return Ok(Some(text));
+        }
     }
-    let length = script.len();
-    let lines = common_lines(run.as_slice(), plain.as_slice());
-    let text = format!(in alloc;
-        "cut to {length} bytes, the answers differ behind line {lines} of them"
-    )?;
-    Ok(Some(text))
+    Ok(None)
 }
 
 /// How many lines two texts begin with that are the same.

@@ -6,7 +6,6 @@ ghost use Rattle.gbrun.specs.declared.options.Options.{Options as Chosen};
 
 use crate::options::Options;
 use model::NoMemory;
-use runner::AtOnce;
 use script::Sources;
 use std::alloc::Global;
 
@@ -34,9 +33,9 @@ pub trait Evaluation {
         ensures { IfSome (made self.now) (λ run. result.now ≡ run.appended) };
 }
 
-/// The run that `script::run` makes. Where memory ran out, its contract and that of `script::run` say no more of the
-/// text than that it answers some first lines. No option has an effect on it yet: the runner does all work at once, on
-/// the thread that reads the script.
+/// The run that `deferral::run` makes. Where memory ran out, its contract and that of `deferral::run` say no more of
+/// the text than that it answers some first lines. The option `order` says in which order the work is done that was
+/// put off, which the answers don't show; `workers` and `rows` have no effect yet.
 #[derive(Drop)]
 pub struct Answers {
     pub text: Vec<u8>,
@@ -66,11 +65,10 @@ impl Evaluation for Answers {
         alloc: Global,
         script: &[u8],
         sources: &S,
-        _options: Options<'_>,
+        options: Options<'_>,
     ) -> Result<(), NoMemory> {
         self.text.clear();
-        let mut runner = AtOnce::new(alloc);
-        let ended = script::run(alloc, script, sources, &mut runner, &mut self.text);
+        let ended = deferral::run(alloc, script, sources, options.order, &mut self.text);
         self.ended = Some(ended);
         ended
     }

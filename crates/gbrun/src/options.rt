@@ -10,9 +10,10 @@ ghost use Rattle.gbrun.specs.Faults.{IsCommandLine};
 ghost use Rattle.gbrun.specs.Orders.{order_of};
 
 use crate::fault::Fault;
-use crate::order::Order;
+use crate::order::order_named;
 use clap::error::ErrorKind;
 use clap::{Arg, ArgMatches, Command, Error, value_parser};
+use inline::Order;
 use std::alloc::{AllocError, Global};
 
 /// What the command line asks for.
@@ -24,15 +25,15 @@ pub enum Request<'a> {
     Run(Options<'a>),
 }
 
-/// How to run a script. None of `workers`, `rows` and `order` has an effect yet: each call is
-/// carried out at once, on the thread that reads the script.
+/// How to run a script. No answer shows which options were chosen. `workers` and `rows` have no effect yet: all work
+/// is done on the thread that reads the script.
 #[derive(Clone, Copy, Debug, PartialEq, Eq)]
 pub struct Options<'a> {
     /// How many threads work beside the one that reads the script.
     pub workers: u64,
     /// How many rows of a matrix make one piece of work.
     pub rows: u64,
-    /// The order of the work.
+    /// In which order the work that was put off is done.
     pub order: Order,
     /// The name of the file with the script; the script is standard input where there is none.
     pub script: Option<&'a str>,
@@ -158,7 +159,7 @@ fn chosen<'a>(matches: &ArgMatches<'a>) -> Result<Options<'a>, Fault>
     ensures err { IfErr result (λ fault. (fault ≡ Fault.BadOrder)
         × (option_and_then order_of (first_value (found_of matches.now) (codes "order")) ≡ None)) }
 {
-    let order = matches.get_str("order").and_then(|word| word.parse().ok());
+    let order = matches.get_str("order").and_then(order_named);
     Ok(Options {
         workers: matches.get_one("workers").unwrap_or(WORKERS),
         rows: matches.get_one("rows").unwrap_or(ROWS),

@@ -1,54 +1,35 @@
-//! The order of the work, as the word of `--order` names it.
+//! The word of `--order`.
 ghost use Rattle.std.specs.Prelude.{◌≡◌};
 ghost use Rattle.std.specs.Char.{is_ascii_digit};
 ghost use Rattle.std.specs.List.{list_all};
-ghost use Rattle.std.specs.Result.{result_ok};
 ghost use Rattle.gbrun.specs.Orders.{order_of, seed_of};
 
-use std::str::FromStr;
-
-/// In which order calls are carried out.
-#[derive(Clone, Copy, Debug, PartialEq, Eq)]
-pub enum Order {
-    /// The oldest call first.
-    First,
-    /// The newest call first.
-    Last,
-    /// An order that this seed of random numbers fixes.
-    Seed(u64),
-}
-
-/// A word that names no order.
-#[derive(Clone, Copy, Debug, PartialEq, Eq)]
-pub struct BadOrder;
+use inline::Order;
 
 // 2^64 - 1 has as many digits.
 const MOST_DIGITS: usize = 20;
 
-impl FromStr for Order {
-    type Err = BadOrder;
-
-    ghost from_str_gives = { λ text r. result_ok r ≡ order_of text };
-
-    fn from_str(text: &str) -> Result<Order, BadOrder> {
-        match text {
-            "first" => Ok(Order::First),
-            "last" => Ok(Order::Last),
-            _ => match text.strip_prefix("seed:") {
-                Some(digits) => Ok(Order::Seed(seed(digits)?)),
-                None => Err(BadOrder),
-            },
+/// The order that a word names, if it names one.
+pub fn order_named(word: &str) -> Option<Order>
+    ensures { result ≡ order_of word.now }
+{
+    match word {
+        "first" => Some(Order::First),
+        "last" => Some(Order::Last),
+        _ => {
+            let digits = word.strip_prefix("seed:")?;
+            Some(Order::Seed(seed(digits)?))
         }
     }
 }
 
-fn seed(digits: &str) -> Result<u64, BadOrder>
-    ensures { result_ok result ≡ seed_of digits.now }
+fn seed(digits: &str) -> Option<u64>
+    ensures { result ≡ seed_of digits.now }
 {
     if !is_digits(digits) || digits.len() > MOST_DIGITS {
-        return Err(BadOrder);
+        return None;
     }
-    digits.parse().map_err(|_| BadOrder)
+    digits.parse().ok()
 }
 
 fn is_digits(text: &str) -> bool

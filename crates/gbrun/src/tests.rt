@@ -16,6 +16,14 @@ const STORED: &str =
     "matrix A INT64 1 2\nmatrix B INT64 2 1\nmatrix C INT64 1 1\nset A 0 0 1\nset A 0 1 1\nset B 0 0 5\n\
         set B 1 0 -5\nmxm C - - PLUS.TIMES.INT64 A B -\nnvals C\nget C 0 0\nprint C\n";
 
+// Work that can be done in several orders once a value is asked for, on objects that are written again meanwhile.
+const WAITING: &str =
+    "matrix A INT64 2 2\nmatrix B INT64 2 2\nmatrix C INT64 2 2\nmatrix D INT64 2 2\n\
+        fill A - - 3 : : -\nfill B - - 4 : : -\nmxm C - - PLUS.TIMES.INT64 A B -\n\
+        ewiseadd D - - PLUS.INT64 A B -\nmxm A - - PLUS.TIMES.INT64 C D -\nwait C complete\n\
+        transpose B - - A -\nmxm D - PLUS.INT64 PLUS.TIMES.INT64 B C -\nwait D materialize\nset A 0 1 -7\n\
+        ewisemult C A - MINUS.INT64 A D R\nclear B\nprint A\nprint B\nprint C\nprint D\n";
+
 const ONE_ENTRY: &str = "%%MatrixMarket matrix coordinate integer general\n2 2 1\n1 2 -7\n";
 
 const NO_SCRIPT: &str = "gbrun: cannot read script\n";
@@ -222,6 +230,24 @@ fn runs_the_script_of_each_source(rt: HostRuntime) -> Result<(), AllocError> {
     }
     let empty = run(alloc, "", "")?;
     assert!(rt; empty.is(0, b"", ""));
+    Ok(())
+}
+
+// Whether a script is answered in an order as by a runner that puts nothing off.
+fn is_answered_in(alloc: Global, text: &str, order: &str) -> Result<bool, AllocError> {
+    let wanted = answers(alloc, text)?;
+    let line = format!(in alloc; "--order {order}")?;
+    let outcome = run(alloc, line.as_str(), text)?;
+    Ok(outcome.is(0, wanted.as_slice(), ""))
+}
+
+#[test]
+fn answers_the_same_in_each_order(rt: HostRuntime) -> Result<(), AllocError> {
+    let alloc = rt.alloc();
+    for order in ["first", "last", "seed:1", "seed:18446744073709551615"] {
+        assert!(rt; is_answered_in(alloc, STORED, order)?, "at {order:?}");
+        assert!(rt; is_answered_in(alloc, WAITING, order)?, "at {order:?}");
+    }
     Ok(())
 }
 

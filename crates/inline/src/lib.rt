@@ -9,5 +9,5 @@ mod ticket;
 mod work;
 
 pub use inline::Inline;
-pub use picker::{InOrder, Picker};
+pub use picker::{Order, Picker};
 pub use ticket::Ticket;
