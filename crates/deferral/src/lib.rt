@@ -4,3 +4,6 @@
 mod running;
 
 pub use running::run;
+
+#[cfg(test)]
+mod tests;

@@ -6,7 +6,7 @@ ghost use Rattle.model.specs.Run.{out_of};
 ghost use Rattle.model.specs.Runs.{TellsOfNoWant};
 
 use history::{History, Naming};
-use inline::{Inline, Order};
+use inline::{Inline, Order, Picker};
 use model::NoMemory;
 use script::Sources;
 use std::alloc::Global;
@@ -27,16 +27,16 @@ pub fn run<S: Sources>(
     ensures err { OnErr result ((n : ℕ)
         × Ran (take n (readings_in (S.held sources.now) script.now)) out.old.items out.new.items) }
 {
-    run_over::<Brand, S>(alloc, History::new(), script, sources, order, out)
+    run_over::<Brand, S, Order>(alloc, History::new(), script, sources, order, out)
 }
 
-/// The same over a history that has a name.
-fn run_over<J: Naming, S: Sources>(
+/// The same over a history that has a name, whoever picks what is done next.
+pub(crate) fn run_over<J: Naming, S: Sources, P: Picker + Drop>(
     alloc: Global,
     history: History,
     script: &[u8],
     sources: &S,
-    order: Order,
+    picker: P,
     out: &mut Vec<u8>,
 ) -> Result<(), NoMemory>
     requires { history ≡ J.book }
@@ -46,6 +46,6 @@ fn run_over<J: Naming, S: Sources>(
     ensures err { OnErr result ((n : ℕ)
         × Ran (take n (readings_in (S.held sources.now) script.now)) out.old.items out.new.items) }
 {
-    let mut runner: Inline<J, Order> = Inline::new(alloc, history, order);
+    let mut runner: Inline<J, P> = Inline::new(alloc, history, picker);
     script::run(alloc, script, sources, &mut runner, out)
 }
