@@ -17,4 +17,5 @@ pub mod FitLaws
 pub mod FallLaws
 pub mod FailLaws
 pub mod GivenLaws
+pub mod ScheduleLaws
 pub mod SettledLaws

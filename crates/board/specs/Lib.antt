@@ -7,6 +7,7 @@ pub mod Flows
 pub mod Looks
 pub mod Numbers
 pub mod Pieces
+pub mod Schedules
 pub mod Places
 pub mod Progress
 pub mod Sharing

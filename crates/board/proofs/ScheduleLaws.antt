@@ -1,0 +1,59 @@
+-- Lists of events, done one after the other.
+use Rattle.std.proofs.Common.{◌≡◌, ◌∙◌, ℕ, Bool, true, false, cond, List, [], ◌∷◌, ◌++◌, length, refl, sym, ap, arith, subst}
+use Rattle.std.specs.Prelude.{MatchResult, OnErr, OnOk, Result, Ok, Err}
+use Rattle.board.specs.Schedules.{AreAnswered, AreRight, IsAnswered, IsDone}
+use Rattle.board.specs.Views.{View}
+use Rattle.board.specs.declared.look.Refusal.{Refusal}
+use Rattle.board.specs.declared.look.Refusal.TheVariants.{Stranger}
+use Rattle.board.specs.declared.schedule.Answer.{Answer}
+use Rattle.board.specs.declared.schedule.Answer.TheVariants as answer
+use Rattle.board.specs.declared.schedule.Event.{Event}
+
+-- an event with nothing else to answer
+pub is-done : {N : Type 0} (may : Bool) (v next w : View N) (outcome : Result (Unit {0}) Refusal) (a : Answer)
+    → outcome ≡ cond may (Ok tt) (Err Stranger) → OnOk outcome (w ≡ next) → OnErr outcome (w ≡ v)
+    → MatchResult outcome (λ _. a ≡ answer.Done) (λ why. a ≡ answer.Refused why) → IsDone may v next a w
+is-done true v next w (Ok x) a is ok err said = subst (λ b. IsDone true v next b w) (sym said) (refl, ok)
+is-done false v next w (Ok x) a is ok err said = absurd (cc (is))
+is-done true v next w (Err why) a is ok err said = absurd (cc (is))
+is-done false v next w (Err why) a is ok err said = subst (λ b. IsDone false v next b w) (sym said) (refl, cc (is), err)
+
+-- some events were done, and the others are left
+pub record IsDuring {N : Type 0} (v : View N) (events : List (Event N)) (done : List Answer) (u : View N) (rest : List (Event N)) : Type 0 where
+  pub right : AreRight u rest
+  pub leads : (more : List Answer) (w : View N) → AreAnswered u rest more w → AreAnswered v events (done ++ more) w
+
+pub during-start : {N : Type 0} (v : View N) (events rest : List (Event N)) (done : List Answer) → AreRight v events → rest ≡ events → done ≡ []
+    → IsDuring v events done v rest
+during-start v events rest done right all none =
+    subst (λ ds. IsDuring v events ds v rest) (sym none) (subst (λ es. IsDuring v events [] v es) (sym all)
+    (record { right = right; leads = λ more w h. h }))
+
+behind : {A : Type 0} (xs : List A) (x : A) (ys : List A) → xs ++ x ∷ ys ≡ (xs ++ x ∷ []) ++ ys
+behind [] x ys = refl
+behind (z ∷ xs) x ys = ap (λ l. z ∷ l) (behind xs x ys)
+
+pub during-step : {N : Type 0} (v : View N) (events : List (Event N)) (done next : List Answer) (u x : View N) (e : Event N) (rest left : List (Event N)) (a : Answer)
+    → IsDuring v events done u rest → rest ≡ e ∷ left → IsAnswered u e a x → next ≡ done ++ a ∷ [] → IsDuring v events next x left
+during-step v events done next u x e rest left a during is answered longer =
+    let d = subst (λ es. IsDuring v events done u es) is during in
+    subst (λ ds. IsDuring v events ds x left) (sym longer)
+    (record { right = d.right.1 a x answered; leads = λ more w h. subst (λ l. AreAnswered v events l w) (behind done a more) (d.leads (a ∷ more) w (x, answered, h)) })
+
+pub during-right : {N : Type 0} (v : View N) (events : List (Event N)) (done : List Answer) (u : View N) (rest left : List (Event N)) (e : Event N)
+    → IsDuring v events done u rest → rest ≡ e ∷ left → AreRight u (e ∷ left)
+during-right v events done u rest left e during is = subst (AreRight u) is during.right
+
+to_end : {A : Type 0} (xs : List A) → xs ++ [] ≡ xs
+to_end [] = refl
+to_end (z ∷ xs) = ap (λ l. z ∷ l) (to_end xs)
+
+none_of : {A : Type 0} (xs : List A) → length xs ≡ 0 → xs ≡ []
+none_of [] h = refl
+none_of (x ∷ xs) h = absurd (omega (arith, h))
+
+pub during-end : {N : Type 0} (v : View N) (events : List (Event N)) (done : List Answer) (u : View N) (rest : List (Event N))
+    → IsDuring v events done u rest → length rest ≡ 0 → AreAnswered v events done u
+during-end v events done u rest during none =
+    let d = subst (λ es. IsDuring v events done u es) (none_of rest none) during in
+    subst (λ l. AreAnswered v events l u) (to_end done) (d.leads [] u refl)
