@@ -29,7 +29,7 @@ use Rattle.board.specs.Numbers.{numbers}
 use Rattle.board.proofs.ReadLaws.{reads_above, reads_less}
 use Rattle.board.proofs.SoundLaws.{kept_released, kept_set, progress_released}
 
-some_unfinished : (o : Option Progress) → option_map_or is_unfinished o false ≡ true → (p : Progress) × (o ≡ Some p) × (is_unfinished p ≡ true)
+pub some_unfinished : (o : Option Progress) → option_map_or is_unfinished o false ≡ true → (p : Progress) × (o ≡ Some p) × (is_unfinished p ≡ true)
 some_unfinished None h = absurd cc
 some_unfinished (Some p) h = (p, refl, h)
 

@@ -18,4 +18,5 @@ pub mod FallLaws
 pub mod FailLaws
 pub mod GivenLaws
 pub mod ScheduleLaws
+pub mod FallenLaws
 pub mod SettledLaws

@@ -10,6 +10,7 @@ pub mod Pieces
 pub mod Schedules
 pub mod Places
 pub mod Progress
+pub mod Rests
 pub mod Sharing
 pub mod Slots
 pub mod Sound
