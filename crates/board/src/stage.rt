@@ -13,7 +13,8 @@ use store::Store;
 
 #[derive(Drop)]
 pub(crate) enum Stage {
-    Untaken(Recipe),
+    // Behind a pointer, since a slot comes to one stage after the other.
+    Untaken(Box<Recipe>),
     Running,
     Joining,
     Done(Arc<Store>),
@@ -126,10 +127,10 @@ pub(crate) fn put(stages: &mut Vec<Stage>, number: u64, stage: Stage)
 }
 
 /// The recipe of a slot that nobody took: it runs.
-pub(crate) fn take_recipe(stages: &mut Vec<Stage>, number: u64) -> Recipe
+pub(crate) fn take_recipe(stages: &mut Vec<Stage>, number: u64) -> Box<Recipe>
     requires { is_untaken (slice_get (map progress_of stages.old.items) number) ≡ true }
     ensures stages { stages.new.items ≡ slice_set stages.old.items number Stage.Running }
-    ensures recipe { option_and_then recipe_in (slice_get stages.old.items number) ≡ Some result }
+    ensures recipe { option_and_then recipe_in (slice_get stages.old.items number) ≡ Some result.value }
 {
     let Some(place) = stages.get_mut(number as usize) else {
         unreachable!()

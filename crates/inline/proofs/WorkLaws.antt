@@ -36,32 +36,32 @@ given-last v k piece block last is = elim (cases_Bool ((piece == 0) && is_joinin
 
 pub store_for : (ts : List Task) (p : Piece) → IsPieceFor ts p → (lent : Roles (Bor Stored))
     → ((role : Role) → lent_in lent role ≡ stored_for p.inputs role)
-    → (block last : Block) → IsPieceOf p.recipe (maps_in lent) p.rows.start p.rows.end block → block ≡ last
-    → (store : Stored) → store.rows ≡ rows_of (known_of p.recipe).shape → store.cols ≡ cols_in last
+    → (block last : Block) → IsPieceOf p.recipe.value (maps_in lent) p.rows.start p.rows.end block → block ≡ last
+    → (store : Stored) → store.rows ≡ rows_of (known_of p.recipe.value).shape → store.cols ≡ cols_in last
     → ((i j : ℕ) → content_of store i j ≡ content_in last i j)
     → IfRows last (IsWithin store.rows store.cols (content_of store))
     → IsStoreFor (object_at ts p.number) store
 store_for ts p is lent lends block last piece same store rows cols content within =
     subst (λ (o : Object). IsStoreFor o store) (sym is.makes) (record {
       rows = rows;
-      cols = cols ∙ piece-cols p.recipe (maps_had p.inputs) last whole;
-      content = piece-content p.recipe (maps_had p.inputs) last store object whole rows within content;
+      cols = cols ∙ piece-cols p.recipe.value (maps_had p.inputs) last whole;
+      content = piece-content p.recipe.value (maps_had p.inputs) last store object whole rows within content;
     })
   where
     maps : maps_in lent ≡ maps_had p.inputs
     maps = λ x role. map_in (lends role x)
 
-    started : IsPieceOf p.recipe (maps_in lent) 0 p.rows.end block
-    started = subst (λ n. IsPieceOf p.recipe (maps_in lent) n p.rows.end block) is.start piece
+    started : IsPieceOf p.recipe.value (maps_in lent) 0 p.rows.end block
+    started = subst (λ n. IsPieceOf p.recipe.value (maps_in lent) n p.rows.end block) is.start piece
 
-    ended : IsPieceOf p.recipe (maps_in lent) 0 (rows_of (known_of p.recipe).shape) block
-    ended = subst (λ n. IsPieceOf p.recipe (maps_in lent) 0 n block) is.end started
+    ended : IsPieceOf p.recipe.value (maps_in lent) 0 (rows_of (known_of p.recipe.value).shape) block
+    ended = subst (λ n. IsPieceOf p.recipe.value (maps_in lent) 0 n block) is.end started
 
-    had : IsPieceOf p.recipe (maps_had p.inputs) 0 (rows_of (known_of p.recipe).shape) block
-    had = subst (λ (m : Role → Content). IsPieceOf p.recipe m 0 (rows_of (known_of p.recipe).shape) block) maps ended
+    had : IsPieceOf p.recipe.value (maps_had p.inputs) 0 (rows_of (known_of p.recipe.value).shape) block
+    had = subst (λ (m : Role → Content). IsPieceOf p.recipe.value m 0 (rows_of (known_of p.recipe.value).shape) block) maps ended
 
-    whole : IsPieceOf p.recipe (maps_had p.inputs) 0 (rows_of (known_of p.recipe).shape) last
-    whole = subst (IsPieceOf p.recipe (maps_had p.inputs) 0 (rows_of (known_of p.recipe).shape)) same had
+    whole : IsPieceOf p.recipe.value (maps_had p.inputs) 0 (rows_of (known_of p.recipe.value).shape) last
+    whole = subst (IsPieceOf p.recipe.value (maps_had p.inputs) 0 (rows_of (known_of p.recipe.value).shape)) same had
 
-    object : IsObject (object_with (known_of p.recipe) (meaning_of p.recipe (maps_had p.inputs)))
+    object : IsObject (object_with (known_of p.recipe.value) (meaning_of p.recipe.value (maps_had p.inputs)))
     object = subst IsObject is.makes is.is_object
