@@ -1,0 +1,68 @@
+/* Refuses one request for memory of a program that it is loaded into (LD_PRELOAD): the one whose number $REFUSE_AT
+ * gives. When the program ends it writes how many there were into the file $REFUSE_COUNT. */
+#define _GNU_SOURCE
+#include <dlfcn.h>
+#include <errno.h>
+#include <stddef.h>
+#include <stdio.h>
+#include <stdlib.h>
+
+static long asked, refused = -1;
+
+static void *(*real_malloc)(size_t);
+static void *(*real_realloc)(void *, size_t);
+static void *(*real_aligned_alloc)(size_t, size_t);
+static int (*real_posix_memalign)(void **, size_t, size_t);
+
+__attribute__((constructor)) static void begin(void)
+{
+    const char *number = getenv("REFUSE_AT");
+    real_malloc = dlsym(RTLD_NEXT, "malloc");
+    real_realloc = dlsym(RTLD_NEXT, "realloc");
+    real_aligned_alloc = dlsym(RTLD_NEXT, "aligned_alloc");
+    real_posix_memalign = dlsym(RTLD_NEXT, "posix_memalign");
+    asked = 0;
+    refused = number ? atol(number) : -1;
+}
+
+__attribute__((destructor)) static void end(void)
+{
+    const char *name = getenv("REFUSE_COUNT");
+    long count = asked;
+    FILE *file = name ? fopen(name, "w") : NULL;
+    refused = -1;
+    if (file) {
+        fprintf(file, "%ld\n", count);
+        fclose(file);
+    }
+}
+
+static int is_refused(void)
+{
+    asked++;
+    return asked == refused;
+}
+
+void *malloc(size_t size)
+{
+    if (!real_malloc)
+        real_malloc = dlsym(RTLD_NEXT, "malloc");
+    return is_refused() ? NULL : real_malloc(size);
+}
+
+void *realloc(void *old, size_t size)
+{
+    if (!real_realloc)
+        real_realloc = dlsym(RTLD_NEXT, "realloc");
+    return is_refused() ? NULL : real_realloc(old, size);
+}
+
+void *aligned_alloc(size_t alignment, size_t size)
+{
+    return is_refused() ? NULL : real_aligned_alloc(alignment, size);
+}
+
+int posix_memalign(void **to, size_t alignment, size_t size)
+{
+    return is_refused() ? ENOMEM : real_posix_memalign(to, alignment, size);
+}
