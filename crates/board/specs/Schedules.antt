@@ -1,6 +1,6 @@
 -- Lists of events, and what they are answered.
-use Rattle.std.specs.Prelude.{ℕ, ◌≡◌, ◌+◌, ◌-◌, Bool, true, false, List, [], ◌∷◌, Some, None, Ok, Err, length, slice_get}
-use Rattle.std.specs.Prelude.{slice_index}
+use Rattle.std.specs.Prelude.{ℕ, ◌≡◌, ◌+◌, ◌-◌, Bool, true, false, List, [], ◌∷◌, Some, None, Ok, Err, length}
+use Rattle.std.specs.Prelude.{slice_get, slice_index}
 use Rattle.std.specs.Arc.{arc_value}
 use Rattle.runner.specs.Tickets.{IsStoreFor}
 use Rattle.board.specs.Events.{Accepts, failed, given_to, issued, may_fail, may_hold, may_let_go, picked, taken}

@@ -330,8 +330,8 @@ impl<N: Drop> Board<N> {
         Ok(())
     }
 
-    /// A slot fails that is to come and for which nobody can ask: nobody holds it, and no slot that is to come reads it.
-    /// Its time is that of a look at its inputs, and of finding it among those that can be taken.
+    /// A slot fails that is to come and for which nobody can ask: nobody holds it, and no slot that is to come reads
+    /// it. Its time is that of a look at its inputs, and of finding it among those that can be taken.
     pub fn give_up(&mut self, number: u64) -> Result<(), Refusal>
         ensures answer { result ≡ (if is_unasked (view_of self.old) number then Ok tt else Err Refusal.Stranger) }
         ensures failed { OnOk result (view_of self.new ≡ with_progress (view_of self.old) number Failed) }

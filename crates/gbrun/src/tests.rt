@@ -1,16 +1,16 @@
 //! The program over readers, writers and files in memory.
+mod fakes;
+
 use crate::evaluation::Evaluation;
-use crate::files::FileSource;
 use crate::options::Options;
 use crate::program::{execute, execute_by};
 use crate::words::of_process;
+use fakes::{Input, NoFiles, Output, Shelf};
 use model::NoMemory;
 use runner::AtOnce;
 use script::Sources;
 use std::alloc::{AllocError, Global};
 use std::env::{Env, FillError};
-use std::io;
-use std::io::{ErrorKind, Read, Write};
 
 const STORED: &str =
     "matrix A INT64 1 2\nmatrix B INT64 2 1\nmatrix C INT64 1 1\nset A 0 0 1\nset A 0 1 1\nset B 0 0 5\n\
@@ -24,8 +24,6 @@ const WAITING: &str =
         transpose B - - A -\nmxm D - PLUS.INT64 PLUS.TIMES.INT64 B C -\nwait D materialize\nset A 0 1 -7\n\
         ewisemult C A - MINUS.INT64 A D R\nclear B\nprint A\nprint B\nprint C\nprint D\n";
 
-const ONE_ENTRY: &str = "%%MatrixMarket matrix coordinate integer general\n2 2 1\n1 2 -7\n";
-
 const NO_SCRIPT: &str = "gbrun: cannot read script\n";
 
 const NO_OUTPUT: &str = "gbrun: cannot write output\n";
@@ -33,122 +31,6 @@ const NO_OUTPUT: &str = "gbrun: cannot write output\n";
 const NO_MEMORY: &str = "gbrun: out of memory\n";
 
 const BAD_ORDER: &str = "gbrun: bad order\n";
-
-// Reads at most seven bytes a step, and fails at one step.
-#[derive(Drop)]
-struct Input<'a> {
-    rest: &'a [u8],
-    steps: u32,
-    fails_at: Option<u32>,
-}
-
-impl<'a> Input<'a> {
-    fn new(text: &'a str) -> Input<'a> {
-        Input {
-            rest: text.as_bytes(),
-            steps: 0,
-            fails_at: None,
-        }
-    }
-}
-
-impl Read for Input<'_> {
-    fn read(&mut self, buf: &mut [u8]) -> io::Result<usize> {
-        if self.fails_at == Some(self.steps) {
-            return Err(io::Error::from(ErrorKind::Other));
-        }
-        self.steps = self.steps.saturating_add(1);
-        let count = self.rest.len().min(buf.len()).min(7);
-        let (now, later) = self.rest.split_at(count);
-        buf[..count].copy_from_slice(now);
-        self.rest = later;
-        Ok(count)
-    }
-}
-
-// Takes at most `most` bytes a write, is interrupted once if it is to be, and fails at one write
-// or at a flush.
-#[derive(Drop)]
-struct Output {
-    bytes: Vec<u8>,
-    most: usize,
-    is_interrupted: bool,
-    writes: u32,
-    fails_at: Option<u32>,
-    flush_fails: bool,
-    is_flushed: bool,
-}
-
-impl Output {
-    fn new(alloc: Global) -> Output {
-        Output {
-            bytes: Vec::new(alloc),
-            most: usize::MAX,
-            is_interrupted: false,
-            writes: 0,
-            fails_at: None,
-            flush_fails: false,
-            is_flushed: false,
-        }
-    }
-}
-
-impl Write for Output {
-    fn write(&mut self, buf: &[u8]) -> io::Result<usize> {
-        if self.is_interrupted {
-            self.is_interrupted = false;
-            return Err(io::Error::from(ErrorKind::Interrupted));
-        }
-        if self.fails_at == Some(self.writes) {
-            return Err(io::Error::from(ErrorKind::BrokenPipe));
-        }
-        self.writes = self.writes.saturating_add(1);
-        let count = buf.len().min(self.most);
-        self.bytes.extend_from_slice(&buf[..count])?;
-        self.is_flushed = false;
-        Ok(count)
-    }
-
-    fn flush(&mut self) -> io::Result<()> {
-        if self.flush_fails {
-            return Err(io::Error::from(ErrorKind::Other));
-        }
-        self.is_flushed = true;
-        Ok(())
-    }
-}
-
-// Two files, `stored` and `one.mtx`; for a third one memory is refused.
-#[derive(Drop)]
-struct Shelf {
-    alloc: Global,
-}
-
-impl FileSource for Shelf {
-    fn read(&self, name: &str) -> io::Result<Vec<u8>> {
-        let text = match name {
-            "stored" => STORED,
-            "one.mtx" => ONE_ENTRY,
-            "great.mtx" => return Err(io::Error::from(ErrorKind::OutOfMemory)),
-            _ => return Err(io::Error::from(ErrorKind::NotFound)),
-        };
-        Ok(Vec::from_slice(self.alloc, text.as_bytes())?)
-    }
-}
-
-// No files.
-#[derive(Drop)]
-struct NoFiles;
-
-impl Sources for NoFiles {
-    ghost use Rattle.std.specs.Prelude.{None};
-
-    ghost held = { λ _ _. None };
-
-    fn bytes(&self, _name: &[u8]) -> Option<&[u8]> {
-        None
-    }
-}
 
 // What a run leaves.
 #[derive(Drop)]

@@ -49,8 +49,8 @@ impl<J: Naming, P: Picker + Drop> Inline<J, P> {
         }
     }
 
-    /// A slot for what was noted, where all its inputs are on the board. A store that is there is shared, and nothing is
-    /// to be done for it.
+    /// A slot for what was noted, where all its inputs are on the board. A store that is there is shared, and nothing
+    /// is to be done for it.
     fn place(
         &mut self,
         note: Note<J>,
