@@ -1,5 +1,5 @@
 -- Lists of events, and what they are answered.
-use Rattle.std.specs.Prelude.{ℕ, ◌≡◌, ◌+◌, ◌-◌, Bool, true, false, List, [], ◌∷◌, Some, None, Ok, Err, length}
+use Rattle.std.specs.Prelude.{ℕ, ◌≡◌, ◌≢◌, ◌+◌, ◌-◌, Bool, true, false, List, [], ◌∷◌, Some, None, Ok, Err, length}
 use Rattle.std.specs.Prelude.{slice_get, slice_index}
 use Rattle.std.specs.Arc.{arc_value}
 use Rattle.runner.specs.Tickets.{IsStoreFor}
@@ -37,12 +37,13 @@ abbrev pub IsAnswered : {N : Type 0} → View N → Event N → Answer → View 
 IsAnswered v (Issue note recipe inputs) (answer.Issued number) w =
     Accepts v recipe inputs × (number ≡ length v.tasks) × (w ≡ issued v note recipe inputs)
 IsAnswered v (Issue note recipe inputs) (answer.Refused Stranger) w = (Accepts v recipe inputs → ⊥) × (w ≡ v)
-IsAnswered v (Issue note recipe inputs) (answer.Refused NoMemory) w = w ≡ v
+IsAnswered v (Issue note recipe inputs) (answer.Refused NoMemory) w = ((Accepts v recipe inputs → ⊥) → ⊥) × (w ≡ v)
 IsAnswered v (Issue note recipe inputs) other w = ⊥
 IsAnswered v (Take pick cuts) (answer.Taken (Some piece)) w =
     (piece.number ≡ picked v pick) × (w ≡ taken v piece.number) × IsPieceFor w.tasks piece
 IsAnswered v (Take pick cuts) (answer.Taken None) w = (offered v.tasks v.progress ≡ []) × (w ≡ v)
-IsAnswered v (Take pick cuts) (answer.Unshared number) w = (number ≡ picked v pick) × (w ≡ v)
+IsAnswered v (Take pick cuts) (answer.Unshared number) w =
+    (offered v.tasks v.progress ≢ []) × (number ≡ picked v pick) × (w ≡ v)
 IsAnswered v (Take pick cuts) other w = ⊥
 IsAnswered v (Give number piece block) (answer.Given given) w =
     (given_to v number piece block ≡ Ok given) × (w ≡ with_progress v number Joining)

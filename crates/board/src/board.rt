@@ -44,7 +44,8 @@ pub struct Board<N: Drop> {
 
 impl<N: Drop> Board<N> {
     ghost use Rattle.std.specs.Prelude.{◌≡◌, ◌+◌, ◌&&◌, ◌↔◌, ◌-◌, [], IfErr, IfOk, IfSome, None, OnErr, OnOk, Some};
-    ghost use Rattle.std.specs.Prelude.{if◌then◌else◌, length, nat_lt, not, slice_get, slice_index, true, ℕ, false};
+    ghost use Rattle.std.specs.Prelude.{◌≢◌, if◌then◌else◌, length, nat_lt, not, slice_get, slice_index};
+    ghost use Rattle.std.specs.Prelude.{ℕ, false, true};
     ghost use Rattle.std.specs.Arc.{arc_value};
     ghost use Rattle.std.specs.Option.{option_copied, option_map};
     ghost use Rattle.board.specs.Boards.{view_of};
@@ -207,6 +208,7 @@ impl<N: Drop> Board<N> {
         ensures same { IfOk result (λ o. o ≡ None → view_of self.new ≡ view_of self.old) }
         ensures number { IfErr result (λ number. number ≡ picked (view_of self.old) pick) }
         ensures refused { OnErr result (view_of self.new ≡ view_of self.old) }
+        ensures offered { OnErr result (offered (view_of self.old).tasks (view_of self.old).progress ≢ []) }
     {
         let count = self.ready.len();
         if count == 0 {
