@@ -5,7 +5,6 @@ use Rattle.std.specs.Option.{option_and_then, option_map}
 use Rattle.std.proofs.lemmas.Bool.{and_from, cases_lt, lt-ltb}
 use Rattle.std.proofs.lemmas.List.{map-append}
 use Rattle.std.proofs.lemmas.Option.{slice_get-map, slice_get_past}
-use Rattle.std.proofs.Common.{Box, Global}
 use Rattle.calls.specs.declared.recipe.Recipe.{Recipe}
 use Rattle.calls.specs.declared.role.Role.{Role}
 use Rattle.calls.specs.declared.role.Role.TheVariants.{Old, Mask, First, Second}
@@ -187,26 +186,26 @@ module _ (ts : List Task) (stages : List Stage) (holds reads : List ℕ) (reader
         roomy = omega (arith, sound.roomy, le);
       })))))
 
-  pub sound_admitted : (recipe : Recipe) (boxed : Box Recipe Global) (inputs : Roles ℕ) (waits : Bool) (reads' : List ℕ) (more : List (List ℕ)) (room' : ℕ)
-      → boxed.value ≡ recipe → AreThere ts stages recipe inputs
+  pub sound_admitted : (recipe : Recipe) (inputs : Roles ℕ) (waits : Bool) (reads' : List ℕ) (more : List (List ℕ)) (room' : ℕ)
+      → AreThere ts stages recipe inputs
       → waits ≡ each (λ i. not (is_failed (slice_get (map progress_of stages) i))) inputs
       → length reads' ≡ length reads
       → ((j : ℕ) → slice_index reads' j ≡ slice_index reads j + cond waits (places_of inputs j) 0)
       → Grows readers more
       → each (λ i. is_made (slice_get (map progress_of stages) i) || has_in (length ts) (slice_get more i)) inputs ≡ true
       → length ts + 1 ≤ room'
-      → IsSound (ts ++ record { recipe = recipe; inputs = inputs } ∷ []) (stages ++ cond waits (stage.Untaken boxed) stage.Failed ∷ []) (holds ++ 1 ∷ []) (reads' ++ 0 ∷ []) (more ++ [] ∷ [])
+      → IsSound (ts ++ record { recipe = recipe; inputs = inputs } ∷ []) (stages ++ cond waits (stage.Untaken recipe) stage.Failed ∷ []) (holds ++ 1 ∷ []) (reads' ++ 0 ∷ []) (more ++ [] ∷ [])
       (ready ++ cond (waits && each (λ i. is_made (slice_get (map progress_of stages) i)) inputs) (length ts ∷ []) []) room'
-      × (progress_of (cond waits (stage.Untaken boxed) stage.Failed) ≡ cond waits Untaken Failed)
-  sound_admitted recipe boxed inputs true reads' more room' same there waits sized counts grows wait roomy = (
-    sound_issued ts stages holds reads reads' readers more ready room room' (record { recipe = recipe; inputs = inputs }) (stage.Untaken boxed) sound
+      × (progress_of (cond waits (stage.Untaken recipe) stage.Failed) ≡ cond waits Untaken Failed)
+  sound_admitted recipe inputs true reads' more room' there waits sized counts grows wait roomy = (
+    sound_issued ts stages holds reads reads' readers more ready room room' (record { recipe = recipe; inputs = inputs }) (stage.Untaken recipe) sound
         (low_each ts stages recipe inputs there (length ts) refl) (known_each ts stages recipe inputs there) (here_each ts stages recipe inputs there)
         (each-then (λ i. not (is_failed (slice_get (map progress_of stages) i))) (λ i. allows Untaken (slice_get (map progress_of stages) i)) inputs (sym waits)
         (λ role i takes h. and_from (not (is_failed (slice_get (map progress_of stages) i))) (not (is_moved (slice_get (map progress_of stages) i))) h (ap not (unmoved ts stages recipe inputs there role i takes))))
-        refl refl (λ r e. cc (e, same)) sized counts grows (λ u. wait) roomy,
+        refl refl (λ r e. cc (e)) sized counts grows (λ u. wait) roomy,
     refl,
   )
-  sound_admitted recipe boxed inputs false reads' more room' same there waits sized counts grows wait roomy = (
+  sound_admitted recipe inputs false reads' more room' there waits sized counts grows wait roomy = (
     sound_issued ts stages holds reads reads' readers more ready room room' (record { recipe = recipe; inputs = inputs }) stage.Failed sound
         (low_each ts stages recipe inputs there (length ts) refl) (known_each ts stages recipe inputs there) (here_each ts stages recipe inputs there)
         (each-from (λ i. allows Failed (slice_get (map progress_of stages) i)) inputs (λ role i takes. refl))
@@ -233,7 +232,7 @@ view_issued {N} v ts ns ps hs note recipe inputs p a b c d e =
     let f : ps ≡ v.progress ++ first_progress v.progress inputs ∷ [] = c ∙ ap (λ q. v.progress ++ q ∷ []) e in
     λ t. record { tasks = a t; notes = b t; progress = f t; holds = d t }
 
-pub first_is : (waits : Bool) (ps : List Progress) (inputs : Roles ℕ) (r : Box Recipe Global) → waits ≡ each (λ i. not (is_failed (slice_get ps i))) inputs
+pub first_is : (waits : Bool) (ps : List Progress) (inputs : Roles ℕ) (r : Recipe) → waits ≡ each (λ i. not (is_failed (slice_get ps i))) inputs
     → progress_of (cond waits (stage.Untaken r) stage.Failed) ≡ first_progress ps inputs
 first_is true ps inputs r h = ap (λ b. cond b Untaken Failed) h
 first_is false ps inputs r h = ap (λ b. cond b Untaken Failed) h

@@ -143,7 +143,7 @@ pub piece_for : {A : Type 0} (ts : List Task) (stages : List Stage) (holds reads
     (sound : IsSound ts stages holds reads readers ready room) (k : ℕ) (t : Task) (is : slice_get ts k ≡ Some t)
     (there : each (λ i. has_store (slice_get stages i)) t.inputs ≡ true)
     (p : Piece) (had : (role : Role) → stored_for p.inputs role ≡ stored_at stages (role_of t.inputs role)) → Bor A
-    → p.number ≡ k → p.piece ≡ 0 → p.rows.start ≡ 0 → p.rows.end ≡ rows_of (known_of t.recipe).shape → t.recipe ≡ p.recipe.value
+    → p.number ≡ k → p.piece ≡ 0 → p.rows.start ≡ 0 → p.rows.end ≡ rows_of (known_of t.recipe).shape → t.recipe ≡ p.recipe
     → IsPieceFor ts p
 piece_for ts stages holds reads readers ready room sound k t is there p had b number piece start end recipe = record {
   recipe = ap (λ n. option_map (λ (u : Task). u.recipe) (slice_get ts n)) number ∙ (ap (option_map (λ (u : Task). u.recipe)) is ∙ ap Some recipe);

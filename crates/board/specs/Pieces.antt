@@ -22,17 +22,17 @@ maps_in stores role = map_in (stored_for stores role)
 
 -- a piece is the whole work of a task, with all that it needs
 pub record IsPieceFor (ts : List Task) (piece : Piece) : Type 0 where
-  pub recipe : option_map (λ t. t.recipe) (slice_get ts piece.number) ≡ Some piece.recipe.value
+  pub recipe : option_map (λ t. t.recipe) (slice_get ts piece.number) ≡ Some piece.recipe
   pub first : piece.piece ≡ 0
   pub start : piece.rows.start ≡ 0
-  pub end : piece.rows.end ≡ rows_of (known_of piece.recipe.value).shape
+  pub end : piece.rows.end ≡ rows_of (known_of piece.recipe).shape
   -- a store of what takes each role that the recipe reads, and the one of that slot's object
-  pub takes : (role : Role) → Takes (known_by piece.recipe.value role) (stored_for piece.inputs role)
+  pub takes : (role : Role) → Takes (known_by piece.recipe role) (stored_for piece.inputs role)
   pub right : (task : Task) (role : Role) (i : ℕ) (s : Stored) → slice_get ts piece.number ≡ Some task
       → role_of task.inputs role ≡ Some i → stored_for piece.inputs role ≡ Some s → IsStoreFor (object_at ts i) s
   -- what the recipe makes of them is the slot's object
   pub makes : object_at ts piece.number
-      ≡ object_with (known_of piece.recipe.value) (meaning_of piece.recipe.value (maps_in piece.inputs))
+      ≡ object_with (known_of piece.recipe) (meaning_of piece.recipe (maps_in piece.inputs))
   pub is_object : IsObject (object_at ts piece.number)
 
 -- a block has all of so many rows

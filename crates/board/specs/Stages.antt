@@ -19,7 +19,7 @@ progress_of Moved = progress.Moved
 progress_of Failed = progress.Failed
 
 abbrev pub recipe_in : Stage → Option Recipe
-recipe_in (Untaken recipe) = Some recipe.value
+recipe_in (Untaken recipe) = Some recipe
 recipe_in Running = None
 recipe_in Joining = None
 recipe_in (Done store) = None

@@ -49,7 +49,7 @@ pub(crate) fn is_ready_at_once(stages: &[Stage], inputs: &Roles<u64>, waits: boo
 }
 
 /// A slot waits where none of its inputs has failed.
-pub(crate) fn first_stage(recipe: Box<Recipe>, waits: bool) -> Stage
+pub(crate) fn first_stage(recipe: Recipe, waits: bool) -> Stage
     ensures { result ≡ (if waits then Stage.Untaken recipe else Stage.Failed) }
 {
     if waits {

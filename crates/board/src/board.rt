@@ -104,7 +104,6 @@ impl<N: Drop> Board<N> {
         ensures issued { OnOk result (view_of self.new ≡ issued (view_of self.old) note recipe inputs) }
         ensures refused { OnErr result (view_of self.new ≡ view_of self.old) }
     {
-        let recipe = Box::new(self.alloc, recipe)?;
         let number = self.slots.len() as u64;
         wait_for(&mut self.readers, &self.stages, number, &inputs)?;
         let has_room = make_room(

@@ -23,7 +23,10 @@ fn inputs_of(recipe: &Recipe) -> Roles<Signature>
             first: Some(turn.of),
             ..Roles::none()
         },
-        Recipe::Computed(computation) => by_role(&computation.out, &computation.operation),
+        Recipe::Computed(computation) => {
+            let accepted = &computation.accepted;
+            by_role(&accepted.out, &accepted.operation)
+        }
     }
 }
 

@@ -51,7 +51,7 @@ pub struct Piece {
     pub number: u64,
     pub piece: u64,
     pub rows: Range<u64>,
-    pub recipe: Box<Recipe>,
+    pub recipe: Recipe,
     pub inputs: Stores,
 }
 

@@ -13,8 +13,7 @@ use store::Store;
 
 #[derive(Drop)]
 pub(crate) enum Stage {
-    // Behind a pointer, since a slot comes to one stage after the other.
-    Untaken(Box<Recipe>),
+    Untaken(Recipe),
     Running,
     Joining,
     Done(Arc<Store>),
@@ -127,10 +126,10 @@ pub(crate) fn put(stages: &mut Vec<Stage>, number: u64, stage: Stage)
 }
 
 /// The recipe of a slot that nobody took: it runs.
-pub(crate) fn take_recipe(stages: &mut Vec<Stage>, number: u64) -> Box<Recipe>
+pub(crate) fn take_recipe(stages: &mut Vec<Stage>, number: u64) -> Recipe
     requires { is_untaken (slice_get (map progress_of stages.old.items) number) ≡ true }
     ensures stages { stages.new.items ≡ slice_set stages.old.items number Stage.Running }
-    ensures recipe { option_and_then recipe_in (slice_get stages.old.items number) ≡ Some result.value }
+    ensures recipe { option_and_then recipe_in (slice_get stages.old.items number) ≡ Some result }
 {
     let Some(place) = stages.get_mut(number as usize) else {
         unreachable!()

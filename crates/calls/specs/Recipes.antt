@@ -48,7 +48,7 @@ known_of (Given given) = given.of
 known_of (Patch patch) = patch.of
 known_of (Resized of shape) = record of { shape = shape }
 known_of (Transposed turn) = transposed_signature turn.of
-known_of (Computed computation) = computation.out.c
+known_of (Computed computation) = computation.accepted.value.out.c
 
 -- what is known of its inputs, by their roles: those that its meaning reads
 abbrev pub inputs_of : Recipe → Roles Signature
@@ -57,14 +57,14 @@ inputs_of (Given given) = no_roles
 inputs_of (Patch patch) = record no_roles { old = Some patch.of }
 inputs_of (Resized of shape) = record no_roles { old = Some of }
 inputs_of (Transposed turn) = record no_roles { first = Some turn.of }
-inputs_of (Computed computation) = roles_of computation.out computation.operation
+inputs_of (Computed computation) = roles_of computation.accepted.value.out computation.accepted.value.operation
 
 abbrev pub known_by : Recipe → Role → Option Signature
 known_by recipe = role_of (inputs_of recipe)
 
 -- a recipe computes an operation into such an output
 abbrev pub ComputesInto : Out Signature → Recipe → Type 0
-ComputesInto out (Computed computation) = computation.out ≡ out
+ComputesInto out (Computed computation) = computation.accepted.value.out ≡ out
 ComputesInto out recipe = ⊥
 
 -- what a recipe makes of the maps that take its roles
@@ -74,7 +74,8 @@ meaning_of (Given given) maps = content_of (arc_value given.store)
 meaning_of (Patch patch) maps = edited patch.edits.items (maps Old)
 meaning_of (Resized of shape) maps = cut_to (rows_of shape) (cols_of shape) (maps Old)
 meaning_of (Transposed turn) maps = transposed_content (maps First)
-meaning_of (Computed computation) maps = meaning computation.out computation.operation maps
+meaning_of (Computed computation) maps =
+    meaning computation.accepted.value.out computation.accepted.value.operation maps
 
 -- ---- accepted operations
 

@@ -21,4 +21,4 @@ pub use obj::{Obj, Shapes};
 pub use operation::check_operate;
 pub use recipe::{Accepted, Computation, Given, Patch, Recipe, Transpose};
 pub use role::{Role, Roles, by_role};
-pub use turns::Turns;
+pub use turns::{Turns, straight};

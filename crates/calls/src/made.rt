@@ -19,7 +19,7 @@ impl Recipe {
                 ..*of
             },
             Recipe::Transposed(turn) => turn.of.transposed_if(true),
-            Recipe::Computed(computation) => computation.out.c,
+            Recipe::Computed(computation) => computation.accepted.out.c,
         }
     }
 }

@@ -20,13 +20,11 @@ pub struct Accepted {
     pub ghost accepted: { operation_fault out operation ≡ None },
 }
 
-/// An accepted operation that transposes no input.
+/// An accepted operation that transposes no input. It lies behind a pointer, since recipes are handed on.
 #[derive(Drop)]
 pub struct Computation {
-    pub out: Out<Signature>,
-    pub operation: Operation<Signature>,
-    pub ghost accepted: { operation_fault out operation ≡ None },
-    pub ghost straight: { IsStraight out.desc },
+    pub accepted: Box<Accepted>,
+    pub ghost straight: { IsStraight accepted.value.out.desc },
 }
 
 /// The entries of an object that is there.

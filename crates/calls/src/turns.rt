@@ -1,9 +1,9 @@
 //! The inputs of operations and of their recipes.
-ghost use Rattle.std.specs.Prelude.{◌≡◌, ℕ};
+ghost use Rattle.std.specs.Prelude.{◌≡◌, ℕ, IfOk, true};
 ghost use Rattle.std.specs.Option.{option_map};
 ghost use Rattle.calls.specs.declared.role.Role.{Role as AnyRole};
 ghost use Rattle.calls.specs.Recipes.{ComputesInto, known_by, known_by_role, known_of, meaning, meaning_of};
-ghost use Rattle.calls.specs.Straight.{straight_out};
+ghost use Rattle.calls.specs.Straight.{IsStraight, straight_out};
 ghost use Rattle.calls.specs.Turned.{AreMatrices, exchanged, flipped_form, flipped_kind, flipped_semiring, turned};
 ghost use Rattle.calls.specs.Turned.{turns_of};
 ghost use Rattle.model.specs.Object.{Content, transposed_content, transposed_signature};
@@ -11,7 +11,8 @@ ghost use Rattle.model.specs.Table.{transposed};
 
 use crate::recipe::{Accepted, Computation, Recipe};
 use algebra::{BinaryKind, SemiringName};
-use model::{Desc, Form, Operation, Out, Signature, TwoInputs};
+use model::{Desc, Form, NoMemory, Operation, Out, Signature, TwoInputs};
+use std::alloc::Global;
 
 /// How what takes a recipe's roles is had of what takes the roles of the operation that it was made of.
 #[derive(Clone, Copy)]
@@ -23,30 +24,51 @@ pub enum Turns {
 }
 
 impl Accepted {
+    /// Whether no flag transposes an input, so that the operation is its own recipe.
+    pub fn is_straight(&self) -> bool
+        ensures { result ≡ true → IsStraight self.now.out.desc }
+    {
+        !self.out.desc.transpose_first && !self.out.desc.transpose_second
+    }
+
     /// The recipe of the operation, and how its inputs are had. A product of a matrix that is transposed and a vector
     /// is that of the vector and the matrix itself, where its operator has one that takes its operands in exchanged
     /// order: it needs no transpose.
-    pub fn into_recipe(self) -> (Recipe, Turns)
-        ensures out { ComputesInto (straight_out self.out) result.0 }
-        ensures makes { known_of result.0 ≡ self.out.c }
-        ensures known { (role : AnyRole) → known_by result.0 role
-            ≡ turned (option_map transposed_signature) result.1 (known_by_role self.out self.operation) role }
-        ensures matrices { AreMatrices result.1 (known_by_role self.out self.operation) }
-        ensures meaning { (maps : AnyRole → Content) → (i j : ℕ)
-            → meaning_of result.0 (turned transposed_content result.1 maps) i j
-            ≡ meaning self.out self.operation maps i j }
+    pub fn into_recipe(self, alloc: Global) -> Result<(Recipe, Turns), NoMemory>
+        ensures out { IfOk result (λ made. ComputesInto (straight_out self.out) made.0) }
+        ensures makes { IfOk result (λ made. known_of made.0 ≡ self.out.c) }
+        ensures known { IfOk result (λ made. (role : AnyRole) → known_by made.0 role
+            ≡ turned (option_map transposed_signature) made.1 (known_by_role self.out self.operation) role) }
+        ensures matrices { IfOk result (λ made. AreMatrices made.1 (known_by_role self.out self.operation)) }
+        ensures meaning { IfOk result (λ made. (maps : AnyRole → Content) → (i j : ℕ)
+            → meaning_of made.0 (turned transposed_content made.1 maps) i j
+            ≡ meaning self.out self.operation maps i j) }
     {
         let Accepted { out, operation } = self;
         let desc = out.desc;
         let out = straight_out(&out);
         if let Some(operation) = exchanged(desc, &operation) {
-            let computation = Computation { out, operation };
-            return (Recipe::Computed(computation), Turns::Exchanged);
+            let exchanged = Box::new(alloc, Accepted { out, operation })?;
+            return Ok((straight(exchanged), Turns::Exchanged));
         }
         let turns = turns_of(desc, &operation);
         let operation = transposed(desc, operation);
-        (Recipe::Computed(Computation { out, operation }), turns)
+        let transposed = Box::new(alloc, Accepted { out, operation })?;
+        Ok((straight(transposed), turns))
     }
+}
+
+/// The recipe of an operation that transposes no input: the operation itself.
+pub fn straight(accepted: Box<Accepted>) -> Recipe
+    requires { IsStraight accepted.value.out.desc }
+    ensures out { ComputesInto accepted.value.out result }
+    ensures makes { known_of result ≡ accepted.value.out.c }
+    ensures known { (role : AnyRole)
+        → known_by result role ≡ known_by_role accepted.value.out accepted.value.operation role }
+    ensures meaning { (maps : AnyRole → Content)
+        → meaning_of result maps ≡ meaning accepted.value.out accepted.value.operation maps }
+{
+    Recipe::Computed(Computation { accepted })
 }
 
 /// An output whose flags transpose no input.

@@ -1,17 +1,25 @@
 //! Pieces of work, done.
-ghost use Rattle.std.specs.Prelude.{◌≡◌, IfOk, IfSome};
+ghost use Rattle.std.specs.Prelude.{◌≡◌, ◌≤◌, IfOk, IfSome};
 ghost use Rattle.std.specs.Arc.{arc_value};
 ghost use Rattle.board.specs.Boards.{view_of};
-ghost use Rattle.board.specs.Pieces.{IsPieceFor};
+ghost use Rattle.board.specs.Pieces.{IsPieceFor, maps_in};
+ghost use Rattle.board.specs.Stores.{stored_for};
 ghost use Rattle.board.specs.Tasks.{object_at};
+ghost use Rattle.calls.specs.declared.role.Role.{Role as AnyRole};
+ghost use Rattle.calls.specs.Recipes.{known_by, known_of};
+ghost use Rattle.kernel.specs.Pieces.{HasForm, IsPieceOf};
+ghost use Rattle.kernel.specs.Takes.{Takes};
+ghost use Rattle.model.specs.Object.{rows_of};
 ghost use Rattle.runner.specs.Tickets.{IsStoreFor};
 
 use crate::picker::Picker;
-use board::{Board, Given, Look, Piece};
-use kernel::{eval_piece, join};
+use board::{Board, Given, Look, Piece, Stores};
+use calls::Recipe;
+use kernel::{Block, eval_piece, join, patch_over};
 use model::NoMemory;
 use runner::Failed;
 use std::alloc::Global;
+use std::ops::Range;
 use std::sync::Arc;
 use store::Store;
 
@@ -90,11 +98,34 @@ fn do_piece<N: Drop>(alloc: Global, board: &mut Board<N>, piece: Piece) -> Resul
         recipe,
         inputs,
     } = piece;
-    let block = eval_piece(alloc, &recipe, &inputs.lent(), rows)?;
+    let block = block_of(alloc, &recipe, inputs, rows)?;
     let Ok(Given::Last(block)) = board.give(number, piece, block) else {
         return Ok(());
     };
     let store = Arc::new(alloc, join(&recipe, block))?;
     let _ = board.whole(number, store);
     Ok(())
+}
+
+/// What a recipe gives of stores. The edits of a patch are done in its store, where nobody shares that.
+fn block_of(
+    alloc: Global,
+    recipe: &Recipe,
+    inputs: Stores,
+    rows: Range<u64>,
+) -> Result<Block, NoMemory>
+    requires takes { (role : AnyRole) → Takes (known_by recipe.now role) (stored_for inputs role) }
+    requires range { rows.start ≤ rows.end }
+    requires rows { rows.end ≤ rows_of (known_of recipe.now).shape }
+    ensures piece { IfOk result (IsPieceOf recipe.now (maps_in inputs) rows.start rows.end) }
+    ensures form { IfOk result (HasForm recipe.now) }
+{
+    match recipe {
+        Recipe::Patch(patch) => {
+            let Stores { old, .. } = inputs;
+            let Some(old) = old else { unreachable!() };
+            Ok(Block::Whole(patch_over(alloc, patch, old)?))
+        }
+        recipe => eval_piece(alloc, recipe, &inputs.lent(), rows),
+    }
 }

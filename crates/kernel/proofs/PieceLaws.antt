@@ -40,7 +40,7 @@ recipe-is_object (Resized of shape) maps are =
 recipe-is_object (Transposed turn) maps are =
     transposed_matrix turn.of turn.of.shape (maps First) turn.matrix (are First)
 recipe-is_object (Computed computation) maps are =
-    meaning-is_object computation.out computation.operation maps computation.accepted are
+    meaning-is_object computation.accepted.value.out computation.accepted.value.operation maps computation.accepted.value.accepted are
 
 -- the transpose of a matrix has its rows as columns
 pub transposed-shape : (shape : Shape) → is_matrix shape ≡ true

@@ -15,4 +15,4 @@ mod task;
 
 pub use block::Block;
 pub use evaluation::evaluate;
-pub use piece::{eval_piece, join};
+pub use piece::{eval_piece, join, patch_over};

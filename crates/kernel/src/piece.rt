@@ -1,8 +1,10 @@
 //! Pieces of what recipes give.
 ghost use Rattle.std.specs.Prelude.{◌≡◌, ◌<◌, ◌≤◌, ℕ, IfOk, None, Some};
+ghost use Rattle.std.specs.Arc.{arc_value};
 ghost use Rattle.std.specs.Option.{option_map};
 ghost use Rattle.calls.specs.Recipes.{known_by, known_by_role, known_of as makes, meaning, operation_with, out_with};
 ghost use Rattle.calls.specs.Stores.{IsStoreOf, object_with};
+ghost use Rattle.calls.specs.Straight.{IsStraight};
 ghost use Rattle.kernel.specs.Inputs.{known_of, object_of};
 ghost use Rattle.kernel.specs.Pieces.{HasAllRows, HasForm, IfRows, IsPieceOf, cols_in, content_in};
 ghost use Rattle.kernel.specs.Takes.{AreInputs, Takes, map_in, maps_in};
@@ -15,12 +17,13 @@ ghost use Rattle.store.specs.Stored.{block_content, content_of};
 use crate::block::Block;
 use crate::input::Input;
 use crate::task::{Task, task_rows};
-use calls::{Computation, Operation, Out, Patch, Recipe, Roles, Signature};
+use calls::{Accepted, Operation, Out, Patch, Recipe, Roles, Signature};
 use model::{Lent, NoMemory};
 use patch::apply_edits;
 use shapes::{resize, transpose};
 use std::alloc::Global;
 use std::ops::Range;
+use std::sync::Arc;
 use store::{RowBlock, Store};
 
 /// The rows in a range of what a recipe gives of the stores that take its roles. Its time and memory are those of the
@@ -39,12 +42,12 @@ pub fn eval_piece(
 {
     let store = match recipe {
         Recipe::Computed(computation) => {
-            let rows = computed_piece(alloc, computation, stores, range)?;
+            let rows = computed_piece(alloc, &computation.accepted, stores, range)?;
             return Ok(Block::Rows(rows));
         }
         Recipe::New(of) => Store::new(alloc, of.shape.rows(), of.shape.cols()),
         Recipe::Given(given) => given.store.try_clone()?,
-        Recipe::Patch(patch) => patched(alloc, patch, taking(patch.of, stores.old))?,
+        Recipe::Patch(patch) => { edited(alloc, patch, taking(patch.of, stores.old).try_clone()?)? }
         Recipe::Resized { of, shape } => {
             let old = taking(*of, stores.old);
             resize(alloc, old, shape.rows(), shape.cols())?
@@ -66,15 +69,29 @@ fn taking(known: Signature, store: Option<&Store>) -> &Store
     }
 }
 
-/// A store after edits, in memory of its own.
-fn patched(alloc: Global, patch: &Patch, old: &Store) -> Result<Store, NoMemory>
-    requires { IsStoreOf patch.now.of old.now }
+/// A store after edits, which are done in it where nobody shares it, and else in a copy.
+pub fn patch_over(alloc: Global, patch: &Patch, old: Arc<Store>) -> Result<Store, NoMemory>
+    requires { IsStoreOf patch.now.of (arc_value old) }
     ensures rows { IfOk result (λ store. store.rows ≡ rows_of patch.now.of.shape) }
     ensures cols { IfOk result (λ store. store.cols ≡ cols_of patch.now.of.shape) }
     ensures content { IfOk result (λ store. (i j : ℕ)
-        → content_of store i j ≡ edited patch.now.edits.items (content_of old.now) i j) }
+        → content_of store i j ≡ edited patch.now.edits.items (content_of (arc_value old)) i j) }
 {
-    let mut store = old.try_clone()?;
+    match Arc::try_unwrap(old) {
+        Ok(store) => edited(alloc, patch, store),
+        Err(shared) => edited(alloc, patch, shared.try_clone()?),
+    }
+}
+
+/// A store after edits, which are done in it.
+fn edited(alloc: Global, patch: &Patch, store: Store) -> Result<Store, NoMemory>
+    requires { IsStoreOf patch.now.of store }
+    ensures rows { IfOk result (λ store. store.rows ≡ rows_of patch.now.of.shape) }
+    ensures cols { IfOk result (λ store. store.cols ≡ cols_of patch.now.of.shape) }
+    ensures content { IfOk result (λ after. (i j : ℕ)
+        → content_of after i j ≡ edited patch.now.edits.items (content_of store) i j) }
+{
+    let mut store = store;
     let mut edits = patch.edits.clone()?;
     apply_edits(alloc, &mut store, &mut edits)?;
     Ok(store)
@@ -83,50 +100,52 @@ fn patched(alloc: Global, patch: &Patch, old: &Store) -> Result<Store, NoMemory>
 /// The rows in a range of what an operation leaves: what it computes, accumulated, masked and written back.
 fn computed_piece(
     alloc: Global,
-    computation: &Computation,
+    accepted: &Accepted,
     stores: &Roles<&Store>,
     range: Range<u64>,
 ) -> Result<RowBlock, NoMemory>
-    requires inputs { AreInputs (known_by_role computation.now.out computation.now.operation) stores.now }
+    requires straight { IsStraight accepted.now.out.desc }
+    requires inputs { AreInputs (known_by_role accepted.now.out accepted.now.operation) stores.now }
     requires range { range.start ≤ range.end }
-    requires rows { range.end ≤ rows_of computation.now.out.c.shape }
+    requires rows { range.end ≤ rows_of accepted.now.out.c.shape }
     ensures first { IfOk result (λ block. block.first ≡ range.start) }
     ensures past { IfOk result (λ block. block.past ≡ range.end) }
-    ensures cols { IfOk result (λ block. block.cols ≡ cols_of computation.now.out.c.shape) }
+    ensures cols { IfOk result (λ block. block.cols ≡ cols_of accepted.now.out.c.shape) }
     ensures words { IfOk result (λ block. (i j : ℕ) → range.start ≤ i → i < range.end
-        → block_content block i j ≡ meaning computation.now.out computation.now.operation (maps_in stores.now) i j) }
+        → block_content block i j ≡ meaning accepted.now.out accepted.now.operation (maps_in stores.now) i j) }
 {
-    let shape = computation.out.c.shape;
+    let shape = accepted.out.c.shape;
     // It takes no memory, and stands for what the output has where nobody reads that.
     let unread = Store::new(alloc, shape.rows(), shape.cols());
-    let task = taken(computation, *stores, &unread);
+    let task = taken(accepted, *stores, &unread);
     task_rows(alloc, &task, range)
 }
 
 /// An operation on the stores that take its roles.
-fn taken<'a>(computation: &'a Computation, stores: Roles<&'a Store>, unread: &'a Store) -> Task<'a>
-    requires inputs { AreInputs (known_by_role computation.now.out computation.now.operation) stores }
-    requires rows { unread.now.rows ≡ rows_of computation.now.out.c.shape }
-    requires cols { unread.now.cols ≡ cols_of computation.now.out.c.shape }
+fn taken<'a>(accepted: &'a Accepted, stores: Roles<&'a Store>, unread: &'a Store) -> Task<'a>
+    requires straight { IsStraight accepted.now.out.desc }
+    requires inputs { AreInputs (known_by_role accepted.now.out accepted.now.operation) stores }
+    requires rows { unread.now.rows ≡ rows_of accepted.now.out.c.shape }
+    requires cols { unread.now.cols ≡ cols_of accepted.now.out.c.shape }
     requires empty { (i j : ℕ) → content_of unread.now i j ≡ None }
-    ensures out { renamed_out object_of result.out ≡ out_with computation.now.out (maps_in stores.entry) }
+    ensures out { renamed_out object_of result.out ≡ out_with accepted.now.out (maps_in stores.entry) }
     ensures operation { renamed_operation object_of (operation_lent result.operation)
-        ≡ operation_with computation.now.operation (maps_in stores.entry) }
+        ≡ operation_with accepted.now.operation (maps_in stores.entry) }
 {
-    let mask = match computation.out.mask {
+    let mask = match accepted.out.mask {
         Some(known) => Some(input(known, stores.mask)),
         None => None,
     };
     let out = Out {
         c: Input {
-            signature: computation.out.c,
+            signature: accepted.out.c,
             store: stores.old.unwrap_or(unread),
         },
         mask,
-        accum: computation.out.accum,
-        desc: computation.out.desc,
+        accum: accepted.out.accum,
+        desc: accepted.out.desc,
     };
-    let operation = match &computation.operation {
+    let operation = match &accepted.operation {
         Operation::Fill { value, region } => Lent::Fill {
             value: *value,
             region,

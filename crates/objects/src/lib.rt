@@ -8,7 +8,7 @@ mod value;
 
 pub use kept::{Kept, Refusal};
 pub use table::{
-    Table, edit, finish, give, insert, is_told, put, remove, settle, signature, store, take_ticket,
-    ticket,
+    Table, edit, finish, give, insert, is_told, put, ready_ticket, remove, settle, signature,
+    store, take_ticket, ticket,
 };
 pub use value::Value;

@@ -1,5 +1,5 @@
 //! One object.
-ghost use Rattle.std.specs.Prelude.{◌≡◌, ◌≢◌, [], IfOk, OnErr, OnOk, false, not, true};
+ghost use Rattle.std.specs.Prelude.{◌≡◌, ◌≢◌, [], IfOk, IfSome, OnErr, OnOk, false, is_some, not, true};
 ghost use Rattle.calls.specs.Stores.{IsStoreOf, object_with};
 ghost use Rattle.model.specs.Marks.{MayBecome, Open, is_told};
 ghost use Rattle.model.specs.Object.{IsObject, cols_of, rows_of};
@@ -242,15 +242,18 @@ pub(crate) fn store<R: Runner>(object: &Kept<R>) -> &Store
     }
 }
 
-/// The ticket that stands for an object.
-pub(crate) fn ticket<R: Runner>(object: &Kept<R>) -> &R::Ticket
-    requires ready { is_ready object.now ≡ true }
-    ensures object { R.object_of result.now ≡ object_in object.now }
-    ensures is_object { IsObject (R.object_of result.now) }
+/// The ticket that stands for an object, where one does.
+pub(crate) fn ready_ticket<R: Runner>(object: &Kept<R>) -> Option<&R::Ticket>
+    ensures ready { is_some result ≡ is_ready object.now }
+    ensures object { IfSome result (λ ticket. R.object_of ticket.now ≡ object_in object.now) }
+    ensures is_object { IfSome result (λ ticket. IsObject (R.object_of ticket.now)) }
+    ensures untold { is_some result ≡ true → is_told (mark_in object.now) ≡ false }
 {
+    if !object.edits.is_empty() {
+        return None;
+    }
     match &object.value {
-        Value::Both(_, ticket) => ticket,
-        Value::Open(ticket) => ticket,
-        _ => unreachable!(),
+        Value::Both(_, ticket) | Value::Open(ticket) => Some(ticket),
+        _ => None,
     }
 }

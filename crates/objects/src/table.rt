@@ -243,14 +243,26 @@ pub fn store<R: Runner>(table: &Table<R>, object: Obj) -> &Store
     }
 }
 
+/// The ticket that stands for an object, where one does.
+pub fn ready_ticket<R: Runner>(table: &Table<R>, object: Obj) -> Option<&R::Ticket>
+    ensures ready { is_some result ≡ is_ready_at table.now object }
+    ensures object { IfSome result (λ ticket.
+        R.object_of ticket.now ≡ object_at (state_in table.now).environment object) }
+    ensures is_object { IfSome result (λ ticket. IsObject (R.object_of ticket.now)) }
+    ensures untold { is_some result ≡ true → told (state_in table.now) object ≡ false }
+{
+    let kept = table.by_number.get(&object.0)?;
+    object::ready_ticket(kept)
+}
+
 /// The ticket that stands for an object.
 pub fn ticket<R: Runner>(table: &Table<R>, object: Obj) -> &R::Ticket
     requires ready { is_ready_at table.now object ≡ true }
     ensures object { R.object_of result.now ≡ object_at (state_in table.now).environment object }
     ensures is_object { IsObject (R.object_of result.now) }
 {
-    match table.by_number.get(&object.0) {
-        Some(kept) => object::ticket(kept),
+    match ready_ticket(table, object) {
+        Some(ticket) => ticket,
         None => unreachable!(),
     }
 }

@@ -13,23 +13,43 @@ ghost use Rattle.runner.specs.Tickets.{AreInputs, IsTurned, known_by_role, known
 ghost use Rattle.runner.specs.Tickets.{maps_by};
 
 use crate::runner::Runner;
-use calls::{Accepted, Recipe, Roles, Signature, Transpose, Turns, by_role};
+use calls::{Accepted, Recipe, Roles, Signature, Transpose, Turns, by_role, straight};
 use model::NoMemory;
+use std::alloc::Global;
 
 /// Takes an accepted operation on, on the objects that tickets stand for. Its inputs are transposed first where a
 /// product with a vector doesn't do without. Of a refused operation nothing is asked for any more.
 pub fn submit_accepted<R: Runner>(
+    alloc: Global,
     runner: &mut R,
-    accepted: Accepted,
+    accepted: Box<Accepted>,
     inputs: Roles<&R::Ticket>,
 ) -> Result<R::Ticket, NoMemory>
-    requires inputs { AreInputs R.object_of (known_of_role accepted.out accepted.operation) inputs }
-    ensures object { IfOk result (λ t. R.object_of t ≡ object_with accepted.out.c
-        (meaning accepted.out accepted.operation (maps_by R.object_of inputs.entry))) }
+    requires inputs { AreInputs R.object_of (known_of_role accepted.value.out accepted.value.operation) inputs }
+    ensures object { IfOk result (λ t. R.object_of t ≡ object_with accepted.value.out.c
+        (meaning accepted.value.out accepted.value.operation (maps_by R.object_of inputs.entry))) }
+    ensures is_object { IfOk result (λ t. IsObject (R.object_of t)) }
+{
+    if accepted.is_straight() {
+        return runner.submit(straight(accepted), inputs);
+    }
+    submit_turned(alloc, runner, accepted, inputs)
+}
+
+/// Submits an accepted operation that may transpose inputs.
+fn submit_turned<R: Runner>(
+    alloc: Global,
+    runner: &mut R,
+    accepted: Box<Accepted>,
+    inputs: Roles<&R::Ticket>,
+) -> Result<R::Ticket, NoMemory>
+    requires inputs { AreInputs R.object_of (known_of_role accepted.value.out accepted.value.operation) inputs }
+    ensures object { IfOk result (λ t. R.object_of t ≡ object_with accepted.value.out.c
+        (meaning accepted.value.out accepted.value.operation (maps_by R.object_of inputs.entry))) }
     ensures is_object { IfOk result (λ t. IsObject (R.object_of t)) }
 {
     let known = by_role(&accepted.out, &accepted.operation);
-    let (recipe, turns) = accepted.into_recipe();
+    let (recipe, turns) = Box::into_inner(accepted).into_recipe(alloc)?;
     match turns {
         Turns::Exchanged => runner.submit(recipe, exchanged(inputs)),
         Turns::Transposed { first, second } => {

@@ -1,5 +1,5 @@
 //! Operations on the objects of a session.
-ghost use Rattle.std.specs.Prelude.{◌≡◌, IfOk, OnOk, Some, not, true};
+ghost use Rattle.std.specs.Prelude.{◌≡◌, IfOk, IfSome, OnOk, Some, false, is_some, not, true};
 ghost use Rattle.std.specs.Option.{option_map};
 ghost use Rattle.calls.specs.declared.obj.Obj.{Obj as AnyObj};
 ghost use Rattle.calls.specs.declared.role.Role.{Role as AnyRole};
@@ -20,7 +20,7 @@ use calls::{
     check_operate,
 };
 use model::{NoMemory, Status};
-use objects::{Table, Value, ticket};
+use objects::{Table, Value, ready_ticket};
 use runner::{Runner, submit_accepted};
 
 impl<R: Runner + Drop> Session<R> {
@@ -239,11 +239,36 @@ impl<R: Runner + Drop> Session<R> {
         ensures state { state_of self.new ≡ state_of self.old }
         ensures made { made_in self.new ≡ made_in self.old }
     {
+        let accepted = Box::new(self.alloc, accepted)?;
+        let Some(tickets) = tickets_of(&self.table, objects) else {
+            return self.computed_of_given(accepted, objects);
+        };
+        let computed = submit_accepted(self.alloc, &mut self.runner, accepted, tickets)?;
+        Ok(Value::Open(computed))
+    }
+
+    /// The same, where tickets may have to be given first.
+    fn computed_of_given(
+        &mut self,
+        accepted: Box<Accepted>,
+        objects: &Roles<Obj>,
+    ) -> Result<Value<R::Ticket>, NoMemory>
+        requires known { (role : AnyRole)
+            → option_map Some (known_by_role accepted.value.out accepted.value.operation role)
+            ≡ option_map (known_in self.old) (role_of objects.now role) }
+        ensures value { IfOk result (IsPutOff R.object_of (any_told (state_of self.old) objects.now)
+            (object_with accepted.value.out.c
+            (meaning accepted.value.out accepted.value.operation (maps_at (environment_of self.old) objects.now)))) }
+        ensures state { state_of self.new ≡ state_of self.old }
+        ensures made { made_in self.new ≡ made_in self.old }
+    {
         if !self.give_all(objects)? {
             return Ok(Value::Failed);
         }
-        let tickets = tickets_of(&self.table, objects);
-        let computed = submit_accepted(&mut self.runner, accepted, tickets)?;
+        let Some(tickets) = tickets_of(&self.table, objects) else {
+            unreachable!()
+        };
+        let computed = submit_accepted(self.alloc, &mut self.runner, accepted, tickets)?;
         Ok(Value::Open(computed))
     }
 
@@ -280,26 +305,33 @@ impl<R: Runner + Drop> Session<R> {
     }
 }
 
-/// The tickets that stand for the objects that have roles.
-fn tickets_of<'a, R: Runner>(table: &'a Table<R>, objects: &Roles<Obj>) -> Roles<&'a R::Ticket>
-    requires ready { (role : AnyRole) → AreReadyAt table.now (role_of objects.now role) }
-    ensures { (role : AnyRole) → option_map R.object_of (lent_in result role)
-        ≡ option_map (object_at (state_in table.now).environment) (role_of objects.now role) }
+/// The tickets that stand for the objects that have roles; None where none stands for one of them.
+fn tickets_of<'a, R: Runner>(
+    table: &'a Table<R>,
+    objects: &Roles<Obj>,
+) -> Option<Roles<&'a R::Ticket>>
+    ensures tickets { IfSome result (λ tickets. (role : AnyRole) → option_map R.object_of (lent_in tickets role)
+        ≡ option_map (object_at (state_in table.now).environment) (role_of objects.now role)) }
+    ensures untold { is_some result ≡ true → any_told (state_in table.now) objects.now ≡ false }
+    ensures ready { ((role : AnyRole) → AreReadyAt table.now (role_of objects.now role)) → is_some result ≡ true }
 {
-    Roles {
-        old: ticket_if(table, objects.old),
-        mask: ticket_if(table, objects.mask),
-        first: ticket_if(table, objects.first),
-        second: ticket_if(table, objects.second),
-    }
+    Some(Roles {
+        old: ticket_if(table, objects.old)?,
+        mask: ticket_if(table, objects.mask)?,
+        first: ticket_if(table, objects.first)?,
+        second: ticket_if(table, objects.second)?,
+    })
 }
 
-/// The ticket that stands for an object, where there is one in a role.
-fn ticket_if<R: Runner>(table: &Table<R>, object: Option<Obj>) -> Option<&R::Ticket>
-    requires { AreReadyAt table.now object }
-    ensures { option_map (λ ticket. R.object_of ticket.now) result
-        ≡ option_map (object_at (state_in table.now).environment) object }
+/// The ticket that stands for an object, where there is one in a role; None where none does.
+fn ticket_if<R: Runner>(table: &Table<R>, object: Option<Obj>) -> Option<Option<&R::Ticket>>
+    ensures ticket { IfSome result (λ ticket. option_map (λ t. R.object_of t.now) ticket
+        ≡ option_map (object_at (state_in table.now).environment) object) }
+    ensures untold { is_some result ≡ true → is_role_told (state_in table.now) object ≡ false }
+    ensures ready { AreReadyAt table.now object → is_some result ≡ true }
 {
-    let object = object?;
-    Some(ticket(table, object))
+    match object {
+        Some(object) => Some(Some(ready_ticket(table, object)?)),
+        None => Some(None),
+    }
 }

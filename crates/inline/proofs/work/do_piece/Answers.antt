@@ -1,14 +1,9 @@
 -- The store that is handed in is that of the slot's object.
-use Rattle.std.proofs.Common.{◌≡◌, ◌∙◌, List, ap, subst, sym}
+use Rattle.std.proofs.Common.{◌≡◌, List, ap, subst, sym}
 use Rattle.std.specs.Arc.{arc_value}
 use Rattle.board.specs.Boards.{view_of}
 use Rattle.board.specs.Tasks.{Task, object_at}
 use Rattle.board.specs.Views.{View}
-use Rattle.calls.specs.declared.recipe.Recipe.{Recipe}
-use Rattle.calls.specs.Recipes.{known_of}
-use Rattle.kernel.specs.Pieces.{IsPieceOf}
-use Rattle.kernel.specs.Takes.{maps_in}
-use Rattle.model.specs.Object.{rows_of}
 use Rattle.inline.proofs.WorkLaws.{given-last, store_for}
 use Rattle.runner.specs.Tickets.{IsStoreFor}
 use Rattle.store.specs.Stored.{Stored}
@@ -19,9 +14,8 @@ whole-requires g c =
     let before = view_of c.args.board.now in
     let tasks : (view_of c.give.new.self).tasks ≡ before.tasks = ap (λ (v : View g.row.N.Denot). v.tasks) c.in-Ok-Last.ensures.joining in
     let same = given-last before c.args.piece.number c.args.piece.piece c.in_ok-block.block c.in-Ok-Last.block (rw (c.in-Ok-Last.field-0-is) at c.in-Ok-Last.ensures.answer) in
-    let piece = subst (λ (r : Recipe). IsPieceOf r (maps_in c.lent.result) c.args.piece.rows.start c.args.piece.rows.end c.in_ok-block.block) c.deref.ensures c.in_ok-block.ensures.piece in
-    let store = store_for before.tasks c.args.piece c.requires c.lent.result c.lent.ensures c.in_ok-block.block c.in-Ok-Last.block piece same
-    c.join.result (c.join.ensures.rows ∙ ap (λ (r : Recipe). rows_of (known_of r).shape) c.deref-2.ensures) c.join.ensures.cols c.join.ensures.content c.join.ensures.within in
+    let store = store_for before.tasks c.args.piece c.requires c.in_ok-block.block c.in-Ok-Last.block c.in_ok-block.ensures.piece same
+    c.join.result c.join.ensures.rows c.join.ensures.cols c.join.ensures.content c.join.ensures.within in
     record {
       right = λ joining. subst (λ (ts : List Task). IsStoreFor (object_at ts c.args.piece.number) (arc_value c.in_ok-store.store)) (sym tasks)
           (subst (λ (s : Stored). IsStoreFor (object_at before.tasks c.args.piece.number) s) (sym c.in_ok-store.ensures.ok) store);

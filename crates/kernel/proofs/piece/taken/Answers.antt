@@ -8,8 +8,8 @@ input-requires c = rw c.in-Some.is at (c.requires.inputs role.Mask)
 
 pub invariant_of-out : goal.invariant_of-out
 invariant_of-out c =
-    let computation = c.args.computation.now in
-    let is = old-store computation.out computation.operation c.args.stores c.args.unread c.requires.inputs c.requires.rows c.requires.cols c.requires.empty in
+    let accepted = c.args.accepted.now in
+    let is = old-store accepted.out accepted.operation c.args.stores c.args.unread c.requires.inputs c.requires.rows c.requires.cols c.requires.empty in
     rw c.unwrap_or.ensures (record { rows = is.rows; cols = is.cols; is_object = is.is_object })
 
 pub input-requires-in-OfOne : goal.input-requires-in-OfOne

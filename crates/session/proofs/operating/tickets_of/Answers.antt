@@ -1,15 +1,20 @@
--- Each role's object has a ticket.
+-- A role without a ticket is one whose object has none.
+use Rattle.std.proofs.Common.{◌≡◌, false, true}
 use Rattle.calls.specs.declared.role.Role.TheVariants.{Old, Mask, First, Second}
 use Rattle.session.proofs.operating.tickets_of.Goals as goal
 
-pub ticket_if-requires : goal.ticket_if-requires
-ticket_if-requires g c = c.requires.ready Old
+pub returns-in_err-ticket_if-clause-ready : goal.returns-in_err-ticket_if-clause-ready
+returns-in_err-ticket_if-clause-ready g c ready =
+    let no : false ≡ true = c.in_err-ticket_if.ensures.ready (ready Old) in absurd (cc (no))
 
-pub ticket_if-requires-2 : goal.ticket_if-requires-2
-ticket_if-requires-2 g c = c.requires.ready Mask
+pub returns-in_err-ticket_if-2-clause-ready : goal.returns-in_err-ticket_if-2-clause-ready
+returns-in_err-ticket_if-2-clause-ready g c ready =
+    let no : false ≡ true = c.in_err-ticket_if-2.ensures.ready (ready Mask) in absurd (cc (no))
 
-pub ticket_if-requires-3 : goal.ticket_if-requires-3
-ticket_if-requires-3 g c = c.requires.ready First
+pub returns-in_err-ticket_if-3-clause-ready : goal.returns-in_err-ticket_if-3-clause-ready
+returns-in_err-ticket_if-3-clause-ready g c ready =
+    let no : false ≡ true = c.in_err-ticket_if-3.ensures.ready (ready First) in absurd (cc (no))
 
-pub ticket_if-requires-4 : goal.ticket_if-requires-4
-ticket_if-requires-4 g c = c.requires.ready Second
+pub returns-in_err-ticket_if-4-clause-ready : goal.returns-in_err-ticket_if-4-clause-ready
+returns-in_err-ticket_if-4-clause-ready g c ready =
+    let no : false ≡ true = c.in_err-ticket_if-4.ensures.ready (ready Second) in absurd (cc (no))

@@ -56,14 +56,14 @@ invariant_of-self-2 g c =
     let number_is : c.len-number.result ≡ length (map (task_of {N = _}) c.args.self.now.slots.items) = omega (arith, c.len-number.ensures, length-map c.args.self.now.slots.items (task_of {N = _})) in
     let waits_is : c.none_failed-waits.result ≡ each (λ i. not (is_failed (slice_get (map progress_of c.args.self.now.stages.items) i))) c.args.inputs =
     c.none_failed-waits.ensures ∙ ap (λ (l : List Stage). each (λ i. not (is_failed (slice_get (map progress_of l) i))) c.args.inputs) (c.deref-2.ensures.value ∙ c.make_room-has_room.ensures.stages) in
-    let stage_is = is_snoc c.args.self.now.stages.items c.make_room-has_room.new.stages.items c.push_reserved-2.new.self.items c.first_stage.result (cond c.none_failed-waits.result (stage.Untaken c.in_ok-recipe.recipe) stage.Failed)
+    let stage_is = is_snoc c.args.self.now.stages.items c.make_room-has_room.new.stages.items c.push_reserved-2.new.self.items c.first_stage.result (cond c.none_failed-waits.result (stage.Untaken c.args.recipe) stage.Failed)
     c.push_reserved-2.ensures.items c.make_room-has_room.ensures.stages c.first_stage.ensures in
-    let slots_are = map_snoc (task_of {N = _}) c.args.self.now.slots.items c.make_room-has_room.new.slots.items c.push_reserved.new.self.items c.new-2.result (record { recipe = c.args.recipe; inputs = c.args.inputs })
-    c.push_reserved.ensures.items c.make_room-has_room.ensures.slots (task_is (task_of {N = _} c.new-2.result) c.args.recipe c.args.inputs (c.new-2.ensures.recipe ∙ (c.deref-4.ensures ∙ c.in_ok-recipe.ensures.ok)) c.new-2.ensures.inputs) in
+    let slots_are = map_snoc (task_of {N = _}) c.args.self.now.slots.items c.make_room-has_room.new.slots.items c.push_reserved.new.self.items c.new.result (record { recipe = c.args.recipe; inputs = c.args.inputs })
+    c.push_reserved.ensures.items c.make_room-has_room.ensures.slots (task_is (task_of {N = _} c.new.result) c.args.recipe c.args.inputs c.new.ensures.recipe c.new.ensures.inputs) in
     let holds_are = is_snoc c.args.self.now.holds.items c.make_room-has_room.new.holds.items c.push_reserved-3.new.self.items 1 1 c.push_reserved-3.ensures.items c.make_room-has_room.ensures.holds refl in
     let wait_is = ap (λ (n : ℕ). each (λ i. is_made (slice_get (map progress_of c.args.self.now.stages.items) i) || has_in n (slice_get (map (λ r. r.items) c.wait_for.new.readers.items) i)) c.args.inputs) (sym number_is)
     ∙ (ap (λ (l : List Stage). each (λ i. is_made (slice_get (map progress_of l) i) || has_in c.len-number.result (slice_get (map (λ r. r.items) c.wait_for.new.readers.items) i)) c.args.inputs) (sym c.deref.ensures.value) ∙ c.in_ok-wait_for.ensures.waits) in
-    let base = sound_admitted _ _ _ _ _ _ _ c.args.self.now.sound c.args.recipe c.in_ok-recipe.recipe c.args.inputs c.none_failed-waits.result c.read_if.new.reads.items (map (λ r. r.items) c.wait_for.new.readers.items) (deque_capacity c.offer.new.ready) c.in_ok-recipe.ensures.ok c.requires waits_is
+    let base = sound_admitted _ _ _ _ _ _ _ c.args.self.now.sound c.args.recipe c.args.inputs c.none_failed-waits.result c.read_if.new.reads.items (map (λ r. r.items) c.wait_for.new.readers.items) (deque_capacity c.offer.new.ready) c.requires waits_is
     (c.read_if.ensures.sized ∙ ap (λ (l : List ℕ). length l) c.make_room-has_room.ensures.reads)
     (λ j. c.read_if.ensures.counts j ∙ ap (λ (l : List ℕ). slice_index l j + cond c.none_failed-waits.result (places_of c.args.inputs j) 0) c.make_room-has_room.ensures.reads)
     c.wait_for.ensures.grows wait_is (let r = c.if-not-has_room.ensures.ready_room in let more = c.offer.ensures.capacity in omega (arith, r, more, length-map c.args.self.now.slots.items (task_of {N = _}))) in
@@ -72,7 +72,7 @@ invariant_of-self-2 g c =
     ∙ ap (λ (n : ℕ). c.args.self.now.ready.items ++ cond (c.none_failed-waits.result && each (λ i. is_made (slice_get (map progress_of c.args.self.now.stages.items) i)) c.args.inputs) (n ∷ []) []) number_is)) in
     record {
       sound = sound_more _ _ _ _ _ _ _ base.0 _ _ _ _ _ _ _ slots_are stage_is holds_are c.push_reserved-4.ensures.items
-          (grows_is _ _ _ (grows_self _) (map_snoc (λ r. r.items) c.wait_for.new.readers.items c.make_room-has_room.new.readers.items c.push_reserved-5.new.self.items c.new-3.result [] c.push_reserved-5.ensures.items c.make_room-has_room.ensures.readers c.new-3.ensures.items))
+          (grows_is _ _ _ (grows_self _) (map_snoc (λ r. r.items) c.wait_for.new.readers.items c.make_room-has_room.new.readers.items c.push_reserved-5.new.self.items c.new-2.result [] c.push_reserved-5.ensures.items c.make_room-has_room.ensures.readers c.new-2.ensures.items))
           ready_is (omega arith);
     }
 
@@ -81,14 +81,14 @@ returns-clause-issued g c =
     let number_is : c.len-number.result ≡ length (map (task_of {N = _}) c.args.self.now.slots.items) = omega (arith, c.len-number.ensures, length-map c.args.self.now.slots.items (task_of {N = _})) in
     let waits_is : c.none_failed-waits.result ≡ each (λ i. not (is_failed (slice_get (map progress_of c.args.self.now.stages.items) i))) c.args.inputs =
     c.none_failed-waits.ensures ∙ ap (λ (l : List Stage). each (λ i. not (is_failed (slice_get (map progress_of l) i))) c.args.inputs) (c.deref-2.ensures.value ∙ c.make_room-has_room.ensures.stages) in
-    let stage_is = is_snoc c.args.self.now.stages.items c.make_room-has_room.new.stages.items c.push_reserved-2.new.self.items c.first_stage.result (cond c.none_failed-waits.result (stage.Untaken c.in_ok-recipe.recipe) stage.Failed)
+    let stage_is = is_snoc c.args.self.now.stages.items c.make_room-has_room.new.stages.items c.push_reserved-2.new.self.items c.first_stage.result (cond c.none_failed-waits.result (stage.Untaken c.args.recipe) stage.Failed)
     c.push_reserved-2.ensures.items c.make_room-has_room.ensures.stages c.first_stage.ensures in
-    let slots_are = map_snoc (task_of {N = _}) c.args.self.now.slots.items c.make_room-has_room.new.slots.items c.push_reserved.new.self.items c.new-2.result (record { recipe = c.args.recipe; inputs = c.args.inputs })
-    c.push_reserved.ensures.items c.make_room-has_room.ensures.slots (task_is (task_of {N = _} c.new-2.result) c.args.recipe c.args.inputs (c.new-2.ensures.recipe ∙ (c.deref-4.ensures ∙ c.in_ok-recipe.ensures.ok)) c.new-2.ensures.inputs) in
+    let slots_are = map_snoc (task_of {N = _}) c.args.self.now.slots.items c.make_room-has_room.new.slots.items c.push_reserved.new.self.items c.new.result (record { recipe = c.args.recipe; inputs = c.args.inputs })
+    c.push_reserved.ensures.items c.make_room-has_room.ensures.slots (task_is (task_of {N = _} c.new.result) c.args.recipe c.args.inputs c.new.ensures.recipe c.new.ensures.inputs) in
     let holds_are = is_snoc c.args.self.now.holds.items c.make_room-has_room.new.holds.items c.push_reserved-3.new.self.items 1 1 c.push_reserved-3.ensures.items c.make_room-has_room.ensures.holds refl in
-    view_issued (view_of c.args.self.now) _ _ _ _ c.args.note c.args.recipe c.args.inputs (progress_of (cond c.none_failed-waits.result (stage.Untaken c.in_ok-recipe.recipe) stage.Failed))
+    view_issued (view_of c.args.self.now) _ _ _ _ c.args.note c.args.recipe c.args.inputs (progress_of (cond c.none_failed-waits.result (stage.Untaken c.args.recipe) stage.Failed))
     slots_are
-    (map_snoc (λ s. s.note) c.args.self.now.slots.items c.make_room-has_room.new.slots.items c.push_reserved.new.self.items c.new-2.result c.args.note c.push_reserved.ensures.items c.make_room-has_room.ensures.slots c.new-2.ensures.note)
-    (map_snoc progress_of c.args.self.now.stages.items c.args.self.now.stages.items c.push_reserved-2.new.self.items (cond c.none_failed-waits.result (stage.Untaken c.in_ok-recipe.recipe) stage.Failed) _ stage_is refl refl)
+    (map_snoc (λ s. s.note) c.args.self.now.slots.items c.make_room-has_room.new.slots.items c.push_reserved.new.self.items c.new.result c.args.note c.push_reserved.ensures.items c.make_room-has_room.ensures.slots c.new.ensures.note)
+    (map_snoc progress_of c.args.self.now.stages.items c.args.self.now.stages.items c.push_reserved-2.new.self.items (cond c.none_failed-waits.result (stage.Untaken c.args.recipe) stage.Failed) _ stage_is refl refl)
     holds_are
-    (first_is c.none_failed-waits.result (map progress_of c.args.self.now.stages.items) c.args.inputs c.in_ok-recipe.recipe waits_is)
+    (first_is c.none_failed-waits.result (map progress_of c.args.self.now.stages.items) c.args.inputs c.args.recipe waits_is)

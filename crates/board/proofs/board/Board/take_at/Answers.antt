@@ -104,4 +104,4 @@ returns-clause-piece g c =
     (c.in_ok-second.ensures ∙ ap (λ l. stored_at l c.index-slot.result.now.inputs.second) c.deref-3.ensures.value))
     c.deref.result refl refl refl
     (c.rows-rows.ensures ∙ ap (λ (s : Signature). rows_of s.shape) c.index-slot.result.now.known)
-    (recipe_out _ _ _ _ _ _ _ c.args.self.now.sound c.args.at c.args.number c.requires (task_of {N = _} c.index-slot.result.now) c.take_recipe-recipe.result.value c.claim.new.stages.items task claimed c.take_recipe-recipe.ensures.recipe)
+    (recipe_out _ _ _ _ _ _ _ c.args.self.now.sound c.args.at c.args.number c.requires (task_of {N = _} c.index-slot.result.now) c.take_recipe-recipe.result c.claim.new.stages.items task claimed c.take_recipe-recipe.ensures.recipe)
