@@ -5,6 +5,8 @@ mod desk;
 mod dropping;
 mod inline;
 mod picker;
+#[cfg(test)]
+mod tests;
 mod ticket;
 mod work;
 

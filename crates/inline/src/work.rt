@@ -59,7 +59,11 @@ fn look<N: Drop>(board: &Board<N>, slot: u64) -> Option<Result<Arc<Store>, Faile
 }
 
 /// Does one of the tasks that can be done, if there is one.
-fn work_once<P: Picker, N: Drop>(alloc: Global, picker: &mut P, board: &mut Board<N>) -> bool
+pub(crate) fn work_once<P: Picker, N: Drop>(
+    alloc: Global,
+    picker: &mut P,
+    board: &mut Board<N>,
+) -> bool
     ensures tasks { (view_of board.new).tasks ≡ (view_of board.old).tasks }
     ensures notes { (view_of board.new).notes ≡ (view_of board.old).notes }
 {
@@ -74,7 +78,7 @@ fn work_once<P: Picker, N: Drop>(alloc: Global, picker: &mut P, board: &mut Boar
 }
 
 /// Does a piece of work that was taken, and hands in what it makes; where there is no memory for it, its slot fails.
-fn work<N: Drop>(alloc: Global, board: &mut Board<N>, piece: Piece)
+pub(crate) fn work<N: Drop>(alloc: Global, board: &mut Board<N>, piece: Piece)
     requires { IsPieceFor (view_of board.old).tasks piece }
     ensures tasks { (view_of board.new).tasks ≡ (view_of board.old).tasks }
     ensures notes { (view_of board.new).notes ≡ (view_of board.old).notes }
