@@ -77,7 +77,7 @@ fn common_lines(first: &[u8], second: &[u8]) -> usize {
 }
 
 /// Whether no line of a script makes an object that is too large.
-fn is_small(alloc: Global, script: &[u8], files: Files<'_>) -> bool {
+pub fn is_small(alloc: Global, script: &[u8], files: Files<'_>) -> bool {
     let mut rest = script;
     while !rest.is_empty() {
         let (line, others) = first_line(rest);
