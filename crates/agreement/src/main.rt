@@ -5,7 +5,7 @@
 //! `agreement FOLDER ..` goes through the folders with all below them and tells each script and each file on which the
 //! two differ. Its last line counts those that passed and those that failed.
 //!
-//! `agreement --plain FOLDER ..` compares nothing: it writes what the plain evaluator answers to the scripts there whose
+//! `agreement --plain FOLDER ..` compares nothing: it writes what the plain evaluator answers to those scripts whose
 //! objects aren't too large for it.
 #![tactic(auto)]
 
