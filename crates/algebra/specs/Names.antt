@@ -99,8 +99,8 @@ binary_name binary.Bxor = codes "BXOR"
 binary_name binary.Bxnor = codes "BXNOR"
 
 abbrev pub binary_kinds : List BinaryKind
-binary_kinds = binary.First ∷ binary.Second ∷ binary.Oneb ∷ binary.Min ∷ binary.Max ∷ binary.Plus ∷ binary.Minus
-    ∷ binary.Times ∷ binary.Eq ∷ binary.Ne ∷ binary.Gt ∷ binary.Lt ∷ binary.Ge ∷ binary.Le ∷ binary.Lor ∷ binary.Land
+binary_kinds = binary.Plus ∷ binary.Times ∷ binary.Min ∷ binary.Max ∷ binary.Minus ∷ binary.First ∷ binary.Second
+    ∷ binary.Oneb ∷ binary.Eq ∷ binary.Ne ∷ binary.Gt ∷ binary.Lt ∷ binary.Ge ∷ binary.Le ∷ binary.Lor ∷ binary.Land
     ∷ binary.Lxor ∷ binary.Lxnor ∷ binary.Bor ∷ binary.Band ∷ binary.Bxor ∷ binary.Bxnor ∷ []
 
 unfoldable pub binary_from_name : List ℕ → Option BinaryKind

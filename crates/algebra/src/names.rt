@@ -41,15 +41,16 @@ impl UnaryKind {
     }
 }
 
+// Those that scripts name most come first.
 const BINARY_KINDS: [BinaryKind; 22] = [
+    BinaryKind::Plus,
+    BinaryKind::Times,
+    BinaryKind::Min,
+    BinaryKind::Max,
+    BinaryKind::Minus,
     BinaryKind::First,
     BinaryKind::Second,
     BinaryKind::Oneb,
-    BinaryKind::Min,
-    BinaryKind::Max,
-    BinaryKind::Plus,
-    BinaryKind::Minus,
-    BinaryKind::Times,
     BinaryKind::Eq,
     BinaryKind::Ne,
     BinaryKind::Gt,

@@ -26,7 +26,8 @@ pub enum Turns {
 impl Accepted {
     /// Whether no flag transposes an input, so that the operation is its own recipe.
     pub fn is_straight(&self) -> bool
-        ensures { result ≡ true → IsStraight self.now.out.desc }
+        ensures straight { result ≡ true → IsStraight self.now.out.desc }
+        ensures turned { IsStraight self.now.out.desc → result ≡ true }
     {
         !self.out.desc.transpose_first && !self.out.desc.transpose_second
     }
