@@ -1,16 +1,17 @@
 -- Names and what they name: each kind and domain is found under its name, and what is found has it.
-use Rattle.std.proofs.Common.{◌≡◌, ℕ, ◌<◌, ◌^◌, true, List, [], ◌∷◌, Some, length, nat_le, nat_lt, refl, ap, inl, inr, arith}
-use Rattle.std.specs.Prelude.{IfSome, decimal, find}
+use Rattle.std.proofs.Common.{◌≡◌, ◌++◌, ℕ, ◌<◌, ◌^◌, true, List, [], ◌∷◌, Some, length, nat_le, nat_lt, refl, ap, inl, inr, arith}
+use Rattle.std.specs.Prelude.{Bool, IfSome, decimal, find}
 use Rattle.std.specs.Char.{is_ascii_digit}
 use Rattle.std.specs.List.{list_all}
-use Rattle.std.specs.Option.{option_map}
+use Rattle.std.specs.Option.{option_map, option_or}
 use Rattle.std.specs.Str.{bytes_eq}
 use Rattle.std.specs.Str.Parse.{digits_value}
 use Rattle.std.proofs.lemmas.Bool.{cases_Bool, le-leb, lt-ltb}
+use Rattle.std.proofs.lemmas.List.Folds.{find-append}
 use Rattle.std.proofs.lemmas.Fmt.{decimal_nonempty, digits_decimal, digits_value-decimal, length-decimal-le}
 use Rattle.std.proofs.lemmas.Slice.Eq.{bytes_eq-Decides}
 use Rattle.algebra.proofs.Digits.{numerals}
-use Rattle.algebra.specs.Names.{unary_name, unary_kinds, unary_from_name, binary_name, binary_kinds, binary_from_name, index_name, index_kinds, index_from_name, monoid_name, monoid_kinds, monoid_from_name, domain_name, domain_from_name, user_number}
+use Rattle.algebra.specs.Names.{unary_name, unary_kinds, unary_from_name, binary_name, binary_kinds, binary_from_name, index_name, index_kinds, index_from_name, monoid_name, monoid_kinds, monoid_from_name, domain_name, domain_from_name, user_number, numerics, comparisons, connectives, positional, by_values}
 use Rattle.algebra.specs.declared.domain.Domain.{Domain}
 use Rattle.algebra.specs.declared.domain.Domain.TheVariants as domains
 use Rattle.algebra.specs.declared.kinds.BinaryKind.{BinaryKind}
@@ -90,3 +91,25 @@ index_found word = found index_name word index_kinds
 pub monoid_found : (word : List ℕ) → IfSome (monoid_from_name word) (λ kind. monoid_name kind ≡ word)
 unfolding monoid_from_name
 monoid_found word = found monoid_name word monoid_kinds
+
+-- ---- names are looked for group by group
+
+abbrev binary_named : List ℕ → BinaryKind → Bool
+binary_named word kind = bytes_eq (binary_name kind) word
+
+abbrev index_named : List ℕ → IndexKind → Bool
+index_named word kind = bytes_eq (index_name kind) word
+
+pub binary_in_groups : (word : List ℕ) → binary_from_name word
+    ≡ option_or (find (binary_named word) numerics)
+    (option_or (find (binary_named word) comparisons) (find (binary_named word) connectives))
+unfolding binary_from_name
+binary_in_groups word = rw (
+  find-append (binary_named word) numerics (comparisons ++ connectives),
+  find-append (binary_named word) comparisons connectives,
+) refl
+
+pub index_in_groups : (word : List ℕ) → index_from_name word
+    ≡ option_or (find (index_named word) positional) (find (index_named word) by_values)
+unfolding index_from_name
+index_in_groups word = find-append (index_named word) positional by_values

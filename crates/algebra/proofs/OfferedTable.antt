@@ -44,14 +44,14 @@ truth_3 = domains.Bool ∷ domains.Bool ∷ domains.Bool ∷ []
 
 abbrev pub binary_rows : List Row
 binary_rows =
-    (codes "PLUS", integers, integers)
-    ∷ (codes "TIMES", integers, integers)
-    ∷ (codes "MIN", integers, integers)
-    ∷ (codes "MAX", integers, integers)
-    ∷ (codes "MINUS", integers, integers)
-    ∷ (codes "FIRST", built_in, built_in)
+    (codes "FIRST", built_in, built_in)
     ∷ (codes "SECOND", built_in, built_in)
     ∷ (codes "ONEB", built_in, built_in)
+    ∷ (codes "MIN", integers, integers)
+    ∷ (codes "MAX", integers, integers)
+    ∷ (codes "PLUS", integers, integers)
+    ∷ (codes "MINUS", integers, integers)
+    ∷ (codes "TIMES", integers, integers)
     ∷ (codes "EQ", built_in, truth_3)
     ∷ (codes "NE", built_in, truth_3)
     ∷ (codes "GT", integers, truth_2)
@@ -111,7 +111,7 @@ index_rows k =
 -- the operators whose answers are integers, on an integer domain
 abbrev with_integers : List (List ℕ)
 with_integers =
-    codes "PLUS" ∷ codes "TIMES" ∷ codes "MIN" ∷ codes "MAX" ∷ codes "MINUS" ∷ codes "FIRST" ∷ codes "SECOND" ∷ codes "ONEB"
+    codes "FIRST" ∷ codes "SECOND" ∷ codes "ONEB" ∷ codes "MIN" ∷ codes "MAX" ∷ codes "PLUS" ∷ codes "MINUS" ∷ codes "TIMES"
     ∷ codes "BOR" ∷ codes "BAND" ∷ codes "BXOR" ∷ codes "BXNOR" ∷ []
 
 -- the operators on BOOL

@@ -98,10 +98,22 @@ binary_name binary.Band = codes "BAND"
 binary_name binary.Bxor = codes "BXOR"
 binary_name binary.Bxnor = codes "BXNOR"
 
+-- the operators whose answers are numbers where their operands are
+abbrev pub numerics : List BinaryKind
+numerics = binary.First ∷ binary.Second ∷ binary.Oneb ∷ binary.Min ∷ binary.Max ∷ binary.Plus ∷ binary.Minus
+    ∷ binary.Times ∷ []
+
+-- those that compare
+abbrev pub comparisons : List BinaryKind
+comparisons = binary.Eq ∷ binary.Ne ∷ binary.Gt ∷ binary.Lt ∷ binary.Ge ∷ binary.Le ∷ []
+
+-- those on truths and on bits
+abbrev pub connectives : List BinaryKind
+connectives = binary.Lor ∷ binary.Land ∷ binary.Lxor ∷ binary.Lxnor ∷ binary.Bor ∷ binary.Band ∷ binary.Bxor
+    ∷ binary.Bxnor ∷ []
+
 abbrev pub binary_kinds : List BinaryKind
-binary_kinds = binary.Plus ∷ binary.Times ∷ binary.Min ∷ binary.Max ∷ binary.Minus ∷ binary.First ∷ binary.Second
-    ∷ binary.Oneb ∷ binary.Eq ∷ binary.Ne ∷ binary.Gt ∷ binary.Lt ∷ binary.Ge ∷ binary.Le ∷ binary.Lor ∷ binary.Land
-    ∷ binary.Lxor ∷ binary.Lxnor ∷ binary.Bor ∷ binary.Band ∷ binary.Bxor ∷ binary.Bxnor ∷ []
+binary_kinds = numerics ++ comparisons ++ connectives
 
 unfoldable pub binary_from_name : List ℕ → Option BinaryKind
 binary_from_name word = find (λ kind. bytes_eq (binary_name kind) word) binary_kinds
@@ -127,10 +139,17 @@ index_name index.ValueLe = codes "VALUELE"
 index_name index.ValueGt = codes "VALUEGT"
 index_name index.ValueGe = codes "VALUEGE"
 
+-- the operators that look at positions alone
+abbrev pub positional : List IndexKind
+positional = index.RowIndex ∷ index.ColIndex ∷ index.DiagIndex ∷ index.Tril ∷ index.Triu ∷ index.Diag ∷ index.OffDiag
+    ∷ index.ColLe ∷ index.ColGt ∷ index.RowLe ∷ index.RowGt ∷ []
+
+-- those that compare values
+abbrev pub by_values : List IndexKind
+by_values = index.ValueEq ∷ index.ValueNe ∷ index.ValueLt ∷ index.ValueLe ∷ index.ValueGt ∷ index.ValueGe ∷ []
+
 abbrev pub index_kinds : List IndexKind
-index_kinds = index.RowIndex ∷ index.ColIndex ∷ index.DiagIndex ∷ index.Tril ∷ index.Triu ∷ index.Diag ∷ index.OffDiag
-    ∷ index.ColLe ∷ index.ColGt ∷ index.RowLe ∷ index.RowGt ∷ index.ValueEq ∷ index.ValueNe ∷ index.ValueLt
-    ∷ index.ValueLe ∷ index.ValueGt ∷ index.ValueGe ∷ []
+index_kinds = positional ++ by_values
 
 unfoldable pub index_from_name : List ℕ → Option IndexKind
 index_from_name word = find (λ kind. bytes_eq (index_name kind) word) index_kinds

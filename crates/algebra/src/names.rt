@@ -1,19 +1,13 @@
 //! The words that name kinds and domains.
-ghost use Rattle.std.specs.Prelude.{◌≡◌, Some};
+ghost use Rattle.std.specs.Prelude.{◌≡◌, Some, find};
+ghost use Rattle.std.specs.Str.{bytes_eq};
 ghost use Rattle.algebra.specs.Names.{binary_from_name, binary_name, built_in_from_name, domain_from_name, domain_name};
 ghost use Rattle.algebra.specs.Names.{domain_word, index_from_name, index_name, monoid_from_name, monoid_name};
-ghost use Rattle.algebra.specs.Names.{unary_from_name, unary_name, user_number};
+ghost use Rattle.algebra.specs.Names.{by_values, comparisons, connectives, numerics, positional, unary_from_name};
+ghost use Rattle.algebra.specs.Names.{unary_name, user_number};
 
 use crate::{BinaryKind, Domain, IndexKind, MonoidKind, UnaryKind};
 use std::fmt;
-
-const UNARY_KINDS: [UnaryKind; 5] = [
-    UnaryKind::Identity,
-    UnaryKind::Ainv,
-    UnaryKind::Abs,
-    UnaryKind::Lnot,
-    UnaryKind::Bnot,
-];
 
 impl UnaryKind {
     /// The name of the kind.
@@ -34,38 +28,16 @@ impl UnaryKind {
     pub fn from_name(word: &[u8]) -> Option<UnaryKind>
         ensures { result ≡ unary_from_name word.now }
     {
-        UNARY_KINDS
-            .iter()
-            .copied()
-            .find(|kind| kind.name().as_bytes() == word)
+        match word {
+            b"IDENTITY" => Some(UnaryKind::Identity),
+            b"AINV" => Some(UnaryKind::Ainv),
+            b"ABS" => Some(UnaryKind::Abs),
+            b"LNOT" => Some(UnaryKind::Lnot),
+            b"BNOT" => Some(UnaryKind::Bnot),
+            _ => None,
+        }
     }
 }
-
-// Those that scripts name most come first.
-const BINARY_KINDS: [BinaryKind; 22] = [
-    BinaryKind::Plus,
-    BinaryKind::Times,
-    BinaryKind::Min,
-    BinaryKind::Max,
-    BinaryKind::Minus,
-    BinaryKind::First,
-    BinaryKind::Second,
-    BinaryKind::Oneb,
-    BinaryKind::Eq,
-    BinaryKind::Ne,
-    BinaryKind::Gt,
-    BinaryKind::Lt,
-    BinaryKind::Ge,
-    BinaryKind::Le,
-    BinaryKind::Lor,
-    BinaryKind::Land,
-    BinaryKind::Lxor,
-    BinaryKind::Lxnor,
-    BinaryKind::Bor,
-    BinaryKind::Band,
-    BinaryKind::Bxor,
-    BinaryKind::Bxnor,
-];
 
 impl BinaryKind {
     /// The name of the kind.
@@ -99,36 +71,68 @@ impl BinaryKind {
     }
 
     /// The kind of a name.
-    #[tactic(auto, unfolding(crate::specs::Names::binary_from_name))]
+    #[tactic(auto, using(crate::proofs::NameLaws::binary_in_groups))]
     pub fn from_name(word: &[u8]) -> Option<BinaryKind>
         ensures { result ≡ binary_from_name word.now }
     {
-        BINARY_KINDS
-            .iter()
-            .copied()
-            .find(|kind| kind.name().as_bytes() == word)
+        if let Some(kind) = numeric(word) {
+            return Some(kind);
+        }
+        if let Some(kind) = comparison(word) {
+            return Some(kind);
+        }
+        connective(word)
     }
 }
 
-const INDEX_KINDS: [IndexKind; 17] = [
-    IndexKind::RowIndex,
-    IndexKind::ColIndex,
-    IndexKind::DiagIndex,
-    IndexKind::Tril,
-    IndexKind::Triu,
-    IndexKind::Diag,
-    IndexKind::OffDiag,
-    IndexKind::ColLe,
-    IndexKind::ColGt,
-    IndexKind::RowLe,
-    IndexKind::RowGt,
-    IndexKind::ValueEq,
-    IndexKind::ValueNe,
-    IndexKind::ValueLt,
-    IndexKind::ValueLe,
-    IndexKind::ValueGt,
-    IndexKind::ValueGe,
-];
+/// The kind of a name of an operator whose answers are values of its domain.
+fn numeric(word: &[u8]) -> Option<BinaryKind>
+    ensures { result ≡ find (λ kind. bytes_eq (binary_name kind) word.now) numerics }
+{
+    match word {
+        b"FIRST" => Some(BinaryKind::First),
+        b"SECOND" => Some(BinaryKind::Second),
+        b"ONEB" => Some(BinaryKind::Oneb),
+        b"MIN" => Some(BinaryKind::Min),
+        b"MAX" => Some(BinaryKind::Max),
+        b"PLUS" => Some(BinaryKind::Plus),
+        b"MINUS" => Some(BinaryKind::Minus),
+        b"TIMES" => Some(BinaryKind::Times),
+        _ => None,
+    }
+}
+
+/// The kind of a name of an operator that compares.
+fn comparison(word: &[u8]) -> Option<BinaryKind>
+    ensures { result ≡ find (λ kind. bytes_eq (binary_name kind) word.now) comparisons }
+{
+    match word {
+        b"EQ" => Some(BinaryKind::Eq),
+        b"NE" => Some(BinaryKind::Ne),
+        b"GT" => Some(BinaryKind::Gt),
+        b"LT" => Some(BinaryKind::Lt),
+        b"GE" => Some(BinaryKind::Ge),
+        b"LE" => Some(BinaryKind::Le),
+        _ => None,
+    }
+}
+
+/// The kind of a name of an operator on truths or bits.
+fn connective(word: &[u8]) -> Option<BinaryKind>
+    ensures { result ≡ find (λ kind. bytes_eq (binary_name kind) word.now) connectives }
+{
+    match word {
+        b"LOR" => Some(BinaryKind::Lor),
+        b"LAND" => Some(BinaryKind::Land),
+        b"LXOR" => Some(BinaryKind::Lxor),
+        b"LXNOR" => Some(BinaryKind::Lxnor),
+        b"BOR" => Some(BinaryKind::Bor),
+        b"BAND" => Some(BinaryKind::Band),
+        b"BXOR" => Some(BinaryKind::Bxor),
+        b"BXNOR" => Some(BinaryKind::Bxnor),
+        _ => None,
+    }
+}
 
 impl IndexKind {
     /// The name of the kind.
@@ -157,30 +161,51 @@ impl IndexKind {
     }
 
     /// The kind of a name.
-    #[tactic(auto, unfolding(crate::specs::Names::index_from_name))]
+    #[tactic(auto, using(crate::proofs::NameLaws::index_in_groups))]
     pub fn from_name(word: &[u8]) -> Option<IndexKind>
         ensures { result ≡ index_from_name word.now }
     {
-        INDEX_KINDS
-            .iter()
-            .copied()
-            .find(|kind| kind.name().as_bytes() == word)
+        match by_position(word) {
+            Some(kind) => Some(kind),
+            None => by_value(word),
+        }
     }
 }
 
-const MONOID_KINDS: [MonoidKind; 11] = [
-    MonoidKind::Plus,
-    MonoidKind::Times,
-    MonoidKind::Min,
-    MonoidKind::Max,
-    MonoidKind::Bor,
-    MonoidKind::Band,
-    MonoidKind::Bxor,
-    MonoidKind::Lor,
-    MonoidKind::Land,
-    MonoidKind::Lxor,
-    MonoidKind::Lxnor,
-];
+/// The kind of a name of an operator that looks at positions alone.
+fn by_position(word: &[u8]) -> Option<IndexKind>
+    ensures { result ≡ find (λ kind. bytes_eq (index_name kind) word.now) positional }
+{
+    match word {
+        b"ROWINDEX" => Some(IndexKind::RowIndex),
+        b"COLINDEX" => Some(IndexKind::ColIndex),
+        b"DIAGINDEX" => Some(IndexKind::DiagIndex),
+        b"TRIL" => Some(IndexKind::Tril),
+        b"TRIU" => Some(IndexKind::Triu),
+        b"DIAG" => Some(IndexKind::Diag),
+        b"OFFDIAG" => Some(IndexKind::OffDiag),
+        b"COLLE" => Some(IndexKind::ColLe),
+        b"COLGT" => Some(IndexKind::ColGt),
+        b"ROWLE" => Some(IndexKind::RowLe),
+        b"ROWGT" => Some(IndexKind::RowGt),
+        _ => None,
+    }
+}
+
+/// The kind of a name of an operator that compares values.
+fn by_value(word: &[u8]) -> Option<IndexKind>
+    ensures { result ≡ find (λ kind. bytes_eq (index_name kind) word.now) by_values }
+{
+    match word {
+        b"VALUEEQ" => Some(IndexKind::ValueEq),
+        b"VALUENE" => Some(IndexKind::ValueNe),
+        b"VALUELT" => Some(IndexKind::ValueLt),
+        b"VALUELE" => Some(IndexKind::ValueLe),
+        b"VALUEGT" => Some(IndexKind::ValueGt),
+        b"VALUEGE" => Some(IndexKind::ValueGe),
+        _ => None,
+    }
+}
 
 impl MonoidKind {
     /// The name of the kind.
@@ -195,17 +220,25 @@ impl MonoidKind {
     pub fn from_name(word: &[u8]) -> Option<MonoidKind>
         ensures { result ≡ monoid_from_name word.now }
     {
-        MONOID_KINDS
-            .iter()
-            .copied()
-            .find(|kind| kind.name().as_bytes() == word)
+        match word {
+            b"PLUS" => Some(MonoidKind::Plus),
+            b"TIMES" => Some(MonoidKind::Times),
+            b"MIN" => Some(MonoidKind::Min),
+            b"MAX" => Some(MonoidKind::Max),
+            b"BOR" => Some(MonoidKind::Bor),
+            b"BAND" => Some(MonoidKind::Band),
+            b"BXOR" => Some(MonoidKind::Bxor),
+            b"LOR" => Some(MonoidKind::Lor),
+            b"LAND" => Some(MonoidKind::Land),
+            b"LXOR" => Some(MonoidKind::Lxor),
+            b"LXNOR" => Some(MonoidKind::Lxnor),
+            _ => None,
+        }
     }
 }
 
 /// What stands before the number of a user domain.
 const USER: &str = "USER:";
-
-const BUILT_IN_DOMAINS: [Domain; 3] = [Domain::Bool, Domain::Int64, Domain::Uint64];
 
 impl Domain {
     /// The name of a built-in domain, and what stands before the number of a user domain.
@@ -226,9 +259,9 @@ impl Domain {
     pub fn from_name(word: &[u8]) -> Option<Domain>
         ensures { result ≡ domain_from_name word.now }
     {
-        match word.strip_prefix(USER.as_bytes()) {
-            Some(digits) => user_number(digits).map(Domain::User),
-            None => built_in(word),
+        match word {
+            [b'U', b'S', b'E', b'R', b':', digits @ ..] => user_number(digits).map(Domain::User),
+            _ => built_in(word),
         }
     }
 }
@@ -237,10 +270,12 @@ impl Domain {
 fn built_in(word: &[u8]) -> Option<Domain>
     ensures { result ≡ built_in_from_name word.now }
 {
-    BUILT_IN_DOMAINS
-        .iter()
-        .copied()
-        .find(|domain| domain.word().as_bytes() == word)
+    match word {
+        b"BOOL" => Some(Domain::Bool),
+        b"INT64" => Some(Domain::Int64),
+        b"UINT64" => Some(Domain::Uint64),
+        _ => None,
+    }
 }
 
 /// The number that 1 to 10 digits write, where it has 32 bits.

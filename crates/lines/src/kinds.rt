@@ -6,6 +6,7 @@ ghost use Rattle.model.specs.Grammar.{by_position_of, by_value_of, desc_of, dott
 ghost use Rattle.model.specs.Grammar.{index_name_of, monoid_name_of, op_name_of, semiring_name_of, unary_name_of};
 ghost use Rattle.model.specs.Grammar.{wait_mode_of};
 
+use crate::operations::is_none;
 use crate::words;
 use algebra::{
     BinaryKind, Domain, IndexKind, IndexName, MonoidKind, MonoidName, OpName, SemiringName,
@@ -198,7 +199,7 @@ pub fn desc(word: &[u8]) -> Option<Desc>
         transpose_first: false,
         transpose_second: false,
     };
-    if word == b"-".as_slice() {
+    if is_none(word) {
         return Some(none);
     }
     flags_added(none, word)

@@ -14,10 +14,10 @@ use model::{Call, Form, OneInput, Operation, Out, Positions, Region, TwoInputs};
 use std::alloc::Global;
 
 /// Whether a word stands for no mask, no accumulator or no flags.
-fn is_none(word: &[u8]) -> bool
+pub(crate) fn is_none(word: &[u8]) -> bool
     ensures { result ≡ is_none_word word.now }
 {
-    word == b"-".as_slice()
+    matches!(word, b"-")
 }
 
 /// A mask's name, or none.
