@@ -18,7 +18,7 @@ pub use model::{
     Signature, Tuple, TupleList, TwoInputs,
 };
 pub use obj::{Obj, Shapes};
-pub use operation::check_operate;
+pub use operation::{check_operate, check_two};
 pub use recipe::{Accepted, Computation, Given, Patch, Recipe, Transpose};
-pub use role::{Role, Roles, by_role};
+pub use role::{Role, Roles, by_role, by_role_of_two};
 pub use turns::{Turns, straight};

@@ -1,6 +1,8 @@
 //! The roles that an operation's objects have in it.
-ghost use Rattle.std.specs.Prelude.{◌≡◌, Some};
+ghost use Rattle.std.specs.Prelude.{◌≡◌, ◌||◌, Some, is_some};
 ghost use Rattle.calls.specs.Roles.{no_roles, roles_of};
+ghost use Rattle.model.specs.declared.call.Operation.TheVariants.{OfTwo};
+ghost use Rattle.model.specs.declared.call.TwoInputs.{TwoInputs};
 ghost use Rattle.model.specs.WriteBack.{reads_old};
 
 use model::{Operation, Out};
@@ -72,12 +74,33 @@ pub fn by_role<K: Copy>(out: &Out<K>, operation: &Operation<K>) -> Roles<K>
     }
 }
 
+/// The same of an operation of two inputs.
+pub fn by_role_of_two<K: Copy>(out: &Out<K>, a: K, b: K) -> Roles<K>
+    ensures { (computes : TwoInputs) → result ≡ roles_of out.now (OfTwo computes a b) }
+{
+    let old = if combines_with_old(out) {
+        Some(out.c)
+    } else {
+        None
+    };
+    Roles {
+        old,
+        mask: out.mask,
+        first: Some(a),
+        second: Some(b),
+    }
+}
+
 /// Whether an operation reads what its output has before it.
 fn reads_old<K: Copy>(out: &Out<K>, operation: &Operation<K>) -> bool
     ensures { result ≡ reads_old out.now operation.now }
 {
-    out.mask.is_some()
-        || out.desc.complement
-        || out.accum.is_some()
-        || operation.as_lent().region_written().is_some()
+    combines_with_old(out) || operation.as_lent().region_written().is_some()
+}
+
+/// Whether it does for what says where its values go: a mask, whose complement may be meant, or an accumulator.
+fn combines_with_old<K: Copy>(out: &Out<K>) -> bool
+    ensures { result ≡ (is_some out.now.mask || out.now.desc.complement || is_some out.now.accum) }
+{
+    out.mask.is_some() || out.desc.complement || out.accum.is_some()
 }

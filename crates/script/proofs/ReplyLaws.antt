@@ -369,3 +369,27 @@ missing_named {X = X} now names call known missing =
     ap found (renamed_twice now number now (λ (n : Name). n) call)
     ∙ found_fewer (λ x. number (now x)) (λ (o : Option Obj). o) refl (λ x. x) now call (sym missing) in
     refused names (renamed now now call) status.UninitializedObject (fault-missing number (environment_of names.session) (renamed now now call) (names_renamed now now call ∙ known) gone)
+
+-- ---- operations, which answer no lines
+
+pub joined_named : {X R T : Type 0} {g : Ghosts R T} (now : X → Name) (old new : Objects R T g) (call : Call X X) (r : Call Obj X)
+    (result : Result (Unit {0}) Status) → made_in old.session < 2 ^ 64 - 1 → changes_names call ≡ false
+    → AreDistinct (number_in old) → new.numbers ≡ old.numbers
+    → renamed Some (λ x. x) r ≡ renamed (λ x. number_in old (now x)) (λ x. x) call
+    → IsPerformed old.session new.session (numbered old.session r) result
+    → IsNamed old new (renamed now now call) result
+joined_named now old new call r result small known distinct same e done =
+    let own = numbered_again now old.session r in
+    let done_own : IsPerformed old.session new.session (numbered old.session (renamed (λ o. o) now r)) result = rw own done in
+    record {
+      ends = ended_named old new (renamed now now call) (renamed (λ o. o) now r) result small (names_renamed now now call ∙ known)
+          distinct same (named_again now (number_in old) call r e) done_own;
+      made = rw done.made (made_after-most old.session result (numbered old.session r));
+    }
+
+pub missing_joined : {X R T : Type 0} {g : Ghosts R T} (now : X → Name) (names : Objects R T g) (call : Call X X) → changes_names call ≡ false
+    → None ≡ found (renamed (λ x. number_in names (now x)) (λ x. x) call)
+    → IsNamed {X = Unit {0}} names names (renamed now now call) (Err status.UninitializedObject)
+missing_joined now names call known missing =
+    let replied = missing_named now names call known missing in
+    record { ends = replied.ends; made = replied.made }

@@ -6,6 +6,9 @@ use Rattle.std.proofs.lemmas.List.{append-nil}
 use Rattle.std.specs.Str.{bytes_eq}
 use Rattle.algebra.specs.declared.domain.Domain.{Domain}
 use Rattle.model.specs.declared.call.Call.{Call}
+use Rattle.model.specs.declared.call.Call.TheVariants.{Operate}
+use Rattle.model.specs.declared.call.Operation.{Operation}
+use Rattle.model.specs.declared.call.Out.{Out}
 use Rattle.model.specs.declared.status.Status.{Status}
 use Rattle.model.specs.declared.status.Status.TheVariants as status
 use Rattle.model.specs.Grammar.{Name, Reading, Silent, Malformed, Called, Loads}
@@ -127,6 +130,18 @@ pub says-refused : {E : Type 0} (r : Result (Unit {0}) E) (reading : Reading Fil
 says-refused (Err refused) reading call number before after s text read why texts = tt
 says-refused (Ok done) reading call number before after s text read why texts =
     rw read (says-fault call number before after s text why texts)
+
+-- an operation that is accepted, which has no data lines, where its answer is written
+pub says-operated : {E : Type 0} (r : Result (Unit {0}) E) (reading : Reading File) (out : Out Name)
+    (operation : Operation Name) (number : ℕ) (before after : State Name) (text : List ℕ)
+    → reading ≡ Called (Operate out operation) → IsAccepted (named_setting before (Operate out operation) after)
+    → OnOk r (text ≡ status_line number status.Ok)
+    → OnOk r (Says number before reading text after)
+unfolding data_lines_of
+says-operated (Err refused) reading out operation number before after text read accepted texts = tt
+says-operated (Ok done) reading out operation number before after text read accepted texts =
+    says-ok reading (Operate out operation) number before after text read accepted
+    (texts ∙ sym (append-nil (status_line number status.Ok)))
 
 -- ---- loads
 

@@ -5,15 +5,17 @@ ghost use Rattle.std.specs.BTreeMap.{get_by_text};
 ghost use Rattle.std.specs.Str.{bytes_eq};
 ghost use Rattle.std.specs.String.{string_bytes};
 ghost use Rattle.calls.specs.declared.obj.Obj.{Obj as Object};
+ghost use Rattle.model.specs.declared.call.Call.TheVariants.{Operate};
+ghost use Rattle.model.specs.declared.call.Operation.TheVariants.{OfTwo};
 ghost use Rattle.model.specs.Marks.{first_state};
-ghost use Rattle.model.specs.Renamed.{renamed};
+ghost use Rattle.model.specs.Renamed.{renamed, renamed_out};
 ghost use Rattle.script.specs.Freed.{IsFreed};
 ghost use Rattle.session.specs.Performed.{environment_of, made_in, state_of};
 
 use crate::printing::print;
 use crate::replies::write_reply;
 use algebra::Domain;
-use model::{Act, Call, Lookup, Shape, Status};
+use model::{Act, Call, Lookup, Out, Shape, Status, TwoInputs};
 use runner::Runner;
 use session::{Obj, Reply, Session};
 use std::alloc::Global;
@@ -103,6 +105,32 @@ impl<R: Runner + Drop> Environment<R> {
             return Err(Status::UninitializedObject);
         };
         self.session.perform(call)
+    }
+
+    /// Does an operation of two inputs on the objects of names, which answers no lines: what `perform` does with it. It
+    /// has a path of its own, since most lines that compute are such, and calls of all kinds are dear to hand on.
+    #[inline(never)]
+    pub fn join(
+        &mut self,
+        out: &Out<&str>,
+        computes: TwoInputs,
+        a: &str,
+        b: &str,
+    ) -> Result<(), Status>
+        requires { made_in self.old.session < 2 ^ 64 - 1 }
+        ensures { IsNamed self.old self.new
+            (Operate (renamed_out (λ name. name.now) out.now) (OfTwo computes a.now b.now)) result }
+    {
+        let Some(out) = out.found(self) else {
+            return Err(Status::UninitializedObject);
+        };
+        let Some(a) = self.find(a) else {
+            return Err(Status::UninitializedObject);
+        };
+        let Some(b) = self.find(b) else {
+            return Err(Status::UninitializedObject);
+        };
+        self.session.of_two(&out, computes, a, b)
     }
 
     /// Writes the canonical text of the object of a name.

@@ -14,7 +14,7 @@ use crate::environment::Environment;
 use crate::sources::Sources;
 use crate::text;
 use lines::{Line, LineFault, first_line, parse_line};
-use model::{NoMemory, Status};
+use model::{Call, NoMemory, Operation, Status};
 use runner::Runner;
 use std::alloc::{AllocError, Global};
 
@@ -88,7 +88,24 @@ fn answer_line<S: Sources, R: Runner + Drop>(
         (with_file (S.held sources.now) (reading_of line.now)) text.new.items (state_in environment.new)) }
     ensures made { made_in environment.new.session ≤ made_in environment.old.session + 1 }
 {
-    match parse_line(alloc, line) {
+    let read = parse_line(alloc, line);
+    // Most lines that compute have two inputs. Where they are, what was read isn't moved, which would copy the fields
+    // of calls of all kinds.
+    if let Ok(
+        Line::Call(
+            Call::Operate {
+                out,
+                operation: Operation::OfTwo { computes, a, b },
+            },
+        ),
+    ) = &read
+    {
+        return match environment.join(out, *computes, a, b) {
+            Ok(()) => text::write_status(text, number, Status::Ok),
+            Err(status) => text::write_status(text, number, status),
+        };
+    }
+    match read {
         Ok(Line::Silent) => Ok(()),
         Ok(Line::Call(call)) => {
             text::write_status(text, number, Status::Ok)?;

@@ -1,12 +1,13 @@
 //! Operations on the objects of a session.
-ghost use Rattle.std.specs.Prelude.{◌≡◌, IfOk, IfSome, OnOk, Some, false, is_some, not, true};
+ghost use Rattle.std.specs.Prelude.{◌≡◌, IfOk, IfSome, None, OnOk, Some, false, is_some, not, true};
 ghost use Rattle.std.specs.Option.{option_map};
 ghost use Rattle.calls.specs.declared.obj.Obj.{Obj as AnyObj};
 ghost use Rattle.calls.specs.declared.role.Role.{Role as AnyRole};
-ghost use Rattle.calls.specs.Recipes.{known_by_role, meaning};
-ghost use Rattle.calls.specs.Roles.{role_of};
+ghost use Rattle.calls.specs.Recipes.{IsAcceptedOf, known_by_role, meaning};
+ghost use Rattle.calls.specs.Roles.{role_of, roles_of};
 ghost use Rattle.calls.specs.Stores.{object_with};
 ghost use Rattle.model.specs.declared.call.Call.TheVariants.{Operate};
+ghost use Rattle.model.specs.declared.call.Out.{Out as AnyOut};
 ghost use Rattle.model.specs.Marks.{told};
 ghost use Rattle.model.specs.Run.{object_at};
 ghost use Rattle.objects.specs.Tables.{state_in};
@@ -17,15 +18,15 @@ use crate::sessions::Session;
 use algebra::{FunctionName, IndexName, MonoidName, OpName, SemiringName};
 use calls::{
     Accepted, Form, Obj, OneInput, Operation, Out, Positions, Region, Roles, TwoInputs, by_role,
-    check_operate,
+    by_role_of_two, check_operate, check_two,
 };
 use model::{NoMemory, Status};
 use objects::{Table, Value, ready_ticket};
 use runner::{Runner, submit_accepted};
 
 impl<R: Runner + Drop> Session<R> {
-    ghost use Rattle.session.specs.Performed.{AreReady, IsPerformed, environment_of, is_ready_in, known_in, made_in};
-    ghost use Rattle.session.specs.Performed.{state_of};
+    ghost use Rattle.session.specs.Performed.{AreReady, IsPerformed, early_in, environment_of, is_ready_in, known_in};
+    ghost use Rattle.session.specs.Performed.{made_in, state_of};
 
     /// Multiplies two matrices over a semiring into a third (`GrB_mxm`).
     pub fn mxm(
@@ -205,10 +206,20 @@ impl<R: Runner + Drop> Session<R> {
     }
 
     /// Computes an operation on two inputs.
-    fn of_two(&mut self, out: &Out<Obj>, computes: TwoInputs, a: Obj, b: Obj) -> Result<(), Status>
+    #[inline(never)]
+    pub fn of_two(
+        &mut self,
+        out: &Out<Obj>,
+        computes: TwoInputs,
+        a: Obj,
+        b: Obj,
+    ) -> Result<(), Status>
         ensures { IsPerformed self.old self.new (Operate out.now (Operation.OfTwo computes a b)) result }
     {
-        self.operate(out, Operation::OfTwo { computes, a, b })
+        let objects = by_role_of_two(out, a, b);
+        let accepted = check_two(self, out, computes, a, b)?;
+        let accepted = Box::new(self.alloc, accepted)?;
+        self.write(out.c, accepted, &objects)
     }
 
     /// Computes an operation, and writes it into its output. The same object may be output, mask and
@@ -218,28 +229,43 @@ impl<R: Runner + Drop> Session<R> {
     {
         let objects = by_role(out, &operation);
         let accepted = check_operate(self, out, operation)?;
+        let accepted = Box::new(self.alloc, accepted)?;
+        self.write(out.c, accepted, &objects)
+    }
+
+    /// Writes into an object what an accepted operation leaves of the objects that have its roles.
+    fn write(&mut self, c: Obj, accepted: Box<Accepted>, objects: &Roles<Obj>) -> Result<(), Status>
+        requires known { (role : AnyRole)
+            → option_map Some (known_by_role accepted.value.out accepted.value.operation role)
+            ≡ option_map (known_in self.old) (role_of objects.now role) }
+        requires there { is_some ((environment_of self.old).find_object c) ≡ true }
+        ensures { (out : AnyOut AnyObj) (operation : Operation AnyObj) → out.c ≡ c
+            → objects.now ≡ roles_of out operation → early_in self.old (Operate out operation) ≡ None
+            → IsAcceptedOf (known_in self.old) out operation accepted.value
+            → IsPerformed self.old self.new (Operate out operation) result }
+    {
         let of = accepted.out.c;
         self.begin()?;
-        let value = self.computed(accepted, &objects)?;
-        self.put(out.c, of, value);
+        let value = self.computed(accepted, objects)?;
+        self.put(c, of, value);
         Ok(())
     }
 
     /// The value of what an accepted operation leaves of the objects that have its roles.
     fn computed(
         &mut self,
-        accepted: Accepted,
+        accepted: Box<Accepted>,
         objects: &Roles<Obj>,
     ) -> Result<Value<R::Ticket>, NoMemory>
-        requires known { (role : AnyRole) → option_map Some (known_by_role accepted.out accepted.operation role)
+        requires known { (role : AnyRole)
+            → option_map Some (known_by_role accepted.value.out accepted.value.operation role)
             ≡ option_map (known_in self.old) (role_of objects.now role) }
         ensures value { IfOk result (IsPutOff R.object_of (any_told (state_of self.old) objects.now)
-            (object_with accepted.out.c
-            (meaning accepted.out accepted.operation (maps_at (environment_of self.old) objects.now)))) }
+            (object_with accepted.value.out.c
+            (meaning accepted.value.out accepted.value.operation (maps_at (environment_of self.old) objects.now)))) }
         ensures state { state_of self.new ≡ state_of self.old }
         ensures made { made_in self.new ≡ made_in self.old }
     {
-        let accepted = Box::new(self.alloc, accepted)?;
         let Some(tickets) = tickets_of(&self.table, objects) else {
             return self.computed_of_given(accepted, objects);
         };
