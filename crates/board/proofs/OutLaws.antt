@@ -1,6 +1,6 @@
 -- A board whose task goes out.
 use Rattle.std.proofs.Common.{◌≡◌, ◌≢◌, ◌∙◌, ℕ, ◌<◌, ◌&&◌, Bool, true, false, cond, eqb, List, length, map, Option, Some, None, slice_get, slice_set, refl, sym, ap, arith, subst}
-use Rattle.std.specs.Prelude.{◌≤◌, OnSome, remove, slice_index}
+use Rattle.std.specs.Prelude.{◌≤◌, remove, slice_index}
 use Rattle.std.specs.Option.{option_and_then, option_map}
 use Rattle.calls.specs.declared.recipe.Recipe.{Recipe}
 use Rattle.std.proofs.lemmas.Bool.{and_parts, eqb-true}
@@ -165,10 +165,6 @@ pub taken_view : {N : Type 0} (v : View N) (ps : List Progress) (k : ℕ) (t : T
     → ps ≡ with_moved (slice_set v.progress k Running) (sole_in v.tasks v.progress v.holds t.inputs.old) → record v { progress = ps } ≡ taken v k
 taken_view v ps k t is e =
     ap (λ (qs : List Progress). record v { progress = qs }) (e ∙ ap (λ (o : Option Task). with_moved (slice_set v.progress k Running) (option_and_then (λ (u : Task). sole_in v.tasks v.progress v.holds u.inputs.old) o)) (sym is))
-
-pub on_some : {X P : Type 0} (o : Option X) (x : X) → o ≡ Some x → OnSome o P → P
-on_some None x e h = absurd (cc (e))
-on_some (Some y) x e h = h
 
 pub cc_stages : (l : List Stage) (a b hs rs : List ℕ) (o : Option ℕ) → a ≡ hs → b ≡ rs → stages_after l a b o ≡ stages_after l hs rs o
 cc_stages l a b hs rs o e f = ap (λ x. stages_after l x b o) e ∙ ap (λ y. stages_after l hs y o) f

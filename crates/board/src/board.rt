@@ -12,7 +12,7 @@ use crate::look::{Look, Refusal};
 use crate::looking::{is_gone, look_at};
 use crate::piece::{Given, Piece, Stores};
 use crate::reads::{hold_less, hold_more, is_unasked, read_less, release, release_each};
-use crate::ready::withdraw;
+use crate::ready::{remove_at, withdraw};
 use crate::sharing::{again, claim, share};
 use crate::slot::Slot;
 use crate::stage::{Stage, is_joining, is_running, put, take_recipe};
@@ -237,7 +237,7 @@ impl<N: Drop> Board<N> {
         let second = share(&self.stages, inputs.second)?;
         let old = claim(&mut self.stages, &self.holds, &self.reads, inputs.old)?;
         let recipe = take_recipe(&mut self.stages, number);
-        let _ = self.ready.remove(at);
+        remove_at(&mut self.ready, at);
         Ok(Piece {
             number,
             piece: 0,

@@ -61,6 +61,7 @@ fn one_more(reads: &mut Vec<u64>, input: Option<u64>)
 }
 
 /// The store of a slot goes where nobody needs it.
+#[inline(always)]
 pub(crate) fn release(stages: &mut Vec<Stage>, holds: &[u64], reads: &[u64], input: Option<u64>)
     ensures { (k : ℕ) → slice_get stages.new.items k
         ≡ option_map (released_if (is_at input k) (slice_index holds.now k + slice_index reads.now k))

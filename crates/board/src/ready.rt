@@ -1,7 +1,7 @@
 //! The slots that can be taken: their numbers, rising.
 ghost use Rattle.std.specs.Prelude.{◌≡◌, ◌≤◌, ◌<◌, ◌||◌, ◌&&◌, ◌==◌, ◌≢◌, ℕ, Bool as Test, MatchBool, Some, not};
-ghost use Rattle.std.specs.Prelude.{slice_get};
-ghost use Rattle.std.specs.VecDeque.{deque_capacity};
+ghost use Rattle.std.specs.Prelude.{remove, slice_get};
+ghost use Rattle.std.specs.VecDeque.{deque_capacity, deque_len};
 ghost use Rattle.board.specs.Numbers.{IsPlace, numbers};
 
 use std::collections::VecDeque;
@@ -27,8 +27,21 @@ pub(crate) fn withdraw(ready: &mut VecDeque<u64>, number: u64)
 {
     let place = place_of(ready, number);
     if stands_at(ready, place, number) {
-        let _ = ready.remove(place);
+        remove_at(ready, place);
     }
+}
+
+/// What stands at a place is among them no longer. The first is taken off, so that no other moves.
+pub(crate) fn remove_at(ready: &mut VecDeque<u64>, at: usize)
+    requires { at < deque_len ready.old }
+    ensures items { ready.new.items ≡ remove ready.old.items at }
+    ensures capacity { deque_capacity ready.new ≡ deque_capacity ready.old }
+{
+    if at == 0 {
+        let _ = ready.pop_front();
+        return;
+    }
+    let _ = ready.remove(at);
 }
 
 fn stands_at(ready: &VecDeque<u64>, place: usize, number: u64) -> bool

@@ -116,7 +116,9 @@ fn was_made(stages: &[Stage], input: Option<u64>) -> bool
     }
 }
 
-/// One slot comes to another stage. What it had goes.
+/// One slot comes to another stage. What it had goes. It is inlined, since most stages have little in them, and one
+/// that is handed on is copied with the fields of all.
+#[inline(always)]
 pub(crate) fn put(stages: &mut Vec<Stage>, number: u64, stage: Stage)
     ensures { stages.new.items ≡ slice_set stages.old.items number stage }
 {

@@ -1,6 +1,5 @@
 use Rattle.std.proofs.Common.{◌∙◌, ℕ, ap, arith, length, map, refl, slice_get}
 use Rattle.std.proofs.lemmas.List.{length-map}
-use Rattle.std.proofs.lemmas.Option.{slice_get_within}
 use Rattle.board.specs.Boards.{view_of}
 use Rattle.board.specs.Sharing.{stored_at}
 use Rattle.board.specs.Slots.{task_of}
@@ -9,7 +8,7 @@ use Rattle.model.specs.declared.shape.Signature.{Signature}
 use Rattle.model.specs.Object.{rows_of}
 use Rattle.board.specs.Stages.{has_store, progress_of}
 use Rattle.board.proofs.BoardLaws.{slot_at}
-use Rattle.board.proofs.OutLaws.{cc_stages, each-first, each-mask, each-old, each-second, on_some, ready_at, recipe_out, sound_out, sound_room, stores_there, taken_view, untaken_after}
+use Rattle.board.proofs.OutLaws.{cc_stages, each-first, each-mask, each-old, each-second, ready_at, recipe_out, sound_out, sound_room, stores_there, taken_view, untaken_after}
 use Rattle.board.proofs.PieceLaws.{had_all, object_for, piece_for}
 use Rattle.board.proofs.board.Board.take_at.Goals as goal
 
@@ -53,10 +52,9 @@ invariant_of-self-2 g c =
     let low = (ready_at _ _ _ _ _ _ _ c.args.self.now.sound c.args.at c.args.number c.requires).0 in
     let task = slot_at (task_of {N = _}) c.args.self.now.slots.items (length c.args.self.now.slots.items) c.args.number c.index-slot.result.now refl (omega (arith, low, length-map c.args.self.now.slots.items (task_of {N = _}))) c.index-slot.ensures in
     let claimed = c.in_ok-old.ensures.stages ∙ cc_stages c.args.self.now.stages.items c.deref-4.result.now c.deref-5.result.now c.args.self.now.holds.items c.args.self.now.reads.items c.index-slot.result.now.inputs.old c.deref-4.ensures.value c.deref-5.ensures.value in
-    let within = slice_get_within c.args.self.now.ready.items c.args.at c.args.number c.requires in
-    let removed = on_some c.remove.result _ (c.remove.ensures.succeeds 0 (omega (arith, within))) c.remove.ensures.items in
+    let removed = c.remove_at.ensures.items in
     let out = sound_out _ _ _ _ _ _ _ c.args.self.now.sound c.args.at c.args.number c.requires (task_of {N = _} c.index-slot.result.now)
-    c.claim.new.stages.items c.take_recipe-recipe.new.stages.items c.remove.new.self.items task
+    c.claim.new.stages.items c.take_recipe-recipe.new.stages.items c.remove_at.new.ready.items task
     (object_for _ _ _ _ _ _ _ c.args.self.now.sound c.args.number (task_of {N = _} c.index-slot.result.now) task
     (stores_there _ _ _ _ _ _ _ c.args.self.now.sound c.args.at c.args.number c.requires c.args.self.now.stages.items (task_of {N = _} c.index-slot.result.now) task refl)
     (stored_for (record { old = c.in_ok-old.old; mask = c.in_ok-mask.mask; first = c.in_ok-first.first; second = c.in_ok-second.second }))
@@ -66,17 +64,16 @@ invariant_of-self-2 g c =
     (c.in_ok-first.ensures ∙ ap (λ l. stored_at l c.index-slot.result.now.inputs.first) c.deref-2.ensures.value)
     (c.in_ok-second.ensures ∙ ap (λ l. stored_at l c.index-slot.result.now.inputs.second) c.deref-3.ensures.value)) c.deref.result)
     claimed c.take_recipe-recipe.ensures.stages removed in
-    record { sound = sound_room _ _ _ _ _ _ _ _ out.0 (omega (arith, c.remove.ensures.capacity)) }
+    record { sound = sound_room _ _ _ _ _ _ _ _ out.0 (omega (arith, c.remove_at.ensures.capacity)) }
 
 pub returns-clause-taken : goal.returns-clause-taken
 returns-clause-taken g c =
     let low = (ready_at _ _ _ _ _ _ _ c.args.self.now.sound c.args.at c.args.number c.requires).0 in
     let task = slot_at (task_of {N = _}) c.args.self.now.slots.items (length c.args.self.now.slots.items) c.args.number c.index-slot.result.now refl (omega (arith, low, length-map c.args.self.now.slots.items (task_of {N = _}))) c.index-slot.ensures in
     let claimed = c.in_ok-old.ensures.stages ∙ cc_stages c.args.self.now.stages.items c.deref-4.result.now c.deref-5.result.now c.args.self.now.holds.items c.args.self.now.reads.items c.index-slot.result.now.inputs.old c.deref-4.ensures.value c.deref-5.ensures.value in
-    let within = slice_get_within c.args.self.now.ready.items c.args.at c.args.number c.requires in
-    let removed = on_some c.remove.result _ (c.remove.ensures.succeeds 0 (omega (arith, within))) c.remove.ensures.items in
+    let removed = c.remove_at.ensures.items in
     let out = sound_out _ _ _ _ _ _ _ c.args.self.now.sound c.args.at c.args.number c.requires (task_of {N = _} c.index-slot.result.now)
-    c.claim.new.stages.items c.take_recipe-recipe.new.stages.items c.remove.new.self.items task
+    c.claim.new.stages.items c.take_recipe-recipe.new.stages.items c.remove_at.new.ready.items task
     (object_for _ _ _ _ _ _ _ c.args.self.now.sound c.args.number (task_of {N = _} c.index-slot.result.now) task
     (stores_there _ _ _ _ _ _ _ c.args.self.now.sound c.args.at c.args.number c.requires c.args.self.now.stages.items (task_of {N = _} c.index-slot.result.now) task refl)
     (stored_for (record { old = c.in_ok-old.old; mask = c.in_ok-mask.mask; first = c.in_ok-first.first; second = c.in_ok-second.second }))
@@ -93,8 +90,7 @@ returns-clause-piece g c =
     let low = (ready_at _ _ _ _ _ _ _ c.args.self.now.sound c.args.at c.args.number c.requires).0 in
     let task = slot_at (task_of {N = _}) c.args.self.now.slots.items (length c.args.self.now.slots.items) c.args.number c.index-slot.result.now refl (omega (arith, low, length-map c.args.self.now.slots.items (task_of {N = _}))) c.index-slot.ensures in
     let claimed = c.in_ok-old.ensures.stages ∙ cc_stages c.args.self.now.stages.items c.deref-4.result.now c.deref-5.result.now c.args.self.now.holds.items c.args.self.now.reads.items c.index-slot.result.now.inputs.old c.deref-4.ensures.value c.deref-5.ensures.value in
-    let within = slice_get_within c.args.self.now.ready.items c.args.at c.args.number c.requires in
-    let removed = on_some c.remove.result _ (c.remove.ensures.succeeds 0 (omega (arith, within))) c.remove.ensures.items in
+    let removed = c.remove_at.ensures.items in
     piece_for _ _ _ _ _ _ _ c.args.self.now.sound c.args.number (task_of {N = _} c.index-slot.result.now) task
     (stores_there _ _ _ _ _ _ _ c.args.self.now.sound c.args.at c.args.number c.requires c.args.self.now.stages.items (task_of {N = _} c.index-slot.result.now) task refl)
     _ (had_all (record { old = c.in_ok-old.old; mask = c.in_ok-mask.mask; first = c.in_ok-first.first; second = c.in_ok-second.second }) c.args.self.now.stages.items c.index-slot.result.now.inputs
