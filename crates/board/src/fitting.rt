@@ -1,6 +1,8 @@
 //! Whether slots take the roles of recipes.
 ghost use Rattle.std.specs.Prelude.{◌≡◌, ◌↔◌, IsTrue, MatchBool, Some, map};
+ghost use Rattle.std.specs.Option.{option_map};
 ghost use Rattle.calls.specs.Recipes.{inputs_of};
+ghost use Rattle.calls.specs.Roles.{lent_roles};
 ghost use Rattle.board.specs.Fits.{AreThere, IsThere};
 ghost use Rattle.board.specs.Slots.{task_of};
 ghost use Rattle.board.specs.Tasks.{known_at};
@@ -8,24 +10,25 @@ ghost use Rattle.board.specs.Tasks.{known_at};
 use crate::looking::is_gone;
 use crate::slot::Slot;
 use crate::stage::Stage;
-use calls::{Recipe, Roles, Signature, by_role};
+use calls::{Recipe, Roles, Signature, lent_by_role};
 
 /// What is known of the inputs of a recipe.
-fn inputs_of(recipe: &Recipe) -> Roles<Signature>
-    ensures { result ≡ inputs_of recipe.now }
+#[inline(always)]
+fn inputs_of(recipe: &Recipe) -> Roles<&Signature>
+    ensures { lent_roles result ≡ inputs_of recipe.now }
 {
     match recipe {
         Recipe::New(_) => Roles::none(),
         Recipe::Given(_) => Roles::none(),
-        Recipe::Patch(patch) => Roles::of_old(patch.of),
-        Recipe::Resized { of, .. } => Roles::of_old(*of),
+        Recipe::Patch(patch) => Roles::of_old(&patch.of),
+        Recipe::Resized { of, .. } => Roles::of_old(of),
         Recipe::Transposed(turn) => Roles {
-            first: Some(turn.of),
+            first: Some(&turn.of),
             ..Roles::none()
         },
         Recipe::Computed(computation) => {
             let accepted = &computation.accepted;
-            by_role(&accepted.out, &accepted.operation)
+            lent_by_role(&accepted.out, &accepted.operation)
         }
     }
 }
@@ -57,10 +60,11 @@ pub(crate) fn are_there<N>(
 fn is_there<N>(
     slots: &[Slot<N>],
     stages: &[Stage],
-    known: Option<Signature>,
+    known: Option<&Signature>,
     input: Option<u64>,
 ) -> bool
-    ensures { IsTrue result ↔ IsThere (map task_of slots.now) stages.now known input }
+    ensures { IsTrue result ↔ IsThere (map task_of slots.now) stages.now
+        (option_map (λ known. known.now) known.entry) input }
 {
     match (known, input) {
         (None, None) => true,
@@ -69,21 +73,21 @@ fn is_there<N>(
     }
 }
 
-fn is_of<N>(slots: &[Slot<N>], number: u64, known: Signature) -> bool
-    ensures { IsTrue result ↔ (known_at (map task_of slots.now) number ≡ Some known) }
+fn is_of<N>(slots: &[Slot<N>], number: u64, known: &Signature) -> bool
+    ensures { IsTrue result ↔ (known_at (map task_of slots.now) number ≡ Some known.now) }
 {
     match signature_of(slots, number) {
-        Some(of) => of == known,
+        Some(of) => *of == *known,
         None => false,
     }
 }
 
 /// What is known of what the task of a slot makes.
-fn signature_of<N>(slots: &[Slot<N>], number: u64) -> Option<Signature>
-    ensures { result ≡ known_at (map task_of slots.now) number }
+fn signature_of<N>(slots: &[Slot<N>], number: u64) -> Option<&Signature>
+    ensures { option_map (λ of. of.now) result ≡ known_at (map task_of slots.now) number }
 {
     match slots.get(number as usize) {
-        Some(slot) => Some(slot.of),
+        Some(slot) => Some(&slot.of),
         None => None,
     }
 }

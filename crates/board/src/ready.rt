@@ -1,6 +1,6 @@
 //! The slots that can be taken: their numbers, rising.
 ghost use Rattle.std.specs.Prelude.{◌≡◌, ◌≤◌, ◌<◌, ◌||◌, ◌&&◌, ◌==◌, ◌≢◌, ℕ, Bool as Test, MatchBool, Some, not};
-ghost use Rattle.std.specs.Prelude.{remove, slice_get};
+ghost use Rattle.std.specs.Prelude.{insert, remove, slice_get};
 ghost use Rattle.std.specs.VecDeque.{deque_capacity, deque_len};
 ghost use Rattle.board.specs.Numbers.{IsPlace, numbers};
 
@@ -16,7 +16,20 @@ pub(crate) fn insert(ready: &mut VecDeque<u64>, number: u64)
     if stands_at(ready, place, number) {
         return;
     }
-    let _ = ready.insert(place, number);
+    let _ = put_at(ready, place, number);
+}
+
+/// A number comes to stand at a place, where there is room. At the end no other moves.
+fn put_at(ready: &mut VecDeque<u64>, place: usize, number: u64) -> bool
+    requires { place ≤ deque_len ready.old }
+    ensures items { MatchBool result (ready.new.items ≡ insert ready.old.items place number)
+        (deque_capacity ready.old ≤ deque_len ready.old) }
+    ensures capacity { deque_capacity ready.old ≤ deque_capacity ready.new }
+{
+    if place == ready.len() {
+        return ready.push_back(number).is_ok();
+    }
+    ready.insert(place, number).is_ok()
 }
 
 /// A number is among them no longer, if it was.

@@ -33,6 +33,8 @@ pub(crate) fn wait_for(
     Ok(())
 }
 
+/// It is inlined, since most roles have no slot.
+#[inline(always)]
 fn wait_for_one(
     readers: &mut Vec<Readers>,
     stages: &[Stage],
@@ -52,6 +54,7 @@ fn wait_for_one(
     Ok(())
 }
 
+#[inline(never)]
 fn add(readers: &mut Vec<Readers>, input: u64, number: u64) -> Result<(), NoMemory>
     requires { input < length readers.old.items }
     ensures grows { Grows (map (λ r. r.items) readers.old.items) (map (λ r. r.items) readers.new.items) }

@@ -1,5 +1,7 @@
 -- The roles of an operation's objects.
 use Rattle.std.specs.Prelude.{if◌then◌else◌, Option, Some, None}
+use Rattle.std.specs.Borrow.{Bor}
+use Rattle.std.specs.Option.{option_map}
 use Rattle.calls.specs.declared.role.Role.{Role}
 use Rattle.calls.specs.declared.role.Role.TheVariants.{Old, Mask, First, Second}
 use Rattle.calls.specs.declared.role.Roles.{Roles}
@@ -17,6 +19,15 @@ role_of roles Second = roles.second
 
 abbrev pub no_roles : {T : Type 0} → Roles T
 no_roles = record { old = None; mask = None; first = None; second = None }
+
+-- what roles have that are lent
+abbrev pub lent_roles : {T : Type 0} → Roles (Bor T) → Roles T
+lent_roles roles = record {
+  old = option_map (λ t. t.now) roles.old;
+  mask = option_map (λ t. t.now) roles.mask;
+  first = option_map (λ t. t.now) roles.first;
+  second = option_map (λ t. t.now) roles.second;
+}
 
 -- the inputs of an operation
 abbrev pub first_of : {K : Type 0} → Operation K → Option K

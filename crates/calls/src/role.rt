@@ -1,6 +1,6 @@
 //! The roles that an operation's objects have in it.
 ghost use Rattle.std.specs.Prelude.{◌≡◌, ◌||◌, Some, is_some};
-ghost use Rattle.calls.specs.Roles.{no_roles, roles_of};
+ghost use Rattle.calls.specs.Roles.{lent_roles, no_roles, roles_of};
 ghost use Rattle.model.specs.declared.call.Operation.TheVariants.{OfTwo};
 ghost use Rattle.model.specs.declared.call.TwoInputs.{TwoInputs};
 ghost use Rattle.model.specs.WriteBack.{reads_old};
@@ -56,19 +56,33 @@ impl<T> Roles<T> {
 pub fn by_role<K: Copy>(out: &Out<K>, operation: &Operation<K>) -> Roles<K>
     ensures { result ≡ roles_of out.now operation.now }
 {
+    let lent = lent_by_role(out, operation);
+    Roles {
+        old: lent.old.copied(),
+        mask: lent.mask.copied(),
+        first: lent.first.copied(),
+        second: lent.second.copied(),
+    }
+}
+
+/// The same, lent. It is inlined, since most who ask for the roles look at one after the other.
+#[inline(always)]
+pub fn lent_by_role<'a, K: Copy>(out: &'a Out<K>, operation: &'a Operation<K>) -> Roles<&'a K>
+    ensures { lent_roles result ≡ roles_of out.now operation.now }
+{
     let (first, second) = match operation {
         Operation::Fill { .. } => (None, None),
-        Operation::OfOne { a, .. } => (Some(*a), None),
-        Operation::OfTwo { a, b, .. } => (Some(*a), Some(*b)),
+        Operation::OfOne { a, .. } => (Some(a), None),
+        Operation::OfTwo { a, b, .. } => (Some(a), Some(b)),
     };
     let old = if reads_old(out, operation) {
-        Some(out.c)
+        Some(&out.c)
     } else {
         None
     };
     Roles {
         old,
-        mask: out.mask,
+        mask: out.mask.as_ref(),
         first,
         second,
     }

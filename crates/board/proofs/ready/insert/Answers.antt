@@ -1,13 +1,13 @@
-use Rattle.std.proofs.Common.{◌≡◌, ◌∙◌, ℕ, ◌+◌, ◌≤◌, ◌||◌, Ok, Err, Result, arith, eqb, ap, length, slice_get, sym, subst}
-use Rattle.std.specs.Prelude.{insert, OnErr, OnOk}
+use Rattle.std.proofs.Common.{◌≡◌, ◌∙◌, ℕ, ◌+◌, ◌≤◌, ◌||◌, Bool, true, false, arith, eqb, ap, length, slice_get, sym, subst}
+use Rattle.std.specs.Prelude.{MatchBool, insert}
 use Rattle.std.proofs.lemmas.List.Edits.{length-insert}
 use Rattle.board.specs.Numbers.{IsPlace, numbers}
 use Rattle.board.proofs.NumberLaws.{length_numbers, numbers_with, numbers_with_same}
 use Rattle.board.proofs.ready.insert.Goals as goal
 
-on_result : {T E A B P : Type 0} (r : Result T E) → OnOk r A → OnErr r B → (A → P) → (B → P) → P
-on_result (Ok x) a b f g = f a
-on_result (Err e) a b f g = g b
+on_result : {A B P : Type 0} (r : Bool) → MatchBool r A B → (A → P) → (B → P) → P
+on_result true h f g = f h
+on_result false h f g = g h
 
 pub returns-then-stands_at-clause-numbers : goal.returns-then-stands_at-clause-numbers
 returns-then-stands_at-clause-numbers c p n is low room =
@@ -20,7 +20,7 @@ returns-clause-numbers c p n is low room =
     numbers_with p n c.args.number place (subst (λ l. IsPlace l c.args.number place) is c.place_of-place.ensures) low
     (λ at. c.if-stands_at.ensures (ap (λ l. slice_get l place) is ∙ at)) in
     let within : place ≤ length c.args.ready.now.items = c.place_of-place.ensures.within in
-    on_result c.insert.result c.insert.ensures.items c.insert.ensures.full
+    on_result c.put_at.result c.put_at.ensures.items
     (λ items. items ∙ (ap (λ l. insert l place c.args.number) is ∙ sym with))
     (λ full.
     let most = length_numbers (λ k. p k || eqb k c.args.number) n in
