@@ -1,2 +1,3 @@
 pub mod DeskLaws
+pub mod EndLaws
 pub mod WorkLaws

@@ -1,12 +1,16 @@
 //! Pieces of work, done.
-ghost use Rattle.std.specs.Prelude.{◌≡◌, ◌≤◌, IfOk, IfSome};
+ghost use Rattle.std.specs.Prelude.{◌≡◌, ◌<◌, ◌≤◌, IfOk, IfSome, OnErr, OnOk, slice_get, true};
 ghost use Rattle.std.specs.Arc.{arc_value};
+ghost use Rattle.std.specs.Bool.{OnTrue};
 ghost use Rattle.board.specs.Boards.{view_of};
+ghost use Rattle.board.specs.Events.{may_fail};
 ghost use Rattle.board.specs.Pieces.{IsPieceFor, maps_in};
+ghost use Rattle.board.specs.Progress.{is_running};
 ghost use Rattle.board.specs.Stores.{stored_for};
 ghost use Rattle.board.specs.Tasks.{object_at};
 ghost use Rattle.calls.specs.declared.role.Role.{Role as AnyRole};
 ghost use Rattle.calls.specs.Recipes.{known_by, known_of};
+ghost use Rattle.inline.specs.Ends.{unfinished};
 ghost use Rattle.kernel.specs.Pieces.{HasForm, IsPieceOf};
 ghost use Rattle.kernel.specs.Takes.{Takes};
 ghost use Rattle.model.specs.Object.{rows_of};
@@ -34,8 +38,8 @@ pub(crate) fn finish<P: Picker, N: Drop>(
     ensures tasks { (view_of board.new).tasks ≡ (view_of board.old).tasks }
     ensures notes { (view_of board.new).notes ≡ (view_of board.old).notes }
 {
-    // Each round does a task or fails one, and a board has fewer.
-    for _ in 0..u64::MAX {
+    // Each round does a task or fails one.
+    loop {
         if let Some(found) = look(board, slot) {
             return found;
         }
@@ -43,7 +47,6 @@ pub(crate) fn finish<P: Picker, N: Drop>(
             return Err(Failed);
         }
     }
-    Err(Failed)
 }
 
 /// The store of a slot, or that none will come. None while it is still to come.
@@ -58,7 +61,7 @@ fn look<N: Drop>(board: &Board<N>, slot: u64) -> Option<Result<Arc<Store>, Faile
     }
 }
 
-/// Does one of the tasks that can be done, if there is one.
+/// Does one of the tasks that can be done, if there is one: then fewer are left.
 pub(crate) fn work_once<P: Picker, N: Drop>(
     alloc: Global,
     picker: &mut P,
@@ -66,6 +69,8 @@ pub(crate) fn work_once<P: Picker, N: Drop>(
 ) -> bool
     ensures tasks { (view_of board.new).tasks ≡ (view_of board.old).tasks }
     ensures notes { (view_of board.new).notes ≡ (view_of board.old).notes }
+    ensures fewer { OnTrue result
+        (unfinished (view_of board.new).progress < unfinished (view_of board.old).progress) }
 {
     match board.take(picker.pick(), &[]) {
         Ok(Some(piece)) => work(alloc, board, piece),
@@ -82,6 +87,8 @@ pub(crate) fn work<N: Drop>(alloc: Global, board: &mut Board<N>, piece: Piece)
     requires { IsPieceFor (view_of board.old).tasks piece }
     ensures tasks { (view_of board.new).tasks ≡ (view_of board.old).tasks }
     ensures notes { (view_of board.new).notes ≡ (view_of board.old).notes }
+    ensures fewer { is_running (slice_get (view_of board.old).progress piece.number) ≡ true
+        → unfinished (view_of board.new).progress < unfinished (view_of board.old).progress }
 {
     let number = piece.number;
     if do_piece(alloc, board, piece).is_err() {
@@ -89,11 +96,16 @@ pub(crate) fn work<N: Drop>(alloc: Global, board: &mut Board<N>, piece: Piece)
     }
 }
 
-/// Does a piece of work, and hands in what it makes.
+/// Does a piece of work, and hands in what it makes. Refused, its slot is one on which somebody works still.
 fn do_piece<N: Drop>(alloc: Global, board: &mut Board<N>, piece: Piece) -> Result<(), NoMemory>
     requires { IsPieceFor (view_of board.old).tasks piece }
     ensures tasks { (view_of board.new).tasks ≡ (view_of board.old).tasks }
     ensures notes { (view_of board.new).notes ≡ (view_of board.old).notes }
+    ensures fewer { OnOk result (is_running (slice_get (view_of board.old).progress piece.number) ≡ true
+        → unfinished (view_of board.new).progress < unfinished (view_of board.old).progress) }
+    ensures refused { OnErr result (is_running (slice_get (view_of board.old).progress piece.number) ≡ true
+        → (unfinished (view_of board.new).progress ≡ unfinished (view_of board.old).progress)
+        × (may_fail (view_of board.new) piece.number ≡ true)) }
 {
     let Piece {
         number,
@@ -104,7 +116,7 @@ fn do_piece<N: Drop>(alloc: Global, board: &mut Board<N>, piece: Piece) -> Resul
     } = piece;
     let block = block_of(alloc, &recipe, inputs, rows)?;
     let Ok(Given::Last(block)) = board.give(number, piece, block) else {
-        return Ok(());
+        return Err(NoMemory);
     };
     let store = Arc::new(alloc, join(&recipe, block))?;
     let _ = board.whole(number, store);

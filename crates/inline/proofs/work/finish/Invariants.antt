@@ -1,8 +1,12 @@
--- Tasks and notes are those that were there.
+-- Tasks and notes are those that were there, and each round leaves fewer slots that are to come.
 use Rattle.std.proofs.Common.{◌≡◌}
 use Rattle.board.specs.Boards.{view_of}
+use Rattle.inline.specs.Ends.{unfinished}
 use Rattle.inline.proofs.work.finish.Given as goal
 
-abbrev pub invariant-loop : goal.invariant-loop
-invariant-loop g l = ((view_of l.board).tasks ≡ (view_of l.fn.board).tasks)
+abbrev pub invariant-loop-found : goal.invariant-loop-found
+invariant-loop-found g l = ((view_of l.board).tasks ≡ (view_of l.fn.board).tasks)
     × ((view_of l.board).notes ≡ (view_of l.fn.board).notes)
+
+abbrev pub decreases-loop-found : goal.decreases-loop-found
+decreases-loop-found g l = unfinished (view_of l.board).progress
