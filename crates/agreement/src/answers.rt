@@ -1,13 +1,17 @@
 //! The answers to a script, by the runtime and by the plain evaluator.
+ghost use Rattle.std.specs.Prelude.{◌≡◌};
 
 use crate::held::Files;
-use inline::Order;
+use crate::keeping::Keeping;
+use history::{History, Naming};
+use inline::{Inline, Order};
 use itoa::Buffer;
 use lines::{Line, LineFault, first_line, parse_line};
 use model::Status;
 use plain::{PlainAnswer, PlainEnvironment};
 use script::Sources;
 use std::alloc::{AllocError, Global};
+use std::marker::Brand;
 
 /// What the runtime answers that does in this order the work that was put off.
 pub fn of_runtime(
@@ -19,6 +23,34 @@ pub fn of_runtime(
     let mut out = Vec::new(alloc);
     deferral::run(alloc, script, &files, order, &mut out).map_err(|_| AllocError)?;
     Ok(out)
+}
+
+/// The same by a runner that is asked for the store of each recipe, and how many of these failed.
+pub fn of_keeping(
+    alloc: Global,
+    script: &[u8],
+    files: Files<'_>,
+    order: Order,
+) -> Result<(Vec<u8>, u64), AllocError> {
+    keep_over::<Brand>(alloc, History::new(), script, files, order)
+}
+
+/// The same over a history that has a name.
+fn keep_over<J: Naming>(
+    alloc: Global,
+    history: History,
+    script: &[u8],
+    files: Files<'_>,
+    order: Order,
+) -> Result<(Vec<u8>, u64), AllocError>
+    requires { history ≡ J.book }
+{
+    let inline: Inline<J, Order> = Inline::new(alloc, history, order);
+    let mut runner = Keeping::new(alloc, inline);
+    let mut out = Vec::new(alloc);
+    script::run(alloc, script, &files, &mut runner, &mut out).map_err(|_| AllocError)?;
+    runner.settle();
+    Ok((out, runner.failed))
 }
 
 /// What the plain evaluator answers to the lines, which the runtime's own reader of lines cuts and reads.

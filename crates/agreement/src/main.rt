@@ -14,6 +14,7 @@ mod compared;
 mod folders;
 mod held;
 mod jobs;
+mod keeping;
 mod readers;
 mod scripts;
 mod tally;

@@ -1,6 +1,6 @@
 //! Scripts: the answers of the runtime beside those of the plain evaluator.
 
-use crate::answers::{of_plain, of_runtime};
+use crate::answers::{of_keeping, of_plain, of_runtime};
 use crate::compared::Compared;
 use crate::held::Files;
 use inline::Order;
@@ -39,6 +39,9 @@ pub fn compare(alloc: Global, script: &[u8], files: Files<'_>) -> Result<Compare
         if compared.is_whole {
             compared.count();
             compared.difference = difference(alloc, text, files, orders)?;
+            if compared.difference.is_none() && end == script.len() {
+                compared.difference = failure(alloc, text, files)?;
+            }
         }
         if compared.difference.is_some() {
             break;
@@ -65,6 +68,24 @@ fn difference(
             )?;
             return Ok(Some(text));
         }
+    }
+    Ok(None)
+}
+
+/// Where the answers differ of a run whose every recipe is asked for, or where one of these fails, in words.
+fn failure(alloc: Global, script: &[u8], files: Files<'_>) -> Result<Option<String>, AllocError> {
+    let plain = of_plain(alloc, script, files)?;
+    let (run, failed) = of_keeping(alloc, script, files, Order::Last)?;
+    if run != plain {
+        let lines = common_lines(run.as_slice(), plain.as_slice());
+        let text = format!(in alloc;
+            "where each recipe is asked for, the answers differ behind line {lines} of them"
+        )?;
+        return Ok(Some(text));
+    }
+    if failed > 0 {
+        let text = format!(in alloc; "{failed} recipes failed, though memory was there")?;
+        return Ok(Some(text));
     }
     Ok(None)
 }
