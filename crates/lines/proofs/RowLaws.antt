@@ -1,6 +1,6 @@
 -- Rows of the grammar, by the words that they begin with.
-use Rattle.std.proofs.Common.{◌≡◌, ℕ, ◌+◌, ◌-◌, ◌<◌, ◌≤◌, ◌==◌, ◌&&◌, ◌||◌, Bool, true, false, not, List, [], ◌∷◌, drop, codes, length, map, nat_le, take, Option, Some, None, Result, Err, refl, sym, ◌∙◌, ap, arith, inl, inr}
-use Rattle.std.specs.List.{drop-map, list_all, take-map}
+use Rattle.std.proofs.Common.{◌≡◌, ℕ, ◌+◌, ◌-◌, ◌<◌, ◌≤◌, ◌==◌, ◌&&◌, ◌||◌, ◌++◌, Bool, true, false, not, cond, List, [], ◌∷◌, drop, codes, length, map, nat_le, take, Option, Some, None, Result, Err, refl, sym, ◌∙◌, ap, arith, inl, inr}
+use Rattle.std.specs.List.{drop-map, list_all, list_any, take-map}
 use Rattle.std.specs.Option.{ok_or, option_and_then, option_map, option_map_or}
 use Rattle.std.specs.Str.{bytes_eq}
 use Rattle.std.proofs.lemmas.Bool.{and_parts, cases_Bool, not-true, or_parts}
@@ -10,14 +10,10 @@ use Rattle.std.proofs.Math.Bool.{and-false}
 use Rattle.std.proofs.lemmas.Slice.Eq.{bytes_eq-Decides}
 use Rattle.lines.specs.declared.fault.LineFault.{LineFault}
 use Rattle.lines.specs.declared.fault.LineFault.TheVariants.{Syntax, NoMemory}
-use Rattle.lines.specs.declared.operations.Joining.{Joining}
-use Rattle.lines.specs.declared.operations.Joining.TheVariants.{Product, Combination}
-use Rattle.lines.specs.Joining.{joining_word, joins}
-use Rattle.lines.specs.Meaning.{IsRead, bare_calls, reading_in, unlisted_operations}
+use Rattle.lines.specs.Joining.{joins}
+use Rattle.lines.specs.Meaning.{IsRead, bare_calls, reading_in}
 use Rattle.model.specs.declared.call.Call.{Call}
-use Rattle.model.specs.declared.call.Form.TheVariants.{MatrixMatrix, MatrixVector, VectorMatrix}
-use Rattle.model.specs.declared.call.Positions.TheVariants.{Union, Intersection}
-use Rattle.model.specs.Grammar.{Called, Name, Row, are_as_many, call_of, calls, command_of, is_called, middle_of, nth_word, operate_of, operations, out_of_words, said_by}
+use Rattle.model.specs.Grammar.{Called, Name, Row, are_as_many, call_of, calls, command_of, is_called, middle_of, nth_word, operate_of, operations, operations_of_one, operations_of_two, operations_on_regions, out_of_words, read_words, said_by}
 
 module _ {A B : Type 0} (rows : List (Row A)) (view : B → A) (called word : List ℕ) (words : List (List ℕ)) where
   -- what is read as one word is read as a word that is the same
@@ -86,20 +82,22 @@ module _ {B : Type 0} (words : List (List ℕ)) (view : B → Call Name Name) (c
   unfolding call_of
   call_else r none is = rw (← first, ← rest, ← none) is
 
--- a word of an operation of two inputs is no call's
-joining_no_call : (joining : Joining) → list_all (λ row. not (bytes_eq (joining_word joining) row.word)) calls ≡ true
-joining_no_call (Product MatrixMatrix) = refl
-joining_no_call (Product MatrixVector) = refl
-joining_no_call (Product VectorMatrix) = refl
-joining_no_call (Combination Union) = refl
-joining_no_call (Combination Intersection) = refl
+-- the words of operations of two inputs are no calls', and none of them loads
+apart : {A : Type 0} (rows : List (Row A)) (others : List (List ℕ)) (called : List ℕ)
+    → list_all (λ row. list_all (λ word. not (bytes_eq row.word word)) others) rows ≡ true
+    → list_any (λ row. bytes_eq called row.word) rows ≡ true
+    → list_all (λ word. not (bytes_eq called word)) others ≡ true
+apart [] others called all is = absurd (cc)
+apart (row ∷ rows) others called all is =
+    let parts = and_parts (list_all (λ word. not (bytes_eq row.word word)) others) (list_all (λ row. list_all (λ word. not (bytes_eq row.word word)) others) rows) all in
+    elim (cases_Bool (bytes_eq called row.word)) [
+      | inl same ↦ let e : called ≡ row.word = (bytes_eq-Decides called row.word).0 same in rw e parts.0
+      | inr other ↦ apart rows others called parts.1 (rw other at is)
+    ]
 
-joining_no_load : (joining : Joining) → bytes_eq (joining_word joining) (codes "load") ≡ false
-joining_no_load (Product MatrixMatrix) = refl
-joining_no_load (Product MatrixVector) = refl
-joining_no_load (Product VectorMatrix) = refl
-joining_no_load (Combination Union) = refl
-joining_no_load (Combination Intersection) = refl
+joined-apart : (called : List ℕ) → joins called ≡ true
+    → list_all (λ word. not (bytes_eq called word)) (codes "load" ∷ map (λ row. row.word) calls) ≡ true
+joined-apart called is = apart operations_of_two (codes "load" ∷ map (λ row. row.word) calls) called refl is
 
 -- a line that is no load asks for what it calls
 module _ (words : List (List ℕ)) (other : is_called words (codes "load") ≡ false) where
@@ -114,19 +112,21 @@ module _ (words : List (List ℕ)) (other : is_called words (codes "load") ≡ f
   called_fault view NoMemory is = tt
 
 -- behind a word of an operation of two inputs such an operation is asked for
-module _ (words : List (List ℕ)) (joining : Joining) (first : nth_word words 0 ≡ joining_word joining) where
+module _ (words : List (List ℕ)) (called : List ℕ) (first : nth_word words 0 ≡ called) (is : joins called ≡ true) where
+  others_apart : (not (is_called words (codes "load")) ≡ true)
+      × (list_all (λ row. not (bytes_eq (nth_word words 0) row.word)) calls ≡ true)
+  others_apart =
+      and_parts (not (is_called words (codes "load"))) (list_all (λ row. not (bytes_eq (nth_word words 0) row.word)) calls) (rw first (joined-apart called is))
+
   joined_call : call_of words ≡ operate_of words
   unfolding call_of
   joined_call =
-      let none : said_by calls (nth_word words 0) (drop 1 words) ≡ None = rw first (none_said calls (joining_word joining) (drop 1 words) (joining_no_call joining)) in
+      let none : said_by calls (nth_word words 0) (drop 1 words) ≡ None = none_said calls (nth_word words 0) (drop 1 words) others_apart.1 in
       rw none refl
-
-  no_load : is_called words (codes "load") ≡ false
-  no_load = rw first (joining_no_load joining)
 
   pub joined_command : (said : Option (Call Name Name)) → operate_of words ≡ said
       → command_of words ≡ option_and_then (λ call. Some (Called call)) said
-  joined_command said is = called_command words no_load said (joined_call ∙ is)
+  joined_command said means = called_command words (not-true (is_called words (codes "load")) others_apart.0) said (joined_call ∙ means)
 
 -- what a call's row says is called
 pub call_first : (words : List (List ℕ)) (called : List ℕ) (others : List (List ℕ)) (call : Call Name Name)
@@ -158,26 +158,31 @@ pub said_bare : (called : List ℕ) (words : List (List ℕ)) → bytes_eq calle
 unfolding said_by
 said_bare called words a b c d e f g h i j = rw (a, b, c, d, e, f, g, h, i, j) refl
 
-said_of_entries : (called : List ℕ) (words : List (List ℕ)) → bytes_eq called (codes "mxm") ≡ false
-    → bytes_eq called (codes "mxv") ≡ false → bytes_eq called (codes "vxm") ≡ false
-    → bytes_eq called (codes "ewiseadd") ≡ false → bytes_eq called (codes "ewisemult") ≡ false
-    → bytes_eq called (codes "extract") ≡ false → bytes_eq called (codes "assign") ≡ false
-    → bytes_eq called (codes "fill") ≡ false
-    → said_by operations called words ≡ said_by unlisted_operations called words
+-- rows of which none has a word say nothing before others, and nothing behind them
+said_behind : {A : Type 0} (rows others : List (Row A)) (called : List ℕ) (words : List (List ℕ))
+    → list_any (λ row. bytes_eq called row.word) rows ≡ false
+    → said_by (rows ++ others) called words ≡ said_by others called words
 unfolding said_by
-said_of_entries called words a b c d e f g h = rw (a, b, c, d, e, f, g, h) refl
+said_behind [] others called words none = refl
+said_behind (row ∷ rows) others called words none =
+    let parts = or_parts (bytes_eq called row.word) (list_any (λ row. bytes_eq called row.word) rows) none in
+    rw parts.0 (said_behind rows others called words parts.1)
 
-pub said_unlisted : (called : List ℕ) (words : List (List ℕ)) → joins called ≡ false
+said_before : {A : Type 0} (rows others : List (Row A)) (called : List ℕ) (words : List (List ℕ))
+    → said_by others called words ≡ None → said_by (rows ++ others) called words ≡ said_by rows called words
+unfolding said_by
+said_before [] others called words none = none
+said_before (row ∷ rows) others called words none =
+    ap (cond (fits called words row) (read_words row.forms row.make words 0)) (said_before rows others called words none)
+
+pub said_of_one : (called : List ℕ) (words : List (List ℕ)) → joins called ≡ false
     → bytes_eq called (codes "extract") ≡ false → bytes_eq called (codes "assign") ≡ false
     → bytes_eq called (codes "fill") ≡ false
-    → said_by operations called words ≡ said_by unlisted_operations called words
-said_unlisted called words none a b c =
-    let is = bytes_eq called in
-    let d = or_parts (is (codes "mxm") || is (codes "mxv") || is (codes "vxm") || is (codes "ewiseadd")) (is (codes "ewisemult")) none in
-    let e = or_parts (is (codes "mxm") || is (codes "mxv") || is (codes "vxm")) (is (codes "ewiseadd")) d.0 in
-    let f = or_parts (is (codes "mxm") || is (codes "mxv")) (is (codes "vxm")) e.0 in
-    let g = or_parts (is (codes "mxm")) (is (codes "mxv")) f.0 in
-    said_of_entries called words g.0 g.1 f.1 e.1 d.1 a b c
+    → said_by operations called words ≡ said_by operations_of_one called words
+said_of_one called words none a b c =
+    let nothing : said_by operations_on_regions called words ≡ None = none_said operations_on_regions called words (rw (a, b, c) refl) in
+    said_behind operations_of_two (operations_of_one ++ operations_on_regions) called words none
+    ∙ said_before operations_of_one operations_on_regions called words nothing
 
 -- ---- operations
 

@@ -1,5 +1,5 @@
 -- What the code reads of a line.
-use Rattle.std.specs.Prelude.{ℕ, ◌≡◌, List, [], ◌∷◌, Option, Some, None, Result, Ok, Err, codes, drop, take}
+use Rattle.std.specs.Prelude.{ℕ, ◌≡◌, List, [], ◌∷◌, Option, Some, None, Result, Ok, Err, codes}
 use Rattle.lines.specs.declared.fault.LineFault.{LineFault}
 use Rattle.lines.specs.declared.fault.LineFault.TheVariants.{Syntax, NoMemory}
 use Rattle.lines.specs.declared.line.Line.{Line}
@@ -8,7 +8,6 @@ use Rattle.lines.specs.declared.line.Line.TheVariants.{Silent, Call, Load}
 use Rattle.model.specs.declared.call.Act.TheVariants.{Free, Clear, Nvals, Print}
 use Rattle.model.specs.declared.call.Call.{Call as ACall}
 use Rattle.model.specs.declared.call.Call.TheVariants.{On}
-use Rattle.model.specs.declared.call.Operation.{Operation}
 use Rattle.model.specs.declared.call.Region.{Region}
 use Rattle.model.specs.declared.call.Region.TheVariants as region
 use Rattle.model.specs.declared.shape.Place.{Place}
@@ -76,7 +75,3 @@ bare_calls =
     ∷ grammar.row (codes "nvals") (grammar.AName ∷ []) (λ object. On object Nvals)
     ∷ grammar.row (codes "print") (grammar.AName ∷ []) (λ object. On object Print)
     ∷ []
-
--- the operations of one input but for those that have lists
-abbrev pub unlisted_operations : List (grammar.Row (Operation grammar.Name))
-unlisted_operations = take 7 (drop 5 grammar.operations)

@@ -1,10 +1,10 @@
 //! The calls of operations: C, MASK, ACCUM and DESC are read here for all of them.
-ghost use Rattle.std.specs.Prelude.{◌≡◌, ◌<◌, ◌≤◌, [], MatchOption, codes, false, length, map};
+ghost use Rattle.std.specs.Prelude.{◌≡◌, ◌<◌, ◌≤◌, [], MatchOption, codes, false, length, map, true};
 ghost use Rattle.std.specs.Option.{option_map};
 ghost use Rattle.lines.specs.Joining.{joining_word, joins};
-ghost use Rattle.lines.specs.Meaning.{IsRead, regions, unlisted_operations};
+ghost use Rattle.lines.specs.Meaning.{IsRead, regions};
 ghost use Rattle.model.specs.Grammar.{is_none_word, middle_of, name_of, op_name_of, operate_of, operations};
-ghost use Rattle.model.specs.Grammar.{nth_word, out_of_words, perhaps, said_by};
+ghost use Rattle.model.specs.Grammar.{nth_word, operations_of_one, out_of_words, perhaps, said_by};
 ghost use Rattle.model.specs.Renamed.{renamed, renamed_operation, renamed_out};
 ghost use Rattle.model.specs.Written.{form_word, positions_word};
 
@@ -111,7 +111,8 @@ pub enum Joining {
 
 /// What joins two inputs under this first word.
 pub fn joining_of(called: &[u8]) -> Option<Joining>
-    ensures { MatchOption result (joins called.now ≡ false) (λ joining. called.now ≡ joining_word joining) }
+    ensures { MatchOption result (joins called.now ≡ false)
+        (λ joining. (called.now ≡ joining_word joining) × (joins (joining_word joining) ≡ true)) }
 {
     match called {
         b"mxm" => Some(Joining::Product(Form::MatrixMatrix)),
@@ -153,13 +154,13 @@ fn operation<'a>(
     if called == b"fill".as_slice() {
         return fill(alloc, words);
     }
-    unlisted(called, words).ok_or(LineFault::Syntax)
+    of_one(called, words).ok_or(LineFault::Syntax)
 }
 
-/// What these say by the first word of an operation of one input that has no list.
-fn unlisted<'a>(called: &[u8], words: &[&'a [u8]]) -> Option<Operation<&'a str>>
+/// What these say by the first word of an operation of one input that names no region.
+fn of_one<'a>(called: &[u8], words: &[&'a [u8]]) -> Option<Operation<&'a str>>
     ensures { option_map (renamed_operation (λ name. name.now)) result
-        ≡ said_by unlisted_operations called.now (map (λ word. word.now) words.now) }
+        ≡ said_by operations_of_one called.now (map (λ word. word.now) words.now) }
 {
     if called == b"apply".as_slice() {
         return apply(words);

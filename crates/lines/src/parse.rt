@@ -42,7 +42,8 @@ pub fn parse_line(alloc: Global, line: &[u8]) -> Result<Line<'_>, LineFault>
 #[inline(never)]
 #[tactic(auto, unfolding(model::specs::Grammar::command_of))]
 fn joining_command<'a>(joining: Joining, words: &[&'a [u8]]) -> Result<Line<'a>, LineFault>
-    requires { nth_word (map (λ word. word.now) words.now) 0 ≡ joining_word joining }
+    requires joins { joins (joining_word joining) ≡ true }
+    requires word { nth_word (map (λ word. word.now) words.now) 0 ≡ joining_word joining }
     ensures { IsRead reading_in (command_of (map (λ word. word.now) words.now)) result }
 {
     let Some(call) = join(joining, words) else {

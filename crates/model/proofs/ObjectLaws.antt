@@ -142,7 +142,7 @@ removed-is_object o p is = without-is_object o (row_of p) (col_of p) is
 
 -- ---- the transpose
 
-and_turned : (a b : Bool) → (a && b) ≡ false → (b && a) ≡ false
+pub and_turned : (a b : Bool) → (a && b) ≡ false → (b && a) ≡ false
 and_turned true true h = h
 and_turned true false h = refl
 and_turned false true h = refl

@@ -1,9 +1,9 @@
--- What operations compute are words of the domain that the table gives.
-use Rattle.std.proofs.Common.{◌≡◌, ◌==◌, ℕ, Bool, true, false, cond, List, [], ◌∷◌, Option, Some, None}
-use Rattle.std.specs.List.{All}
+-- What operations compute are words of the domain that the table gives, and lie inside the shape that it gives.
+use Rattle.std.proofs.Common.{◌≡◌, ◌==◌, ℕ, Bool, true, false, cond, List, [], ◌∷◌, Option, Some, None, ◌&&◌, not, refl, inl, inr, arith}
+use Rattle.std.specs.List.{All, filter_map}
 use Rattle.std.specs.Option.{option_and_then, option_map}
-use Rattle.std.proofs.lemmas.Bool.{and_parts}
-use Rattle.std.proofs.lemmas.List.Elements.{All-head}
+use Rattle.std.proofs.lemmas.Bool.{and_parts, cases_Bool}
+use Rattle.std.proofs.lemmas.List.Elements.{All-head, All-tail}
 use Rattle.algebra.proofs.Casts.{IsWordOf-cast, IsWordOf-word_of}
 use Rattle.algebra.proofs.Sums.{sum-word}
 use Rattle.algebra.proofs.Words.{IsWordOf-eval, IsWordOf-index_eval, IsWordOf-unary_eval}
@@ -29,16 +29,24 @@ use Rattle.model.specs.declared.call.TwoInputs.{TwoInputs}
 use Rattle.model.specs.declared.call.TwoInputs.TheVariants.{Combine, Multiply}
 use Rattle.model.specs.declared.shape.Signature.{Signature}
 use Rattle.model.specs.ElementWise.{eval_cast, of_both, of_either}
-use Rattle.model.specs.Object.{AreWordsOf, Content, IsObject, Object, cols_of, in_domain, rows_of, signature_of, transposed_content}
-use Rattle.model.specs.Operations.{combined, computed_of_one, computed_of_two, multiplied, operation}
-use Rattle.model.specs.Product.{sum_domain}
-use Rattle.model.specs.Reductions.{row_words}
+use Rattle.model.specs.Object.{AreWordsOf, Content, IsObject, Object, cols_of, in_domain, rows_of, signature_of, transposed_content, IsWithin, is_matrix, same_shape, transposed_shape}
+use Rattle.model.specs.Operations.{combined, computed_of_one, computed_of_two, multiplied, operation, computed}
+use Rattle.model.specs.Product.{sum_domain, product}
+use Rattle.model.specs.Reductions.{row_words, row_sums}
 use Rattle.model.specs.Regions.{cols_in, rows_in}
 use Rattle.model.specs.Renamed.{inputs_of, renamed_operation}
-use Rattle.model.specs.Table.{inner_size, is_offered, offers_one, plan_of, plan_of_one, plan_of_two}
-use Rattle.model.proofs.ProductLaws.{product-words}
-use Rattle.model.proofs.RegionLaws.{extracted-words, filled-words, placed-words}
+use Rattle.model.specs.Table.{inner_size, is_offered, offers_one, plan_of, plan_of_one, plan_of_two, are_factors, product_shape}
+use Rattle.model.proofs.ProductLaws.{product-words, product-no_col, product-no_row}
+use Rattle.model.proofs.RegionLaws.{extracted-words, filled-words, placed-words, extracted-within, filled-within, placed-within, shape_in-counts}
 use Rattle.model.proofs.StoredLaws.{row_words-domain}
+use Rattle.std.specs.Prelude.{nat_lt}
+use Rattle.std.proofs.lemmas.Bool.Decides.{nat_tests}
+use Rattle.model.specs.declared.call.Plan.{Plan}
+use Rattle.model.specs.declared.shape.Shape.{Shape}
+use Rattle.model.specs.declared.shape.Shape.TheVariants.{One, Two}
+use Rattle.model.specs.Entries.{below}
+use Rattle.model.specs.Indices.{are_below}
+use Rattle.model.proofs.ObjectLaws.{cast_content-within, same_shape-rows, vector-column, and_turned}
 
 -- ---- two inputs
 
@@ -134,3 +142,113 @@ operation-words c (Fill value region) offered are =
     filled-words c.domain (rows_of c.shape) (cols_of c.shape) (rows_in region) (cols_in region) (word_of c.domain value) (IsWordOf-word_of c.domain value)
 operation-words c (OfOne computes a) offered are = one-words c computes a offered (All-head IsObject a [] are)
 operation-words c (OfTwo computes a b) offered are = two-words computes a b offered
+
+-- ---- inside the shape of what is computed
+
+beyond_col : (low : Bool) → (low && false) ≡ false
+beyond_col true = refl
+beyond_col false = refl
+
+-- an object's map lies inside its shape
+abbrev pub KeepsInside : Object → Type 0
+KeepsInside o = IsWithin (rows_of o.shape) (cols_of o.shape) o.content
+
+-- a product of maps that lie inside m rows, and inside n columns
+product-within : (semiring : SemiringName) (inner m n : ℕ) (a b : Content)
+    → ((i k : ℕ) → nat_lt i m ≡ false → a i k ≡ None)
+    → ((k j : ℕ) → nat_lt j n ≡ false → b k j ≡ None) → IsWithin m n (product semiring inner a b)
+product-within semiring inner m n a b first second i j outside =
+    elim (cases_Bool (nat_lt i m)) [
+      | inl inside ↦ product-no_col semiring inner a b i j (λ k. second k j (rw inside at outside))
+      | inr past ↦ product-no_row semiring inner a b i j (λ k. first i k past)
+    ]
+
+-- an input in another domain has nothing below its rows, and nothing behind its columns
+no_row : (domain : Domain) (o : Object) → KeepsInside o → (i k : ℕ) → nat_lt i (rows_of o.shape) ≡ false
+    → in_domain domain o i k ≡ None
+no_row domain o inside i k past = cast_content-within o.domain domain (rows_of o.shape) (cols_of o.shape) o.content inside i k (rw past refl)
+
+no_col : (domain : Domain) (o : Object) → KeepsInside o → (k j : ℕ) → nat_lt j (cols_of o.shape) ≡ false
+    → in_domain domain o k j ≡ None
+no_col domain o inside k j past =
+    cast_content-within o.domain domain (rows_of o.shape) (cols_of o.shape) o.content inside k j (rw past (beyond_col (nat_lt k (rows_of o.shape))))
+
+-- a product of objects that are of the kinds of its form
+multiplied-within : (form : Form) (semiring : SemiringName) (a b : Object) → are_factors form a.shape b.shape ≡ true
+    → KeepsInside a → KeepsInside b
+    → let shape = product_shape form a.shape b.shape in IsWithin (rows_of shape) (cols_of shape)
+    (multiplied form semiring (inner_size form a.shape) (in_domain semiring.domain a) (in_domain semiring.domain b))
+multiplied-within MatrixMatrix semiring a b kinds first second =
+    product-within semiring (cols_of a.shape) (rows_of a.shape) (cols_of b.shape) (in_domain semiring.domain a) (in_domain semiring.domain b)
+    (no_row semiring.domain a first) (no_col semiring.domain b second)
+multiplied-within MatrixVector semiring a b kinds first second =
+    let one = vector-column b.shape (and_parts (is_matrix a.shape) (not (is_matrix b.shape)) kinds).1 in
+    product-within semiring (cols_of a.shape) (rows_of a.shape) 1 (in_domain semiring.domain a) (in_domain semiring.domain b)
+    (no_row semiring.domain a first) (rw one at (no_col semiring.domain b second))
+multiplied-within VectorMatrix semiring a b kinds first second =
+    let one = vector-column a.shape (and_parts (not (is_matrix a.shape)) (is_matrix b.shape) kinds).0 in
+    λ i j outside. product-within semiring (rows_of a.shape) 1 (cols_of b.shape) (transposed_content (in_domain semiring.domain a)) (in_domain semiring.domain b)
+    (λ i k past. no_col semiring.domain a first k i (rw one past)) (no_col semiring.domain b second) j i
+    (and_turned (nat_lt i (cols_of b.shape)) (nat_lt j 1) outside)
+
+-- where neither has a value, their union and their intersection have none
+combined-within : (positions : Positions) (op : OpName) (a b : Object) → same_shape a.shape b.shape ≡ true
+    → KeepsInside a → KeepsInside b
+    → IsWithin (rows_of a.shape) (cols_of a.shape) (combined positions op a b)
+combined-within Union op a b same first second i j outside =
+    let shapes = same_shape-rows a.shape b.shape same in
+    let none : b.content i j ≡ None = second i j (rw (← shapes.0, ← shapes.1) outside) in
+    rw (first i j outside, none) refl
+combined-within Intersection op a b same first second i j outside = rw (first i j outside) refl
+
+-- a row without values has no sum
+row_words-none : (c : Content) (i : ℕ) (ks : List ℕ) → ((k : ℕ) → c i k ≡ None) → filter_map (λ k. c i k) ks ≡ []
+row_words-none c i [] none = refl
+row_words-none c i (k ∷ ks) none = rw (none k) (row_words-none c i ks none)
+
+row_sums-within : (monoid : MonoidName) (cols m : ℕ) (c : Content) → ((i k : ℕ) → nat_lt i m ≡ false → c i k ≡ None)
+    → IsWithin m 1 (row_sums monoid cols c)
+row_sums-within monoid cols m c none i j outside =
+    elim (cases_Bool (j == 0)) [
+      | inl first ↦
+          let past : nat_lt i m ≡ false = grind (arith, nat_tests) in
+          rw (first, row_words-none c i (below cols) (λ k. none i k past)) refl
+      | inr other ↦ rw other refl
+    ]
+
+-- what an operation asks of indices and of its output
+abbrev pub IsFit : Plan → Type 0
+IsFit plan = (plan.kinds ≡ true) × (plan.fits ≡ true) × (plan.inside ≡ true)
+
+transposed-within_shape : (shape : Shape) (c : Content) → is_matrix shape ≡ true
+    → IsWithin (rows_of shape) (cols_of shape) c
+    → IsWithin (rows_of (transposed_shape shape)) (cols_of (transposed_shape shape)) (transposed_content c)
+transposed-within_shape (Two m n) c is inside = λ i j outside. inside j i (and_turned (nat_lt i n) (nat_lt j m) outside)
+transposed-within_shape (One n) c is inside = absurd (cc)
+
+one-within : (c : Signature) (computes : OneInput) (a : Object) → IsFit (plan_of_one c computes (signature_of a))
+    → KeepsInside a
+    → let shape = (plan_of_one c computes (signature_of a)).shape in IsWithin (rows_of shape) (cols_of shape) (computed_of_one c.shape computes a)
+one-within c (Apply function) a fit inside i j outside = rw (inside i j outside) refl
+one-within c (Select op scalar) a fit inside i j outside = rw (inside i j outside) refl
+one-within c Transpose a fit inside i j outside = transposed-within_shape a.shape a.content fit.0 inside i j outside
+one-within c (Extract region) a fit inside i j outside =
+    let counts = shape_in-counts a.shape region fit.0 in
+    extracted-within (rows_of a.shape) (cols_of a.shape) (rows_in region) (cols_in region) a.content i j (rw (counts.0, counts.1) outside)
+one-within c (Assign region) a fit inside i j outside =
+    let parts = and_parts (are_below (rows_of c.shape) (rows_in region)) (are_below (cols_of c.shape) (cols_in region)) fit.2 in
+    placed-within (rows_of c.shape) (cols_of c.shape) (rows_in region) (cols_in region) a.content parts.0 parts.1 i j outside
+one-within c (ReduceRows monoid) a fit inside i j outside = row_sums-within monoid (cols_of a.shape) (rows_of a.shape) (in_domain monoid.domain a) (no_row monoid.domain a inside) i j outside
+
+pub operation-within : (c : Signature) (op : Operation Object) → IsFit (plan_of c (renamed_operation signature_of op))
+    → All KeepsInside (inputs_of op)
+    → let shape = (plan_of c (renamed_operation signature_of op)).shape in IsWithin (rows_of shape) (cols_of shape) (operation c op)
+unfolding operation
+operation-within c (Fill value region) fit inside =
+    let parts = and_parts (are_below (rows_of c.shape) (rows_in region)) (are_below (cols_of c.shape) (cols_in region)) fit.2 in
+    filled-within (rows_of c.shape) (cols_of c.shape) (rows_in region) (cols_in region) (word_of c.domain value) parts.0 parts.1
+operation-within c (OfOne computes a) fit inside = one-within c computes a fit (All-head KeepsInside a [] inside)
+operation-within c (OfTwo (Multiply form semiring) a b) fit inside =
+    multiplied-within form semiring a b fit.0 (All-head KeepsInside a (b ∷ []) inside) (All-head KeepsInside b [] (All-tail KeepsInside a (b ∷ []) inside))
+operation-within c (OfTwo (Combine positions op) a b) fit inside =
+    combined-within positions op a b fit.1 (All-head KeepsInside a (b ∷ []) inside) (All-head KeepsInside b [] (All-tail KeepsInside a (b ∷ []) inside))

@@ -1,6 +1,6 @@
 -- How the bytes of a script are read: lines, words, and the grammar of each call.
 use Rattle.std.specs.Prelude.{ℕ, ℤ, pos, neg_ℤ, ◌+◌, ◌-◌, ◌*◌, ◌^◌, ◌==◌, nat_le, nat_lt, not, Bool, true, false, ◌&&◌}
-use Rattle.std.specs.Prelude.{◌||◌, if◌then◌else◌, List, [], ◌∷◌, map, length, drop, slice_index, slice_index_or}
+use Rattle.std.specs.Prelude.{◌||◌, if◌then◌else◌, List, [], ◌∷◌, ◌++◌, map, length, drop, slice_index, slice_index_or}
 use Rattle.std.specs.Prelude.{Option, Some, None, codes, filter, fold, take}
 use Rattle.std.specs.List.{list_all, slice_split}
 use Rattle.std.specs.Option.{option_and_then, option_map_or}
@@ -375,15 +375,20 @@ calls =
     ∷ row (codes "wait") (AName ∷ AWaitMode ∷ []) (λ object mode. On object (Wait mode))
     ∷ []
 
--- the operations, by the words between ACCUM and DESC
-abbrev pub operations : List (Row (Operation Name))
-operations =
+-- the operations, by the words between ACCUM and DESC: those of two inputs
+abbrev pub operations_of_two : List (Row (Operation Name))
+operations_of_two =
     row (codes "mxm") (ASemiring ∷ AName ∷ AName ∷ []) (λ semiring. OfTwo (Multiply MatrixMatrix semiring))
     ∷ row (codes "mxv") (ASemiring ∷ AName ∷ AName ∷ []) (λ semiring. OfTwo (Multiply MatrixVector semiring))
     ∷ row (codes "vxm") (ASemiring ∷ AName ∷ AName ∷ []) (λ semiring. OfTwo (Multiply VectorMatrix semiring))
     ∷ row (codes "ewiseadd") (AnOperator ∷ AName ∷ AName ∷ []) (λ op. OfTwo (Combine Union op))
     ∷ row (codes "ewisemult") (AnOperator ∷ AName ∷ AName ∷ []) (λ op. OfTwo (Combine Intersection op))
-    ∷ row (codes "apply") (AUnaryOperator ∷ AName ∷ []) (λ op. OfOne (Apply (function.Unary op)))
+    ∷ []
+
+-- ..those of one that name no region
+abbrev pub operations_of_one : List (Row (Operation Name))
+operations_of_one =
+    row (codes "apply") (AUnaryOperator ∷ AName ∷ []) (λ op. OfOne (Apply (function.Unary op)))
     ∷ row (codes "applyindex") (AnIndexOperator ∷ AName ∷ AValue ∷ []) (λ op a scalar.
     OfOne (Apply (function.Index op scalar)) a)
     ∷ row (codes "applyfirst") (AnOperator ∷ AValue ∷ AName ∷ []) (λ op value. OfOne (Apply (function.First op value)))
@@ -392,13 +397,21 @@ operations =
     ∷ row (codes "select") (AnIndexOperator ∷ AName ∷ AValue ∷ []) (λ op a scalar. OfOne (Select op scalar) a)
     ∷ row (codes "reducerows") (AMonoid ∷ AName ∷ []) (λ monoid. OfOne (ReduceRows monoid))
     ∷ row (codes "transpose") (AName ∷ []) (OfOne Transpose)
-    ∷ row (codes "extract") (AName ∷ AList ∷ []) (λ a indices. OfOne (Extract (region.One indices)) a)
+    ∷ []
+
+-- ..and those that name one
+abbrev pub operations_on_regions : List (Row (Operation Name))
+operations_on_regions =
+    row (codes "extract") (AName ∷ AList ∷ []) (λ a indices. OfOne (Extract (region.One indices)) a)
     ∷ row (codes "extract") (AName ∷ AList ∷ AList ∷ []) (λ a rows cols. OfOne (Extract (region.Two rows cols)) a)
     ∷ row (codes "assign") (AName ∷ AList ∷ []) (λ a indices. OfOne (Assign (region.One indices)) a)
     ∷ row (codes "assign") (AName ∷ AList ∷ AList ∷ []) (λ a rows cols. OfOne (Assign (region.Two rows cols)) a)
     ∷ row (codes "fill") (AValue ∷ AList ∷ []) (λ value indices. Fill value (region.One indices))
     ∷ row (codes "fill") (AValue ∷ AList ∷ AList ∷ []) (λ value rows cols. Fill value (region.Two rows cols))
     ∷ []
+
+abbrev pub operations : List (Row (Operation Name))
+operations = operations_of_two ++ operations_of_one ++ operations_on_regions
 
 -- ---- calls
 

@@ -24,7 +24,8 @@ use Rattle.model.specs.Run.{Environment, effect, no_object, object_at, on_object
 use Rattle.model.proofs.BuildLaws.{built-within}
 use Rattle.model.proofs.ObjectLaws.{removed-within, set-within}
 use Rattle.model.proofs.RegionLaws.{cut_to-within}
-use Rattle.model.proofs.ResultLaws.{KeepsInside, result-within}
+use Rattle.model.proofs.OperationLaws.{KeepsInside}
+use Rattle.model.proofs.ResultLaws.{result-within}
 use Rattle.model.proofs.StepLaws.{accepted-act, accepted-operation}
 use Rattle.model.proofs.WriteBackLaws.{not_false}
 use Rattle.plain.specs.declared.environment.PlainEnvironment.{PlainEnvironment}
