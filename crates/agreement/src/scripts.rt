@@ -19,7 +19,8 @@ const MOST_POSITIONS: u64 = 4_096;
 /// The orders in which the runtime does the work of a whole script.
 const ORDERS: [Order; 4] = [Order::First, Order::Last, Order::Seed(1), Order::Seed(2)];
 
-/// Compares a script, and where it is short each beginning of it before. It ends at the first difference.
+/// Compares a script, and where it is short each beginning of it before, and then its runs by two runners. It ends at
+/// the first difference.
 pub fn compare(alloc: Global, script: &[u8], files: Files<'_>) -> Result<Compared, AllocError> {
     let mut compared = Compared::new();
     let shortest = if script.len() < LEAST_UNCUT {
@@ -39,14 +40,12 @@ pub fn compare(alloc: Global, script: &[u8], files: Files<'_>) -> Result<Compare
         if compared.is_whole {
             compared.count();
             compared.difference = difference(alloc, text, files, orders)?;
-            if compared.difference.is_none() && end == script.len() {
-                compared.difference = failure(alloc, text, files)?;
-            }
         }
         if compared.difference.is_some() {
-            break;
+            return Ok(compared);
         }
     }
+    compared.difference = failure(alloc, script, files)?;
     Ok(compared)
 }
 
@@ -72,12 +71,13 @@ fn difference(
     Ok(None)
 }
 
-/// Where the answers differ of a run whose every recipe is asked for, or where one of these fails, in words.
+/// Where the answers differ of a run whose every recipe is asked for, or where one of these fails, in words. The plain
+/// evaluator has no part in it, so no script is too large.
 fn failure(alloc: Global, script: &[u8], files: Files<'_>) -> Result<Option<String>, AllocError> {
-    let plain = of_plain(alloc, script, files)?;
+    let asked = of_runtime(alloc, script, files, Order::First)?;
     let (run, failed) = of_keeping(alloc, script, files, Order::Last)?;
-    if run != plain {
-        let lines = common_lines(run.as_slice(), plain.as_slice());
+    if run != asked {
+        let lines = common_lines(run.as_slice(), asked.as_slice());
         let text = format!(in alloc;
             "where each recipe is asked for, the answers differ behind line {lines} of them"
         )?;
