@@ -11,7 +11,7 @@ use Rattle.history.specs.declared.made.Made.{Made}
 use Rattle.history.specs.Histories.{made_from, object_in}
 use Rattle.model.specs.Object.{Content, no_content}
 
--- how long the ways are from inputs to theirs, together
+-- a number that is greater than that of each input
 abbrev pub depth_at : Option (ℕ × Made) → ℕ
 depth_at None = 0
 depth_at (Some v) = v.0 + 1

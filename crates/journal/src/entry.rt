@@ -3,8 +3,8 @@ use calls::Recipe;
 use std::marker::Model;
 use std::snapshot::Snapshot;
 
-/// A recipe, and the entries of its inputs. It has no bytes. Contracts see how long the longest way is from input to
-/// input, and the object that was made, as data.
+/// A recipe, and the entries of its inputs. It has no bytes. Contracts see a number that is greater than those of the
+/// inputs, since entries are made of earlier ones alone, and the object that was made, as data.
 #[derive(Drop)]
 #[cycle(entry)]
 pub struct Entry {

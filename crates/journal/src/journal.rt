@@ -1,5 +1,5 @@
 //! Logs, their names, and notes of places in them.
-ghost use Rattle.std.specs.Prelude.{◌≡◌, IfOk, IfSome};
+ghost use Rattle.std.specs.Prelude.{◌≡◌, ◌==◌, IfOk, IfSome};
 ghost use Rattle.std.specs.Bool.{OnTrue};
 ghost use Rattle.std.specs.Option.{option_map};
 ghost use Rattle.history.specs.Histories.{object_of};
@@ -78,7 +78,8 @@ impl<J: Naming> Note<J> {
     /// Whether both are of one place, and so of one object.
     pub fn agrees(&self, log: &Log, other: &Note<J>) -> bool
         requires { log.now ≡ J.log }
-        ensures { OnTrue result (self.now ≡ other.now) }
+        ensures place { result ≡ (self.now.place == other.now.place) }
+        ensures same { OnTrue result (self.now ≡ other.now) }
     {
         if self.token.index() != other.token.index() {
             return false;
