@@ -176,14 +176,6 @@ or_last : (y z : Bool) → z ≡ true → (y || z) ≡ true
 or_last true z h = refl
 or_last false z h = h
 
--- a slot on which somebody works can fail
-pub may_fail-running : {N : Type 0} (v : View N) (k : ℕ) → is_running (slice_get v.progress k) ≡ true
-    → may_fail v k ≡ true
-may_fail-running v k runs =
-    let joins = is_joining (slice_get v.progress k) in
-    or_right (is_ready v.tasks v.progress k) (is_running (slice_get v.progress k)) joins
-    (or_left (is_running (slice_get v.progress k)) joins runs)
-
 running_some : (o : Option Progress) → is_running o ≡ true → o ≡ Some Running
 running_some None h = absurd cc
 running_some (Some r) h = elim r as (λ r. is_running (Some r) ≡ true → Some r ≡ Some Running) [ Running ↦ λ h. refl | _ ↦ λ h. absurd cc ] h

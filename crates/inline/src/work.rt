@@ -116,6 +116,7 @@ fn do_piece<N: Drop>(alloc: Global, board: &mut Board<N>, piece: Piece) -> Resul
     } = piece;
     let block = block_of(alloc, &recipe, inputs, rows)?;
     let Ok(Given::Last(block)) = board.give(number, piece, block) else {
+        // A board refuses no block of a piece that is out. One that did would wait for it for ever, so its slot fails.
         return Err(NoMemory);
     };
     let store = Arc::new(alloc, join(&recipe, block))?;
