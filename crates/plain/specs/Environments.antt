@@ -63,6 +63,10 @@ out_in env out = renamed_out (object_in env) (named_out out)
 abbrev pub operation_in : PlainEnvironment → Operation (Bor Name) → Operation Object
 operation_in env operation = renamed_operation (object_in env) (named_operation operation)
 
+-- what is known of what a name stands for, if it stands for something
+abbrev pub known_at : PlainEnvironment → Name → Option Signature
+known_at env name = option_map signature_of ((environment_of env).find_object name)
+
 -- what is known of what is found of a call's objects
 abbrev pub found_in : PlainEnvironment → Call Name Name → Call (Option Signature) Bool
 found_in env call = renamed (option_map signature_of) (λ taken. taken) (seen (environment_of env) call)

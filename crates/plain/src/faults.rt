@@ -5,13 +5,13 @@ ghost use Rattle.model.specs.Fault.{takes_name, test_fails};
 ghost use Rattle.model.specs.Object.{signature_of};
 ghost use Rattle.model.specs.Renamed.{found, renamed_operation, renamed_out};
 ghost use Rattle.model.specs.Run.{seen};
-ghost use Rattle.plain.specs.Environments.{environment_of, fault_in, found_in, known_in, named, named_operation};
-ghost use Rattle.plain.specs.Environments.{named_out, operation_in, out_in};
+ghost use Rattle.plain.specs.Environments.{environment_of, fault_in, found_in, known_at, known_in, named};
+ghost use Rattle.plain.specs.Environments.{operation_in, out_in};
 
 use crate::acts::{act_fails, late_fault};
 use crate::environment::PlainEnvironment;
 use algebra::compatible;
-use model::{Call, MOST_FILLED, MOST_OBJECTS, Operation, Out, Signature, Status};
+use model::{Call, Lookup, MOST_FILLED, MOST_OBJECTS, Operation, Out, Signature, Status};
 use std::alloc::{AllocError, Global};
 
 /// The order of the checks.
@@ -28,6 +28,24 @@ const ORDER: [Status; 11] = [
     Status::IndexOutOfBounds,
     Status::InvalidValue,
 ];
+
+/// What is known of what names stand for.
+#[derive(Clone, Copy)]
+struct Signatures<'a>(&'a PlainEnvironment);
+
+impl<'a> Lookup<&'a str> for Signatures<'_> {
+    type Found = Signature;
+
+    ghost found = { λ signatures name. known_at signatures.0.now name.now };
+
+    fn find(&self, name: &'a str) -> Option<Signature> {
+        let object = self.0.find(name)?;
+        Some(Signature {
+            domain: object.domain,
+            shape: object.shape,
+        })
+    }
+}
 
 impl PlainEnvironment {
     /// The fault of a call, if it has one.
@@ -83,25 +101,11 @@ impl PlainEnvironment {
         match call {
             Call::Create { .. } => true,
             Call::Dup { object, .. } | Call::On { object, .. } => self.find(object).is_some(),
-            Call::Operate { out, operation } => self.has_objects(out, operation),
+            Call::Operate { out, operation } => {
+                out.found(&Signatures(self)).is_some()
+                    && operation.lent(&Signatures(self)).is_some()
+            }
         }
-    }
-
-    /// Whether each object that an operation names is there.
-    fn has_objects(&self, out: &Out<&str>, operation: &Operation<&str>) -> bool
-        ensures { not result ≡ is_none (found (found_in self.now
-            (Call.Operate (named_out out.now) (named_operation operation.now)))) }
-    {
-        let has_mask = match out.mask {
-            Some(mask) => self.find(mask).is_some(),
-            None => true,
-        };
-        let has_inputs = match operation {
-            Operation::Fill { .. } => true,
-            Operation::OfOne { a, .. } => self.find(a).is_some(),
-            Operation::OfTwo { a, b, .. } => self.find(a).is_some() && self.find(b).is_some(),
-        };
-        self.find(out.c).is_some() && has_mask && has_inputs
     }
 
     /// Whether a call fails a test on the objects that its names stand for.
