@@ -1,5 +1,6 @@
 -- A slot whose store is there when it comes.
 use Rattle.std.proofs.Common.{◌≡◌, ◌∙◌, ℕ, zero, suc, ◌≤◌, ◌&&◌, Bool, true, false, cond, eqb, List, [], ◌∷◌, ◌++◌, length, map, not, Option, Some, None, slice_get, slice_set, refl, sym, ap, arith, subst}
+use Rattle.std.specs.Global.{Box}
 use Rattle.std.specs.Prelude.{OnOk, Result, Ok, Err, slice_index}
 use Rattle.std.specs.Arc.{arc_value}
 use Rattle.std.specs.Option.{option_map, option_map_or}
@@ -30,24 +31,24 @@ use Rattle.board.proofs.OutLaws.{sound_room}
 use Rattle.board.proofs.ReadyLaws.{untaken_some}
 use Rattle.board.proofs.SoundLaws.{sound_set, stage_at}
 
-pub given_object : (ts : List Task) (k : ℕ) (given : Given) → slice_get ts k ≡ Some (record { recipe = recipe.Given given; inputs = no_roles })
-    → object_at ts k ≡ object_with given.of (content_of (arc_value given.store))
+pub given_object : (ts : List Task) (k : ℕ) (given : Box Given) → slice_get ts k ≡ Some (record { recipe = recipe.Given given; inputs = no_roles })
+    → object_at ts k ≡ object_with given.value.of (content_of (arc_value given.value.store))
 given_object ts k given is =
     object_at_made ts k (record { recipe = recipe.Given given; inputs = no_roles }) is refl
     ∙ made_unfolds (objects ts) (record { recipe = recipe.Given given; inputs = no_roles })
 
-pub given_is_object : (ts : List Task) (k : ℕ) (given : Given) → slice_get ts k ≡ Some (record { recipe = recipe.Given given; inputs = no_roles })
+pub given_is_object : (ts : List Task) (k : ℕ) (given : Box Given) → slice_get ts k ≡ Some (record { recipe = recipe.Given given; inputs = no_roles })
     → IsObject (object_at ts k)
-given_is_object ts k given is = subst IsObject (sym (given_object ts k given is)) given.is_store.is_object
+given_is_object ts k given is = subst IsObject (sym (given_object ts k given is)) given.value.is_store.is_object
 
-pub given_right : (ts : List Task) (k : ℕ) (given : Given) → slice_get ts k ≡ Some (record { recipe = recipe.Given given; inputs = no_roles })
-    → IsStoreFor (object_at ts k) (arc_value given.store)
+pub given_right : (ts : List Task) (k : ℕ) (given : Box Given) → slice_get ts k ≡ Some (record { recipe = recipe.Given given; inputs = no_roles })
+    → IsStoreFor (object_at ts k) (arc_value given.value.store)
 given_right ts k given is =
-    subst (λ (o : Object). IsStoreFor o (arc_value given.store)) (sym (given_object ts k given is))
-    (record { rows = given.is_store.rows; cols = given.is_store.cols; content = λ i j. refl })
+    subst (λ (o : Object). IsStoreFor o (arc_value given.value.store)) (sym (given_object ts k given is))
+    (record { rows = given.value.is_store.rows; cols = given.value.is_store.cols; content = λ i j. refl })
 
 -- the task of a slot that was added for a store
-pub placed_at : (ts next : List Task) (given : Given) (inputs : Roles ℕ) (k : ℕ) → next ≡ ts ++ record { recipe = recipe.Given given; inputs = inputs } ∷ []
+pub placed_at : (ts next : List Task) (given : Box Given) (inputs : Roles ℕ) (k : ℕ) → next ≡ ts ++ record { recipe = recipe.Given given; inputs = inputs } ∷ []
     → inputs ≡ no_roles → k ≡ length ts → slice_get next k ≡ Some (record { recipe = recipe.Given given; inputs = no_roles })
 placed_at ts next given inputs k next_is none last =
     ap (λ (l : List Task). slice_get l k) next_is

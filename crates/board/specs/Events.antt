@@ -3,6 +3,7 @@ use Rattle.std.specs.Prelude.{◌||◌, ℕ, ◌≡◌, ◌%◌, ◌++◌, ◌�
 use Rattle.std.specs.Prelude.{Result, Ok, Err, if◌then◌else◌, Bool, Option, Some, None, slice_get, slice_index}
 use Rattle.std.specs.Prelude.{slice_set}
 use Rattle.std.specs.Option.{option_and_then, option_map_or}
+use Rattle.std.specs.Global.{Box}
 use Rattle.calls.specs.declared.recipe.Given.{Given as There}
 use Rattle.calls.specs.declared.recipe.Recipe.{Recipe}
 use Rattle.calls.specs.declared.recipe.Recipe.TheVariants as recipe
@@ -101,7 +102,7 @@ failed v k = record v { progress = fallen v.tasks (slice_set v.progress k Failed
 -- ---- a store that is there
 
 -- the next slot has one hold and is made at once: its task is a store that is there
-abbrev pub placed : {N : Type 0} → View N → N → There → View N
+abbrev pub placed : {N : Type 0} → View N → N → Box There → View N
 placed v note given = with_progress (issued v note (recipe.Given given) no_roles) (length v.tasks) Made
 
 -- ---- what nobody can ask for

@@ -131,7 +131,7 @@ impl<N: Drop> Board<N> {
 
     /// The next slot has a store that is there, and one hold. It is done at once, as if its task had been taken, given
     /// back whole and joined, but for that nothing is copied: the store is shared.
-    pub fn issue_given(&mut self, note: N, given: calls::Given) -> Result<u64, NoMemory>
+    pub fn issue_given(&mut self, note: N, given: Box<calls::Given>) -> Result<u64, NoMemory>
         ensures number { IfOk result (λ number. number ≡ length (view_of self.old).tasks) }
         ensures placed { OnOk result (view_of self.new ≡ placed (view_of self.old) note given) }
         ensures refused { OnErr result (view_of self.new ≡ view_of self.old) }

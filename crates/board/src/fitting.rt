@@ -21,7 +21,7 @@ fn inputs_of(recipe: &Recipe) -> Roles<&Signature>
         Recipe::New(_) => Roles::none(),
         Recipe::Given(_) => Roles::none(),
         Recipe::Patch(patch) => Roles::of_old(&patch.of),
-        Recipe::Resized { of, .. } => Roles::of_old(of),
+        Recipe::Resized(resize) => Roles::of_old(&resize.of),
         Recipe::Transposed(turn) => Roles {
             first: Some(&turn.of),
             ..Roles::none()

@@ -43,20 +43,20 @@ known_by_role out operation = role_of (roles_of out operation)
 
 -- what is known of what a recipe makes
 abbrev pub known_of : Recipe → Signature
-known_of (New of) = of
-known_of (Given given) = given.of
-known_of (Patch patch) = patch.of
-known_of (Resized of shape) = record of { shape = shape }
-known_of (Transposed turn) = transposed_signature turn.of
+known_of (New of) = of.value
+known_of (Given given) = given.value.of
+known_of (Patch patch) = patch.value.of
+known_of (Resized resize) = record resize.value.of { shape = resize.value.shape }
+known_of (Transposed turn) = transposed_signature turn.value.of
 known_of (Computed computation) = computation.accepted.value.out.c
 
 -- what is known of its inputs, by their roles: those that its meaning reads
 abbrev pub inputs_of : Recipe → Roles Signature
 inputs_of (New of) = no_roles
 inputs_of (Given given) = no_roles
-inputs_of (Patch patch) = record no_roles { old = Some patch.of }
-inputs_of (Resized of shape) = record no_roles { old = Some of }
-inputs_of (Transposed turn) = record no_roles { first = Some turn.of }
+inputs_of (Patch patch) = record no_roles { old = Some patch.value.of }
+inputs_of (Resized resize) = record no_roles { old = Some resize.value.of }
+inputs_of (Transposed turn) = record no_roles { first = Some turn.value.of }
 inputs_of (Computed computation) = roles_of computation.accepted.value.out computation.accepted.value.operation
 
 abbrev pub known_by : Recipe → Role → Option Signature
@@ -70,9 +70,10 @@ ComputesInto out recipe = ⊥
 -- what a recipe makes of the maps that take its roles
 abbrev pub meaning_of : Recipe → (Role → Content) → Content
 meaning_of (New of) maps = no_content
-meaning_of (Given given) maps = content_of (arc_value given.store)
-meaning_of (Patch patch) maps = edited patch.edits.items (maps Old)
-meaning_of (Resized of shape) maps = cut_to (rows_of shape) (cols_of shape) (maps Old)
+meaning_of (Given given) maps = content_of (arc_value given.value.store)
+meaning_of (Patch patch) maps = edited patch.value.edits.items (maps Old)
+meaning_of (Resized resize) maps =
+    cut_to (rows_of resize.value.shape) (cols_of resize.value.shape) (maps Old)
 meaning_of (Transposed turn) maps = transposed_content (maps First)
 meaning_of (Computed computation) maps =
     meaning computation.accepted.value.out computation.accepted.value.operation maps

@@ -19,6 +19,6 @@ pub use model::{
 };
 pub use obj::{Obj, Shapes};
 pub use operation::{check_operate, check_two};
-pub use recipe::{Accepted, Computation, Given, Patch, Recipe, Transpose};
+pub use recipe::{Accepted, Computation, Given, Patch, Recipe, Resize, Transpose};
 pub use role::{Role, Roles, by_role, by_role_of_two, lent_by_role};
 pub use turns::{Turns, straight};

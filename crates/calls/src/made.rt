@@ -11,12 +11,12 @@ impl Recipe {
         ensures { result ≡ known_of self.now }
     {
         match self {
-            Recipe::New(of) => *of,
+            Recipe::New(of) => **of,
             Recipe::Given(given) => given.of,
             Recipe::Patch(patch) => patch.of,
-            Recipe::Resized { of, shape } => Signature {
-                shape: *shape,
-                ..*of
+            Recipe::Resized(resize) => Signature {
+                shape: resize.shape,
+                ..resize.of
             },
             Recipe::Transposed(turn) => turn.of.transposed_if(true),
             Recipe::Computed(computation) => computation.accepted.out.c,

@@ -20,7 +20,7 @@ pub struct Accepted {
     pub ghost accepted: { operation_fault out operation ≡ None },
 }
 
-/// An accepted operation that transposes no input. It lies behind a pointer, since recipes are handed on.
+/// An accepted operation that transposes no input.
 #[derive(Drop)]
 pub struct Computation {
     pub accepted: Box<Accepted>,
@@ -45,6 +45,13 @@ pub struct Patch {
         → IsObject (object_with of (edited edits.items map)) },
 }
 
+/// An object that gets another shape.
+#[derive(Clone, Copy)]
+pub struct Resize {
+    pub of: Signature,
+    pub shape: Shape,
+}
+
 /// A matrix that is transposed.
 #[derive(Clone, Copy)]
 pub struct Transpose {
@@ -53,19 +60,20 @@ pub struct Transpose {
 }
 
 /// What is evaluated, of stores that take its roles. It owns its lists, knows domains and shapes, and holds no object
-/// and no store that takes a role: whoever has it and these stores can evaluate it.
+/// and no store that takes a role: whoever has it and these stores can evaluate it. All of it lies behind pointers,
+/// since recipes go from hand to hand, and a value of any kind is copied with the fields of all kinds.
 #[derive(Drop)]
 pub enum Recipe {
     /// An object without entries.
-    New(Signature),
+    New(Box<Signature>),
     /// The entries of an object that is there. Whoever shares its store needn't evaluate it.
-    Given(Given),
+    Given(Box<Given>),
     /// The object in the role of the old content, after edits.
-    Patch(Patch),
+    Patch(Box<Patch>),
     /// The object in the role of the old content, in another shape.
-    Resized { of: Signature, shape: Shape },
+    Resized(Box<Resize>),
     /// The transpose of the matrix in the role of the first input.
-    Transposed(Transpose),
+    Transposed(Box<Transpose>),
     /// What an operation leaves.
     Computed(Computation),
 }

@@ -1,4 +1,5 @@
 -- Notes tell the objects of their slots, whatever happens on the board.
+use Rattle.std.specs.Global.{Box}
 use Rattle.std.proofs.Common.{◌≡◌, ◌∙◌, ◌⊎◌, ℕ, zero, suc, ◌<◌, Bor, List, [], ◌∷◌, ◌++◌, length, Option, Some, None, true, slice_get, refl, sym, subst, ap, inl, inr, arith}
 use Rattle.std.specs.Prelude.{nat_lt, Result, Ok, Err, OnOk, OnErr}
 use Rattle.std.specs.Option.{option_map, option_map_or}
@@ -136,7 +137,7 @@ told-after v w (Err refusal) note recipe inputs tickets issued refused accepts s
     subst AreTold (sym refused) told
 
 -- the same where the slot has a store that is there
-told-placed : {J : Type 0} (v : View Told) (note : Told) (given : Given) (tickets : Roles (Bor (Ticket J))) → length v.notes ≡ length v.tasks → AreTold v
+told-placed : {J : Type 0} (v : View Told) (note : Told) (given : Box Given) (tickets : Roles (Bor (Ticket J))) → length v.notes ≡ length v.tasks → AreTold v
     → object_of note ≡ made_by object_in (recipe.Given given) tickets → AreTold (placed v note given)
 told-placed v note given tickets sized told makes k n at = elim (snoc_at v.notes note n k at) [
   | inl before ↦ object_at_left v.tasks (record { recipe = recipe.Given given; inputs = no_roles }) k (omega (arith, sized, before.0)) ∙ told k n before.1
@@ -147,7 +148,7 @@ told-placed v note given tickets sized told makes k n at = elim (snoc_at v.notes
       ∙ sym makes ∙ ap object_of last.1
 ]
 
-pub told-after_given : {J : Type 0} (v w : View Told) (result : Result ℕ NoMemory) (note : Told) (given : Given) (tickets : Roles (Bor (Ticket J)))
+pub told-after_given : {J : Type 0} (v w : View Told) (result : Result ℕ NoMemory) (note : Told) (given : Box Given) (tickets : Roles (Bor (Ticket J)))
     → OnOk result (w ≡ placed v note given) → OnErr result (w ≡ v) → length v.notes ≡ length v.tasks → AreTold v
     → object_of note ≡ made_by object_in (recipe.Given given) tickets → AreTold w
 told-after_given v w (Ok slot) note given tickets new refused sized told makes =

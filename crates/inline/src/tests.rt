@@ -19,15 +19,15 @@ use std::sync::Arc;
 use store::Store;
 
 // A matrix of so many rows and two columns, without entries.
-fn given(alloc: Global, rows: u64) -> Result<Given, AllocError>
-    ensures { IfOk result (λ given. given.of.shape ≡ Two rows 2) }
+fn given(alloc: Global, rows: u64) -> Result<Box<Given>, AllocError>
+    ensures { IfOk result (λ given. given.value.of.shape ≡ Two rows 2) }
 {
     let of = Signature {
         domain: Domain::Int64,
         shape: Shape::Two(rows, 2),
     };
     let store = Arc::new(alloc, Store::new(alloc, rows, 2))?;
-    Ok(Given { of, store })
+    Ok(Box::new(alloc, Given { of, store })?)
 }
 
 // A block that fits a slot of four rows.
@@ -41,11 +41,9 @@ fn patched_and_read(alloc: Global) -> Result<Board<u64>, AllocError> {
     let of = given.of;
     let mut board = Board::new(alloc);
     board.issue_given(0, given).map_err(|_| AllocError)?;
-    let patch = Recipe::Patch(Patch {
-        of,
-        edits: Vec::new(alloc),
-    });
-    let transpose = Recipe::Transposed(Transpose { of });
+    let edits = Vec::new(alloc);
+    let patch = Recipe::Patch(Box::new(alloc, Patch { of, edits })?);
+    let transpose = Recipe::Transposed(Box::new(alloc, Transpose { of })?);
     let first = Roles {
         first: Some(0),
         ..Roles::none()

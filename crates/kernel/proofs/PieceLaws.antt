@@ -28,17 +28,19 @@ transposed_matrix known (Two m n) map matrix is =
 -- ..of objects that take its roles
 pub recipe-is_object : (recipe : Recipe) (maps : Role → Content) → AreObjects (known_by recipe) maps
     → IsObject (object_with (known_of recipe) (meaning_of recipe maps))
-recipe-is_object (New of) maps are = empty-is_object of.domain of.shape
-recipe-is_object (Given given) maps are = given.is_store.is_object
-recipe-is_object (Patch patch) maps are = patch.keeps (maps Old) (are Old)
-recipe-is_object (Resized of shape) maps are =
+recipe-is_object (New of) maps are = empty-is_object of.value.domain of.value.shape
+recipe-is_object (Given given) maps are = given.value.is_store.is_object
+recipe-is_object (Patch patch) maps are = patch.value.keeps (maps Old) (are Old)
+recipe-is_object (Resized resize) maps are =
+    let of = resize.value.of in
+    let shape = resize.value.shape in
     let old : IsObject (object_with of (maps Old)) = are Old in
     record {
       within = cut_to-within (rows_of shape) (cols_of shape) (maps Old);
       words = cut_to-words of.domain (rows_of shape) (cols_of shape) (maps Old) old.words;
     }
 recipe-is_object (Transposed turn) maps are =
-    transposed_matrix turn.of turn.of.shape (maps First) turn.matrix (are First)
+    transposed_matrix turn.value.of turn.value.of.shape (maps First) turn.value.matrix (are First)
 recipe-is_object (Computed computation) maps are =
     meaning-is_object computation.accepted.value.out computation.accepted.value.operation maps computation.accepted.value.accepted are
 

@@ -48,9 +48,9 @@ pub fn eval_piece(
         Recipe::New(of) => Store::new(alloc, of.shape.rows(), of.shape.cols()),
         Recipe::Given(given) => given.store.try_clone()?,
         Recipe::Patch(patch) => { edited(alloc, patch, taking(patch.of, stores.old).try_clone()?)? }
-        Recipe::Resized { of, shape } => {
-            let old = taking(*of, stores.old);
-            resize(alloc, old, shape.rows(), shape.cols())?
+        Recipe::Resized(change) => {
+            let old = taking(change.of, stores.old);
+            resize(alloc, old, change.shape.rows(), change.shape.cols())?
         }
         Recipe::Transposed(turn) => transpose(alloc, taking(turn.of, stores.first))?,
     };

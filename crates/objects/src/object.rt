@@ -92,7 +92,7 @@ pub(crate) fn give<R: Runner>(
         return Ok(false);
     }
     value::make(alloc, runner, object.of, &mut object.value)?;
-    value::give_ticket(runner, object.of, &mut object.value)?;
+    value::give_ticket(alloc, runner, object.of, &mut object.value)?;
     if object.edits.is_empty() {
         return Ok(true);
     }
@@ -116,7 +116,7 @@ fn submit_edits<R: Runner>(
     let (Value::Both(_, ticket) | Value::Open(ticket)) = &object.value else {
         return Ok(());
     };
-    let edits = patch_of(alloc, object)?;
+    let edits = Box::new(alloc, patch_of(alloc, object)?)?;
     let edited = runner.submit(Recipe::Patch(edits), Roles::of_old(ticket))?;
     let old = mem::replace(&mut object.value, Value::Open(edited));
     object.edits.clear();

@@ -105,6 +105,7 @@ pub(crate) fn make<R: Runner>(
 
 /// Gives a ticket to a value that has its store alone. Refused, it stays as it was.
 pub(crate) fn give_ticket<R: Runner>(
+    alloc: Global,
     runner: &mut R,
     of: Signature,
     value: &mut Value<R::Ticket>,
@@ -122,7 +123,7 @@ pub(crate) fn give_ticket<R: Runner>(
     };
     let shared = Arc::try_clone(store).map_err(|_| NoMemory)?;
     let store = Arc::try_clone(store).map_err(|_| NoMemory)?;
-    let given = Given { of, store: shared };
+    let given = Box::new(alloc, Given { of, store: shared })?;
     let ticket = runner.submit(Recipe::Given(given), Roles::none())?;
     *value = Value::Both(store, ticket);
     Ok(())

@@ -10,7 +10,7 @@ ghost use Rattle.runner.specs.Tickets.{Fit, made_by};
 
 use crate::runner::{Failed, Runner};
 use crate::ticket::Ticket;
-use calls::{Recipe, Roles};
+use calls::{Given, Recipe, Roles};
 use kernel::evaluate;
 use model::NoMemory;
 use std::alloc::Global;
@@ -45,11 +45,11 @@ impl Runner for AtOnce {
     fn submit(&mut self, recipe: Recipe, inputs: Roles<&Ticket>) -> Result<Ticket, NoMemory> {
         match recipe {
             // Its store is shared, and nothing is copied.
-            Recipe::Given(given) => Ok(Ticket {
-                of: given.of,
-                store: given.store,
-                epoch: self.epoch,
-            }),
+            Recipe::Given(given) => {
+                let Given { of, store, .. } = Box::into_inner(given);
+                let epoch = self.epoch;
+                Ok(Ticket { of, store, epoch })
+            }
             recipe => evaluated(self.alloc, self.epoch, &recipe, &inputs),
         }
     }

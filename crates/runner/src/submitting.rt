@@ -53,7 +53,7 @@ fn submit_turned<R: Runner>(
     match turns {
         Turns::Exchanged => runner.submit(recipe, exchanged(inputs)),
         Turns::Transposed { first, second } => {
-            submit_transposed(runner, recipe, known, inputs, first, second)
+            submit_transposed(alloc, runner, recipe, known, inputs, first, second)
         }
     }
 }
@@ -71,6 +71,7 @@ fn exchanged<'a, T>(inputs: Roles<&'a T>) -> Roles<&'a T>
 
 /// Submits a recipe on inputs that are transposed as two flags say.
 fn submit_transposed<R: Runner>(
+    alloc: Global,
     runner: &mut R,
     recipe: Recipe,
     known: Roles<Signature>,
@@ -86,18 +87,19 @@ fn submit_transposed<R: Runner>(
         (meaning_of recipe (turned transposed_content (Transposed first second) (maps_by R.object_of inputs.entry)))) }
     ensures is_object { IfOk result (λ t. IsObject (R.object_of t)) }
 {
-    let made = transposed_if(runner, known.first, inputs.first, first)?;
+    let made = transposed_if(alloc, runner, known.first, inputs.first, first)?;
     let turned = Roles {
         first: lent(&made, inputs.first),
         ..inputs
     };
-    let submitted = submit_second_transposed(runner, recipe, known.second, turned, second);
+    let submitted = submit_second_transposed(alloc, runner, recipe, known.second, turned, second);
     let_go(runner, made);
     submitted
 }
 
 /// Submits a recipe on inputs of which the second is transposed where a flag says so.
 fn submit_second_transposed<R: Runner>(
+    alloc: Global,
     runner: &mut R,
     recipe: Recipe,
     known: Option<Signature>,
@@ -112,7 +114,7 @@ fn submit_second_transposed<R: Runner>(
         (meaning_of recipe (turned transposed_content (Transposed false second) (maps_by R.object_of inputs.entry)))) }
     ensures is_object { IfOk result (λ t. IsObject (R.object_of t)) }
 {
-    let made = transposed_if(runner, known, inputs.second, second)?;
+    let made = transposed_if(alloc, runner, known, inputs.second, second)?;
     let turned = Roles {
         second: lent(&made, inputs.second),
         ..inputs
@@ -124,6 +126,7 @@ fn submit_second_transposed<R: Runner>(
 
 /// A ticket for the transpose of a ticket's matrix, where there is one and a flag asks for it.
 fn transposed_if<R: Runner>(
+    alloc: Global,
     runner: &mut R,
     known: Option<Signature>,
     input: Option<&R::Ticket>,
@@ -140,8 +143,8 @@ fn transposed_if<R: Runner>(
                 first: Some(input),
                 ..Roles::none()
             };
-            let transpose = Recipe::Transposed(Transpose { of });
-            Ok(Some(runner.submit(transpose, inputs)?))
+            let transpose = Box::new(alloc, Transpose { of })?;
+            Ok(Some(runner.submit(Recipe::Transposed(transpose), inputs)?))
         }
         _ => Ok(None),
     }

@@ -12,8 +12,8 @@ ghost use Rattle.session.specs.Deferred.{IsPutOff};
 use crate::sessions::Session;
 use algebra::OpName;
 use calls::{
-    Act, Call, Obj, Place, Recipe, Roles, Shape, Signature, TupleList, check_build, check_dup,
-    check_place, check_resize, check_set, check_there,
+    Act, Call, Obj, Place, Recipe, Resize, Roles, Shape, Signature, TupleList, check_build,
+    check_dup, check_place, check_resize, check_set, check_there,
 };
 use model::{NoMemory, Status};
 use objects::{Value, edit, is_told, store, ticket};
@@ -85,8 +85,9 @@ impl<R: Runner + Drop> Session<R> {
         if !self.give(object)? {
             return Ok(Value::Failed);
         }
+        let resize = Box::new(self.alloc, Resize { of, shape })?;
         let inputs = Roles::of_old(ticket(&self.table, object));
-        let resized = self.runner.submit(Recipe::Resized { of, shape }, inputs)?;
+        let resized = self.runner.submit(Recipe::Resized(resize), inputs)?;
         Ok(Value::Open(resized))
     }
 

@@ -16,4 +16,4 @@ returns c =
     ap (λ (v : View ℕ). v.tasks) c.in-Ok.ensures.issued
     ∙ ap (λ (v : View ℕ). v.tasks ++ record { recipe = Given given; inputs = c.none.result } ∷ []) c.new-board.ensures
     ∙ ap (λ (i : Roles ℕ). record { recipe = Given given; inputs = i } ∷ []) c.none.ensures in
-    rw c.in_ok-store.ensures (given_right (view_of c.issue.new.self).tasks 0 given (ap (λ (l : List Task). slice_get l 0) tasks))
+    rw (c.in_ok-store.ensures, c.deref.ensures) (given_right (view_of c.issue.new.self).tasks 0 given (ap (λ (l : List Task). slice_get l 0) tasks))

@@ -13,7 +13,7 @@ pub unreachable-requires : goal.unreachable-requires
 unreachable-requires c = rw (c.in-Patch.is, c.in_default-old.is) at (c.requires.takes Old)
 
 pub patch_over-requires : goal.patch_over-requires
-patch_over-requires c = rw (c.in-Patch.is, c.in-Some.is) at (c.requires.takes Old)
+patch_over-requires c = rw c.deref.ensures (rw (c.in-Patch.is, c.in-Some.is) at (c.requires.takes Old))
 
 pub returns-in_default : goal.returns-in_default
 returns-in_default c =

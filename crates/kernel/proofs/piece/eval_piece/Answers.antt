@@ -3,10 +3,10 @@ use Rattle.calls.specs.declared.role.Role.TheVariants as role
 use Rattle.kernel.proofs.piece.eval_piece.Goals as goal
 
 pub taking-requires : goal.taking-requires
-taking-requires c = rw c.in-Patch.is at (c.requires.inputs role.Old)
+taking-requires c = rw c.deref-in-Patch-2.ensures (rw c.in-Patch.is at (c.requires.inputs role.Old))
 
 pub taking-old-requires : goal.taking-old-requires
-taking-old-requires c = rw c.in-Resized.is at (c.requires.inputs role.Old)
+taking-old-requires c = rw c.deref-in-Resized.ensures (rw c.in-Resized.is at (c.requires.inputs role.Old))
 
 pub taking-requires-in-Transposed : goal.taking-requires-in-Transposed
-taking-requires-in-Transposed c = rw c.in-Transposed.is at (c.requires.inputs role.First)
+taking-requires-in-Transposed c = rw c.deref-in-Transposed.ensures (rw c.in-Transposed.is at (c.requires.inputs role.First))
