@@ -3,6 +3,7 @@ use Rattle.std.proofs.Common.{inl, inr, ◌≡◌, ◌∙◌, ℕ, ◌+◌, ◌*
 use Rattle.std.specs.Prelude.{nat_lt, slice_index}
 use Rattle.std.specs.Option.{option_and_then, option_map}
 use Rattle.std.proofs.lemmas.Bool.{and_from, cases_lt, lt-ltb}
+use Rattle.std.proofs.Math.Bool.{and-false}
 use Rattle.std.proofs.lemmas.List.{map-append}
 use Rattle.std.proofs.lemmas.Option.{slice_get-map, slice_get_past}
 use Rattle.calls.specs.declared.recipe.Recipe.{Recipe}
@@ -18,7 +19,7 @@ use Rattle.board.specs.Flows.{Grows}
 use Rattle.board.specs.Looks.{is_seen_gone, seen_at}
 use Rattle.board.specs.Numbers.{has_in}
 use Rattle.board.specs.Places.{each, place_of, places_of}
-use Rattle.board.specs.Progress.{Progress, Untaken, Failed, allows, is_failed, is_made, is_moved, is_unfinished}
+use Rattle.board.specs.Progress.{Progress, Untaken, Made, Moved, Failed, allows, is_failed, is_made, is_moved, is_unfinished}
 use Rattle.board.specs.Sound.{IsSound}
 use Rattle.board.specs.Stages.{progress_of}
 use Rattle.board.specs.Stages.{is_gone as stage_gone}
@@ -231,6 +232,21 @@ pub view_issued : {N : Type 0} (v : View N) (ts : List Task) (ns : List N) (ps :
 view_issued {N} v ts ns ps hs note recipe inputs p a b c d e =
     let f : ps ≡ v.progress ++ first_progress v.progress inputs ∷ [] = c ∙ ap (λ q. v.progress ++ q ∷ []) e in
     λ t. record { tasks = a t; notes = b t; progress = f t; holds = d t }
+
+-- what was made hasn't failed
+made_kept : (o : Option Progress) → is_made o ≡ true → not (is_failed o) ≡ true
+made_kept None h = absurd cc
+made_kept (Some r) h = elim r as (λ r. is_made (Some r) ≡ true → not (is_failed (Some r)) ≡ true) [ Made ↦ λ h. refl | Moved ↦ λ h. refl | _ ↦ λ h. absurd cc ] h
+
+pub each_kept : (ps : List Progress) (inputs : Roles ℕ) → each (λ i. is_made (slice_get ps i)) inputs ≡ true
+    → each (λ i. not (is_failed (slice_get ps i))) inputs ≡ true
+each_kept ps inputs made = each-then (λ i. is_made (slice_get ps i)) (λ i. not (is_failed (slice_get ps i))) inputs made (λ role i takes h. made_kept (slice_get ps i) h)
+
+-- a slot whose inputs were made waits, and needn't
+pub ready_waits : (made waits : Bool) (ps : List Progress) (inputs : Roles ℕ) → made ≡ each (λ i. is_made (slice_get ps i)) inputs
+    → waits ≡ each (λ i. not (is_failed (slice_get ps i))) inputs → made ≡ (waits && each (λ i. is_made (slice_get ps i)) inputs)
+ready_waits true waits ps inputs made is = rw (is, each_kept ps inputs (sym made)) made
+ready_waits false waits ps inputs made is = rw (← made) (sym (and-false waits))
 
 pub first_is : (waits : Bool) (ps : List Progress) (inputs : Roles ℕ) (r : Recipe) → waits ≡ each (λ i. not (is_failed (slice_get ps i))) inputs
     → progress_of (cond waits (stage.Untaken r) stage.Failed) ≡ first_progress ps inputs

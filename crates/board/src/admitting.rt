@@ -1,5 +1,5 @@
 //! What a slot begins with.
-ghost use Rattle.std.specs.Prelude.{◌≡◌, ◌+◌, ◌<◌, ◌≤◌, ◌++◌, ◌∷◌, ◌&&◌, ℕ, [], ◌^◌, if◌then◌else◌, length, map, not};
+ghost use Rattle.std.specs.Prelude.{◌≡◌, ◌+◌, ◌<◌, ◌≤◌, ◌++◌, ◌∷◌, ℕ, [], ◌^◌, if◌then◌else◌, length, map, not, true};
 ghost use Rattle.std.specs.Prelude.{slice_get, slice_index, vec_len};
 ghost use Rattle.std.specs.Bool.{OnTrue};
 ghost use Rattle.std.specs.Vec.{vec_capacity};
@@ -10,13 +10,21 @@ ghost use Rattle.board.specs.Stages.{progress_of};
 
 use crate::reads::read_more;
 use crate::slot::Slot;
-use crate::stage::{Stage, are_made, is_failed};
+use crate::stage::{Stage, is_failed};
 use crate::waiting::Readers;
 use calls::{Recipe, Roles};
 use std::collections::VecDeque;
 
 // No memory holds so many slots; so many places can be counted.
 const MOST_SLOTS: usize = 1 << 60;
+
+/// Whether a slot with these inputs waits, as it does where none has failed. Where all were made none is looked at.
+pub(crate) fn may_wait(stages: &[Stage], inputs: &Roles<u64>, made: bool) -> bool
+    requires { made ≡ true → each (λ i. is_made (slice_get (map progress_of stages.now) i)) inputs.now ≡ true }
+    ensures { result ≡ each (λ i. not (is_failed (slice_get (map progress_of stages.now) i))) inputs.now }
+{
+    made || none_failed(stages, inputs)
+}
 
 /// Whether none of these has failed.
 pub(crate) fn none_failed(stages: &[Stage], inputs: &Roles<u64>) -> bool
@@ -34,17 +42,6 @@ fn has_not_failed(stages: &[Stage], input: Option<u64>) -> bool
     match input {
         Some(number) => !is_failed(stages, number),
         None => true,
-    }
-}
-
-/// Whether a slot that waits needn't.
-pub(crate) fn is_ready_at_once(stages: &[Stage], inputs: &Roles<u64>, waits: bool) -> bool
-    ensures { result ≡ waits && each (λ i. is_made (slice_get (map progress_of stages.now) i)) inputs.now }
-{
-    if waits {
-        are_made(stages, inputs)
-    } else {
-        false
     }
 }
 

@@ -4,7 +4,7 @@ ghost use Rattle.std.specs.VecDeque.{deque_capacity};
 ghost use Rattle.board.specs.Slots.{task_of};
 ghost use Rattle.board.specs.Sound.{IsSound};
 
-use crate::admitting::{first_stage, is_ready_at_once, make_room, none_failed, offer, read_if};
+use crate::admitting::{first_stage, make_room, may_wait, offer, read_if};
 use crate::blocks::has_rows;
 use crate::falling::{end, spread};
 use crate::fitting::are_there;
@@ -15,7 +15,7 @@ use crate::reads::{hold_less, hold_more, is_unasked, read_less, release, release
 use crate::ready::{remove_at, withdraw};
 use crate::sharing::{again, claim, share};
 use crate::slot::Slot;
-use crate::stage::{Stage, is_joining, is_running, put, take_recipe};
+use crate::stage::{Stage, are_made, is_joining, is_running, put, take_recipe};
 use crate::waiting::{Readers, wait_for};
 use crate::waking::{can_fail, wake};
 use calls::{Recipe, Roles};
@@ -105,7 +105,8 @@ impl<N: Drop> Board<N> {
         ensures refused { OnErr result (view_of self.new ≡ view_of self.old) }
     {
         let number = self.slots.len() as u64;
-        wait_for(&mut self.readers, &self.stages, number, &inputs)?;
+        let is_ready = are_made(&self.stages, &inputs);
+        wait_for(&mut self.readers, &self.stages, number, &inputs, is_ready)?;
         let has_room = make_room(
             &mut self.slots,
             &mut self.stages,
@@ -117,8 +118,7 @@ impl<N: Drop> Board<N> {
         if !has_room {
             return Err(NoMemory);
         }
-        let waits = none_failed(&self.stages, &inputs);
-        let is_ready = is_ready_at_once(&self.stages, &inputs, waits);
+        let waits = may_wait(&self.stages, &inputs, is_ready);
         read_if(&mut self.reads, &inputs, waits);
         self.slots.push_reserved(Slot::new(note, &recipe, inputs));
         self.stages.push_reserved(first_stage(recipe, waits));

@@ -14,18 +14,23 @@ use smallvec::SmallVec;
 /// The slots that are looked at once a slot was made.
 pub(crate) type Readers = SmallVec<u64, 2>;
 
-/// A slot is looked at once each of its inputs was made. Refused, it may be looked at in vain.
+/// A slot is looked at once each of its inputs was made, where one wasn't. Refused, it may be looked at in vain.
 pub(crate) fn wait_for(
     readers: &mut Vec<Readers>,
     stages: &[Stage],
     number: u64,
     inputs: &Roles<u64>,
+    made: bool,
 ) -> Result<(), NoMemory>
-    requires { each (λ i. nat_lt i (length readers.old.items)) inputs.now ≡ true }
+    requires low { each (λ i. nat_lt i (length readers.old.items)) inputs.now ≡ true }
+    requires made { made ≡ true → each (λ i. is_made (slice_get (map progress_of stages.now) i)) inputs.now ≡ true }
     ensures grows { Grows (map (λ r. r.items) readers.old.items) (map (λ r. r.items) readers.new.items) }
     ensures waits { OnOk result (each (λ i. is_made (slice_get (map progress_of stages.now) i)
         || has_in number (slice_get (map (λ r. r.items) readers.new.items) i)) inputs.now ≡ true) }
 {
+    if made {
+        return Ok(());
+    }
     wait_for_one(readers, stages, number, inputs.old)?;
     wait_for_one(readers, stages, number, inputs.mask)?;
     wait_for_one(readers, stages, number, inputs.first)?;
