@@ -1,6 +1,6 @@
 //! A slow evaluator of calls for tests, over the definitions alone: it does each call at once, one
-//! position after the other, and shares the types of calls and the operators alone with what is
-//! compared with it.
+//! position after the other, and shares the types of calls with their look-ups, the table of operations and the
+//! operators alone with what is compared with it.
 #![tactic(auto)]
 
 mod acts;
