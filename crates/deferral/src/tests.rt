@@ -83,3 +83,12 @@ fn products_that_are_overwritten_cost_nothing(rt: HostRuntime) -> Result<(), All
     assert!(rt; tasks_of(alloc, 1, rest.as_str())? == 1);
     Ok(())
 }
+
+#[test]
+fn values_are_made_where_an_epoch_ends(rt: HostRuntime) -> Result<(), AllocError> {
+    let alloc = rt.alloc();
+    assert!(rt; tasks_of(alloc, 4_096, "nvals A\n")? == 0);
+    // The call that begins the next epoch has the product before it computed.
+    assert!(rt; tasks_of(alloc, 4_097, "nvals A\n")? == 1);
+    Ok(())
+}
