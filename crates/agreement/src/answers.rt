@@ -3,8 +3,9 @@ ghost use Rattle.std.specs.Prelude.{◌≡◌};
 
 use crate::held::Files;
 use crate::keeping::Keeping;
+use desk::Order;
 use history::{History, Naming};
-use inline::{Inline, Order};
+use inline::Inline;
 use itoa::Buffer;
 use lines::{Line, LineFault, first_line, parse_line};
 use model::Status;

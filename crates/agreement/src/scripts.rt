@@ -3,7 +3,7 @@
 use crate::answers::{of_keeping, of_plain, of_runtime};
 use crate::compared::Compared;
 use crate::held::Files;
-use inline::Order;
+use desk::Order;
 use lines::{Line, first_line, parse_line};
 use mmio::read_entries;
 use model::{Act, Call, Shape};

@@ -11,7 +11,7 @@ use Rattle.board.specs.Falls.{fall_at, fallen, fallen_below, falls}
 use Rattle.board.specs.Flows.{Flows}
 use Rattle.board.specs.Places.{each, passes}
 use Rattle.board.specs.Progress.{Progress, Untaken, Running, Joining, Made, Moved, Failed, allows, is_failed, is_made, is_unfinished}
-use Rattle.board.specs.Rests.{IsInput, Leads, RestsOn}
+use Rattle.board.specs.Rests.{Leads, RestsOn}
 use Rattle.board.specs.Tasks.{Task}
 use Rattle.board.proofs.FailLaws.{some_unfinished}
 use Rattle.board.proofs.FallLaws.{fallen_unfolds}

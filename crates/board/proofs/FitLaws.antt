@@ -71,6 +71,9 @@ module _ (ts : List Task) (stages : List Stage) (recipe : Recipe) (inputs : Role
   pub low_each : (n : ℕ) → n ≡ length ts → each (λ i. nat_lt i n) inputs ≡ true
   low_each n e = each-from (λ i. nat_lt i n) inputs (λ role i takes. lt-ltb i n (let l = lower_at role i takes in omega (arith, l, e)))
 
+  pub low_below : (n : ℕ) → length ts ≤ n → each (λ i. nat_lt i n) inputs ≡ true
+  low_below n few = each-from (λ i. nat_lt i n) inputs (λ role i takes. lt-ltb i n (let l = lower_at role i takes in omega (arith, l, few)))
+
   pub known_each : (role : Role) → known_in ts inputs role ≡ known_by recipe role
   known_each role = go (role_of inputs role) refl
     where

@@ -1,7 +1,7 @@
 -- A slot whose store is there when it comes.
-use Rattle.std.proofs.Common.{◌≡◌, ◌∙◌, ℕ, zero, suc, ◌≤◌, ◌&&◌, Bool, true, false, cond, eqb, List, [], ◌∷◌, ◌++◌, length, map, not, Option, Some, None, slice_get, slice_set, refl, sym, ap, arith, subst}
+use Rattle.std.proofs.Common.{◌≡◌, ◌∙◌, ℕ, zero, suc, ◌≤◌, ◌&&◌, Bool, true, false, cond, eqb, List, [], ◌∷◌, ◌++◌, length, map, not, Option, Some, None, slice_get, slice_set, refl, sym, ap, subst}
 use Rattle.std.specs.Global.{Box}
-use Rattle.std.specs.Prelude.{OnOk, Result, Ok, Err, slice_index}
+use Rattle.std.specs.Prelude.{OnOk, Result, Ok, Err}
 use Rattle.std.specs.Arc.{arc_value}
 use Rattle.std.specs.Option.{option_map, option_map_or}
 use Rattle.calls.specs.declared.recipe.Given.{Given}
@@ -15,17 +15,17 @@ use Rattle.store.specs.Stored.{content_of}
 use Rattle.board.specs.Events.{with_progress}
 use Rattle.board.specs.Numbers.{numbers}
 use Rattle.board.specs.Places.{each}
-use Rattle.board.specs.Progress.{Progress, Untaken, Running, Joining, Made, Moved, Failed, allows, is_made, is_unfinished, is_untaken}
+use Rattle.board.specs.Progress.{Progress, Untaken, Running, Joining, Made, Moved, Failed, allows, is_joining, is_made, is_running, is_unfinished, is_untaken}
 use Rattle.board.specs.Sound.{IsSound}
 use Rattle.board.specs.Stages.{progress_of}
 use Rattle.board.specs.Tasks.{Task, object_at, objects}
-use Rattle.board.specs.Views.{View, is_ready, offered}
+use Rattle.board.specs.Views.{View, is_ready}
 use Rattle.board.specs.declared.look.Refusal.{Refusal}
 use Rattle.board.specs.declared.look.Refusal.TheVariants.{Stranger}
 use Rattle.board.specs.declared.stage.Stage.{Stage}
 use Rattle.board.specs.declared.stage.Stage.TheVariants as stage
 use Rattle.board.proofs.FailLaws.{ready_without}
-use Rattle.board.proofs.ListLaws.{get_end}
+use Rattle.board.proofs.ListLaws.{get_end, get_set_same}
 use Rattle.board.proofs.ObjectLaws.{made_unfolds, object_at_made}
 use Rattle.board.proofs.OutLaws.{sound_room}
 use Rattle.board.proofs.ReadyLaws.{untaken_some}
@@ -73,6 +73,26 @@ filled v w k mid (Ok x) b joins is made set =
     made ∙ ap (λ (qs : List Progress). record v { progress = qs }) (ap (λ qs. slice_set qs k Made) set ∙ set_twice v.progress k Joining Made)
 filled v w k mid (Err why) b joins is made set =
     absurd (let e : Err why ≡ Ok tt = is ∙ ap (λ c. cond c (Ok tt) (Err Stranger)) joins in cc (e))
+
+pub running_some : (o : Option Progress) → is_running o ≡ true → o ≡ Some Running
+running_some None h = absurd cc
+running_some (Some r) h = elim r as (λ r. is_running (Some r) ≡ true → Some r ≡ Some Running) [ Running ↦ λ h. refl | _ ↦ λ h. absurd cc ] h
+
+-- a slot that ran is whole once its store was handed in
+pub handed : {N : Type 0} (v w : View N) (k : ℕ) (mid : List Progress) (r : Result (Unit {0}) Refusal)
+    → is_running (slice_get v.progress k) ≡ true → mid ≡ slice_set v.progress k Joining
+    → r ≡ cond (is_joining (slice_get mid k)) (Ok tt) (Err Stranger)
+    → OnOk r (w ≡ with_progress (record v { progress = mid }) k Made) → (r ≡ Ok tt) × (w ≡ with_progress v k Made)
+handed v w k mid r runs set answer made =
+    (ok, filled v w k mid r (is_joining (slice_get mid k)) joins answer made set)
+  where
+    joins : is_joining (slice_get mid k) ≡ true
+    joins =
+        ap (λ (l : List Progress). is_joining (slice_get l k)) set
+        ∙ ap is_joining (get_set_same v.progress k Joining Running (running_some (slice_get v.progress k) runs))
+
+    ok : r ≡ Ok tt
+    ok = answer ∙ ap (λ (b : Bool). cond b (Ok tt) (Err Stranger)) joins
 
 module _ (ts : List Task) (stages : List Stage) (holds reads : List ℕ) (readers : List (List ℕ)) (ready : List ℕ) (room : ℕ)
     (sound : IsSound ts stages holds reads readers ready room) (k : ℕ)

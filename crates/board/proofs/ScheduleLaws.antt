@@ -1,5 +1,5 @@
 -- Lists of events, done one after the other.
-use Rattle.std.proofs.Common.{◌≡◌, ◌∙◌, ℕ, Bool, true, false, cond, List, [], ◌∷◌, ◌++◌, length, refl, sym, ap, arith, subst}
+use Rattle.std.proofs.Common.{◌≡◌, Bool, true, false, cond, List, [], ◌∷◌, ◌++◌, length, refl, sym, ap, arith, subst}
 use Rattle.std.specs.Prelude.{MatchResult, OnErr, OnOk, Result, Ok, Err}
 use Rattle.board.specs.Schedules.{AreAnswered, AreRight, IsAnswered, IsDone}
 use Rattle.board.specs.Views.{View}

@@ -4,6 +4,7 @@ pub mod Falls
 pub mod Falling
 pub mod Fits
 pub mod Flows
+pub mod Inputs
 pub mod Looks
 pub mod Numbers
 pub mod Pieces

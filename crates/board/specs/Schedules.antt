@@ -1,5 +1,5 @@
 -- Lists of events, and what they are answered.
-use Rattle.std.specs.Prelude.{ℕ, ◌≡◌, ◌≢◌, ◌+◌, ◌-◌, Bool, true, false, List, [], ◌∷◌, Some, None, Ok, Err, length}
+use Rattle.std.specs.Prelude.{◌≡◌, ◌≢◌, ◌+◌, ◌-◌, Bool, true, false, List, [], ◌∷◌, Some, None, Ok, Err, length}
 use Rattle.std.specs.Prelude.{slice_get, slice_index}
 use Rattle.std.specs.Arc.{arc_value}
 use Rattle.runner.specs.Tickets.{IsStoreFor}
@@ -10,7 +10,6 @@ use Rattle.board.specs.Pieces.{IsPieceFor}
 use Rattle.board.specs.Progress.{Joining, Made, is_joining}
 use Rattle.board.specs.Tasks.{object_at}
 use Rattle.board.specs.Views.{View, offered, state_of}
-use Rattle.board.specs.declared.look.Refusal.{Refusal}
 use Rattle.board.specs.declared.look.Refusal.TheVariants.{Stranger, NoMemory}
 use Rattle.board.specs.declared.schedule.Answer.{Answer}
 use Rattle.board.specs.declared.schedule.Answer.TheVariants as answer

@@ -8,18 +8,19 @@ ghost use Rattle.board.specs.Places.{each, passes, places_of};
 ghost use Rattle.board.specs.Progress.{is_failed, is_made};
 ghost use Rattle.board.specs.Stages.{progress_of};
 
+use crate::inputs::Inputs;
 use crate::reads::read_more;
 use crate::slot::Slot;
 use crate::stage::{Stage, is_failed};
 use crate::waiting::Readers;
-use calls::{Recipe, Roles};
+use calls::Recipe;
 use std::collections::VecDeque;
 
 // No memory holds so many slots; so many places can be counted.
 const MOST_SLOTS: usize = 1 << 60;
 
 /// Whether a slot with these inputs waits, as it does where none has failed. Where all were made none is looked at.
-pub(crate) fn may_wait(stages: &[Stage], inputs: &Roles<u64>, made: bool) -> bool
+pub(crate) fn may_wait(stages: &[Stage], inputs: &Inputs, made: bool) -> bool
     requires { made ≡ true → each (λ i. is_made (slice_get (map progress_of stages.now) i)) inputs.now ≡ true }
     ensures { result ≡ each (λ i. not (is_failed (slice_get (map progress_of stages.now) i))) inputs.now }
 {
@@ -27,13 +28,13 @@ pub(crate) fn may_wait(stages: &[Stage], inputs: &Roles<u64>, made: bool) -> boo
 }
 
 /// Whether none of these has failed.
-pub(crate) fn none_failed(stages: &[Stage], inputs: &Roles<u64>) -> bool
+pub(crate) fn none_failed(stages: &[Stage], inputs: &Inputs) -> bool
     ensures { result ≡ each (λ i. not (is_failed (slice_get (map progress_of stages.now) i))) inputs.now }
 {
-    has_not_failed(stages, inputs.old)
-        && has_not_failed(stages, inputs.mask)
-        && has_not_failed(stages, inputs.first)
-        && has_not_failed(stages, inputs.second)
+    has_not_failed(stages, inputs.old())
+        && has_not_failed(stages, inputs.mask())
+        && has_not_failed(stages, inputs.first())
+        && has_not_failed(stages, inputs.second())
 }
 
 fn has_not_failed(stages: &[Stage], input: Option<u64>) -> bool
@@ -57,7 +58,7 @@ pub(crate) fn first_stage(recipe: Recipe, waits: bool) -> Stage
 }
 
 /// Each of these places reads its slot, where the new slot waits.
-pub(crate) fn read_if(reads: &mut Vec<u64>, inputs: &Roles<u64>, waits: bool)
+pub(crate) fn read_if(reads: &mut Vec<u64>, inputs: &Inputs, waits: bool)
     requires room { (k : ℕ) → slice_index reads.old.items k + places_of inputs.now k < 2 ^ 64 }
     requires there { (k : ℕ) → 0 < places_of inputs.now k → k < length reads.old.items }
     ensures counts { (k : ℕ) → slice_index reads.new.items k

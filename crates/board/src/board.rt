@@ -8,6 +8,7 @@ use crate::admitting::{first_stage, make_room, may_wait, offer, read_if};
 use crate::blocks::has_rows;
 use crate::falling::{end, spread};
 use crate::fitting::are_there;
+use crate::inputs::Inputs;
 use crate::look::{Look, Refusal};
 use crate::looking::{is_gone, look_at};
 use crate::piece::{Given, Piece, Stores};
@@ -91,14 +92,14 @@ impl<N: Drop> Board<N> {
         if !are_there(&self.slots, &self.stages, &recipe, &inputs) {
             return Err(Refusal::Stranger);
         }
-        match self.admit(note, recipe, inputs) {
+        match self.admit(note, recipe, Inputs::new(&inputs)) {
             Ok(number) => Ok(number),
             Err(NoMemory) => Err(Refusal::NoMemory),
         }
     }
 
     // The next slot, where its inputs are there.
-    fn admit(&mut self, note: N, recipe: Recipe, inputs: Roles<u64>) -> Result<u64, NoMemory>
+    fn admit(&mut self, note: N, recipe: Recipe, inputs: Inputs) -> Result<u64, NoMemory>
         requires { AreThere (view_of self.old).tasks self.old.stages.items recipe inputs }
         ensures number { IfOk result (λ number. number ≡ length (view_of self.old).tasks) }
         ensures issued { OnOk result (view_of self.new ≡ issued (view_of self.old) note recipe inputs) }
@@ -137,7 +138,7 @@ impl<N: Drop> Board<N> {
         ensures refused { OnErr result (view_of self.new ≡ view_of self.old) }
     {
         let store = again(&given.store)?;
-        let number = self.admit(note, Recipe::Given(given), Roles::none())?;
+        let number = self.admit(note, Recipe::Given(given), Inputs::none())?;
         self.fill(number, store);
         Ok(number)
     }
@@ -194,6 +195,13 @@ impl<N: Drop> Board<N> {
         }
     }
 
+    /// How many slots can be taken.
+    pub fn offers(&self) -> u64
+        ensures { result ≡ length (offered (view_of self.now).tasks (view_of self.now).progress) }
+    {
+        self.ready.len() as u64
+    }
+
     /// A piece of the slot at this place of those that can be taken, counted round; None where none can. `Err`: the
     /// slot's number, where a share of a store was refused; it is taken or failed later. A task is one piece, so that
     /// the cuts cut nothing.
@@ -230,12 +238,12 @@ impl<N: Drop> Board<N> {
         ensures refused { OnErr result (view_of self.new ≡ view_of self.old) }
     {
         let slot = &self.slots[number as usize];
-        let inputs = slot.inputs;
+        let inputs = &slot.inputs;
         let rows = slot.of.shape.rows();
-        let mask = share(&self.stages, inputs.mask)?;
-        let first = share(&self.stages, inputs.first)?;
-        let second = share(&self.stages, inputs.second)?;
-        let old = claim(&mut self.stages, &self.holds, &self.reads, inputs.old)?;
+        let mask = share(&self.stages, inputs.mask())?;
+        let first = share(&self.stages, inputs.first())?;
+        let second = share(&self.stages, inputs.second())?;
+        let old = claim(&mut self.stages, &self.holds, &self.reads, inputs.old())?;
         let recipe = take_recipe(&mut self.stages, number);
         remove_at(&mut self.ready, at);
         Ok(Piece {
@@ -280,10 +288,10 @@ impl<N: Drop> Board<N> {
         if !is_joining(&self.stages, number) {
             return Err(Refusal::Stranger);
         }
-        let inputs = self.slots[number as usize].inputs;
+        let inputs = &self.slots[number as usize].inputs;
         put(&mut self.stages, number, Stage::Done(store));
-        read_less(&mut self.reads, &inputs);
-        release_each(&mut self.stages, &self.holds, &self.reads, &inputs);
+        read_less(&mut self.reads, inputs);
+        release_each(&mut self.stages, &self.holds, &self.reads, inputs);
         release(&mut self.stages, &self.holds, &self.reads, Some(number));
         wake(
             &mut self.ready,
@@ -292,6 +300,22 @@ impl<N: Drop> Board<N> {
             &self.readers[number as usize],
         );
         Ok(())
+    }
+
+    /// The store of a slot whose task is one piece, once that was done and joined, in the place of `give` and `whole`.
+    pub fn hand_in(&mut self, number: u64, store: Arc<Store>) -> Result<(), Refusal>
+        requires right { is_running (slice_get (view_of self.old).progress number) ≡ true
+            → IsStoreFor (object_at (view_of self.old).tasks number) (arc_value store) }
+        ensures answer { result ≡ (if is_running (slice_get (view_of self.old).progress number) then Ok tt
+            else Err Refusal.Stranger) }
+        ensures made { OnOk result (view_of self.new ≡ with_progress (view_of self.old) number Made) }
+        ensures refused { OnErr result (view_of self.new ≡ view_of self.old) }
+    {
+        if !is_running(&self.stages, number) {
+            return Err(Refusal::Stranger);
+        }
+        put(&mut self.stages, number, Stage::Joining);
+        self.whole(number, store)
     }
 
     /// Whether a block has all rows of what the task of a slot makes.
@@ -358,7 +382,7 @@ impl<N: Drop> Board<N> {
         ensures lower { IfSome result (λ inputs. each (λ i. nat_lt i number) inputs ≡ true) }
     {
         let slot = self.slots.get(number as usize)?;
-        Some(slot.inputs)
+        Some(slot.inputs.roles())
     }
 
     /// One hold more.

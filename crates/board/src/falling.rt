@@ -27,10 +27,10 @@ pub(crate) fn end<N>(
     ensures falling { IsFalling (number + 1) (map task_of slots.now) stages.new.items holds.now reads.new.items }
     ensures progress { map progress_of stages.new.items ≡ slice_set (map progress_of stages.old.items) number Failed }
 {
-    let inputs = slots[number as usize].inputs;
+    let inputs = &slots[number as usize].inputs;
     put(stages, number, Stage::Failed);
-    read_less(reads, &inputs);
-    release_each(stages, holds, reads, &inputs);
+    read_less(reads, inputs);
+    release_each(stages, holds, reads, inputs);
 }
 
 /// A slot fails where it is unfinished and an input has failed.

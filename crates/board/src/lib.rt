@@ -6,6 +6,7 @@ mod blocks;
 mod board;
 mod falling;
 mod fitting;
+mod inputs;
 mod look;
 mod looking;
 mod piece;

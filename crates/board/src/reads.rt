@@ -7,19 +7,19 @@ ghost use Rattle.board.specs.Places.{place_of, places_of};
 ghost use Rattle.board.specs.Progress.{is_unfinished};
 ghost use Rattle.board.specs.Stages.{is_among, is_at, progress_of, released_if};
 
+use crate::inputs::Inputs;
 use crate::stage::{Stage, is_done, is_unfinished, put};
-use calls::Roles;
 
 /// Each of these places reads its slot no longer.
-pub(crate) fn read_less(reads: &mut Vec<u64>, inputs: &Roles<u64>)
+pub(crate) fn read_less(reads: &mut Vec<u64>, inputs: &Inputs)
     requires { (k : ℕ) → places_of inputs.now k ≤ slice_index reads.old.items k }
     ensures counts { (k : ℕ) → slice_index reads.new.items k + places_of inputs.now k ≡ slice_index reads.old.items k }
     ensures sized { length reads.new.items ≡ length reads.old.items }
 {
-    one_less(reads, inputs.old);
-    one_less(reads, inputs.mask);
-    one_less(reads, inputs.first);
-    one_less(reads, inputs.second);
+    one_less(reads, inputs.old());
+    one_less(reads, inputs.mask());
+    one_less(reads, inputs.first());
+    one_less(reads, inputs.second());
 }
 
 fn one_less(reads: &mut Vec<u64>, input: Option<u64>)
@@ -34,17 +34,17 @@ fn one_less(reads: &mut Vec<u64>, input: Option<u64>)
 }
 
 /// Each of these places reads its slot.
-pub(crate) fn read_more(reads: &mut Vec<u64>, inputs: &Roles<u64>)
+pub(crate) fn read_more(reads: &mut Vec<u64>, inputs: &Inputs)
     requires room { (k : ℕ) → slice_index reads.old.items k + places_of inputs.now k < 2 ^ 64 }
     requires there { (k : ℕ) → 0 < places_of inputs.now k → k < length reads.old.items }
     ensures counts { (k : ℕ) → slice_index reads.new.items k ≡ slice_index reads.old.items k + places_of inputs.now k }
     ensures sized { length reads.new.items ≡ length reads.old.items }
     ensures capacity { vec_capacity reads.new ≡ vec_capacity reads.old }
 {
-    one_more(reads, inputs.old);
-    one_more(reads, inputs.mask);
-    one_more(reads, inputs.first);
-    one_more(reads, inputs.second);
+    one_more(reads, inputs.old());
+    one_more(reads, inputs.mask());
+    one_more(reads, inputs.first());
+    one_more(reads, inputs.second());
 }
 
 fn one_more(reads: &mut Vec<u64>, input: Option<u64>)
@@ -92,20 +92,15 @@ fn is_used(counts: &[u64], number: u64) -> bool
 }
 
 /// The stores of these slots go where nobody needs them.
-pub(crate) fn release_each(
-    stages: &mut Vec<Stage>,
-    holds: &[u64],
-    reads: &[u64],
-    inputs: &Roles<u64>,
-)
+pub(crate) fn release_each(stages: &mut Vec<Stage>, holds: &[u64], reads: &[u64], inputs: &Inputs)
     ensures { (k : ℕ) → slice_get stages.new.items k
         ≡ option_map (released_if (is_among inputs.now k) (slice_index holds.now k + slice_index reads.now k))
         (slice_get stages.old.items k) }
 {
-    release(stages, holds, reads, inputs.old);
-    release(stages, holds, reads, inputs.mask);
-    release(stages, holds, reads, inputs.first);
-    release(stages, holds, reads, inputs.second);
+    release(stages, holds, reads, inputs.old());
+    release(stages, holds, reads, inputs.mask());
+    release(stages, holds, reads, inputs.first());
+    release(stages, holds, reads, inputs.second());
 }
 
 /// One hold more, where it can be counted. Says whether it could.

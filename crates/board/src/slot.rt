@@ -2,7 +2,8 @@
 ghost use Rattle.std.specs.Prelude.{◌≡◌};
 ghost use Rattle.calls.specs.Recipes.{known_of};
 
-use calls::{Recipe, Roles, Signature};
+use crate::inputs::Inputs;
+use calls::{Recipe, Signature};
 use std::snapshot::Snapshot;
 
 /// A task. Its recipe goes to whoever takes it; what it was stays known.
@@ -10,13 +11,13 @@ use std::snapshot::Snapshot;
 pub(crate) struct Slot<N> {
     pub(crate) was: Snapshot<Recipe>,
     pub(crate) of: Signature,
-    pub(crate) inputs: Roles<u64>,
+    pub(crate) inputs: Inputs,
     pub(crate) note: N,
     ghost known: { of ≡ known_of was.value },
 }
 
 impl<N> Slot<N> {
-    pub(crate) fn new(note: N, recipe: &Recipe, inputs: Roles<u64>) -> Slot<N>
+    pub(crate) fn new(note: N, recipe: &Recipe, inputs: Inputs) -> Slot<N>
         ensures recipe { result.was.value ≡ recipe.now }
         ensures inputs { result.inputs ≡ inputs }
         ensures note { result.note ≡ note }

@@ -6,7 +6,8 @@ ghost use Rattle.board.specs.Places.{each, passes};
 ghost use Rattle.board.specs.Progress.{is_failed, is_joining, is_made, is_running, is_unfinished, is_untaken};
 ghost use Rattle.board.specs.Stages.{has_store, progress_of, recipe_in, stored_in};
 
-use calls::{Recipe, Roles};
+use crate::inputs::Inputs;
+use calls::Recipe;
 use std::mem;
 use std::sync::Arc;
 use store::Store;
@@ -98,13 +99,13 @@ pub(crate) fn is_done(stages: &[Stage], number: u64) -> bool
 }
 
 /// Whether each of these was made.
-pub(crate) fn are_made(stages: &[Stage], inputs: &Roles<u64>) -> bool
+pub(crate) fn are_made(stages: &[Stage], inputs: &Inputs) -> bool
     ensures { result ≡ each (λ i. is_made (slice_get (map progress_of stages.now) i)) inputs.now }
 {
-    was_made(stages, inputs.old)
-        && was_made(stages, inputs.mask)
-        && was_made(stages, inputs.first)
-        && was_made(stages, inputs.second)
+    was_made(stages, inputs.old())
+        && was_made(stages, inputs.mask())
+        && was_made(stages, inputs.first())
+        && was_made(stages, inputs.second())
 }
 
 fn was_made(stages: &[Stage], input: Option<u64>) -> bool

@@ -6,8 +6,8 @@ ghost use Rattle.board.specs.Places.{each, passes};
 ghost use Rattle.board.specs.Progress.{is_made};
 ghost use Rattle.board.specs.Stages.{progress_of};
 
+use crate::inputs::Inputs;
 use crate::stage::{Stage, is_made};
-use calls::Roles;
 use model::NoMemory;
 use smallvec::SmallVec;
 
@@ -19,7 +19,7 @@ pub(crate) fn wait_for(
     readers: &mut Vec<Readers>,
     stages: &[Stage],
     number: u64,
-    inputs: &Roles<u64>,
+    inputs: &Inputs,
     made: bool,
 ) -> Result<(), NoMemory>
     requires low { each (λ i. nat_lt i (length readers.old.items)) inputs.now ≡ true }
@@ -31,10 +31,10 @@ pub(crate) fn wait_for(
     if made {
         return Ok(());
     }
-    wait_for_one(readers, stages, number, inputs.old)?;
-    wait_for_one(readers, stages, number, inputs.mask)?;
-    wait_for_one(readers, stages, number, inputs.first)?;
-    wait_for_one(readers, stages, number, inputs.second)?;
+    wait_for_one(readers, stages, number, inputs.old())?;
+    wait_for_one(readers, stages, number, inputs.mask())?;
+    wait_for_one(readers, stages, number, inputs.first())?;
+    wait_for_one(readers, stages, number, inputs.second())?;
     Ok(())
 }
 

@@ -5,8 +5,9 @@ ghost use Rattle.model.specs.Poisoned.{Ran};
 ghost use Rattle.model.specs.Run.{out_of};
 ghost use Rattle.model.specs.Runs.{TellsOfNoWant};
 
+use desk::{Order, Picker};
 use history::{History, Naming};
-use inline::{Inline, Order, Picker};
+use inline::Inline;
 use model::NoMemory;
 use script::Sources;
 use std::alloc::Global;

@@ -1,7 +1,7 @@
 //! How much work is done.
 use crate::running::run_over;
+use desk::Picker;
 use history::History;
-use inline::Picker;
 use script::Sources;
 use std::alloc::{AllocError, Global};
 use std::marker::Brand;

@@ -10,7 +10,7 @@ use Rattle.clap.specs.declared.error.kind.ErrorKind.TheVariants.{DisplayHelp, Di
 use Rattle.clap.specs.declared.error.kind.ErrorKind.TheVariants.{OutOfMemory as NoMemoryLeft}
 use Rattle.clap.specs.declared.error.kind.ErrorKind.{ErrorKind}
 use Rattle.gbrun.specs.Orders.{order_of}
-use Rattle.inline.specs.declared.picker.Order.{Order}
+use Rattle.desk.specs.declared.picker.Order.{Order}
 use Rattle.gbrun.specs.declared.options.Options.{Options}
 use Rattle.gbrun.specs.declared.options.Request.{Request}
 use Rattle.gbrun.specs.declared.options.Request.TheVariants.{Print, Run}

@@ -6,8 +6,8 @@ use Rattle.std.specs.List.{list_all, starts_with}
 use Rattle.std.specs.Str.{bytes_eq}
 use Rattle.std.specs.Str.Parse.{digits_value}
 use Rattle.std.specs.declared.option.Option.{Option}
-use Rattle.inline.specs.declared.picker.Order.{Order}
-use Rattle.inline.specs.declared.picker.Order.TheVariants.{First, Last, Seed}
+use Rattle.desk.specs.declared.picker.Order.{Order}
+use Rattle.desk.specs.declared.picker.Order.TheVariants.{First, Last, Seed}
 
 -- the number below 2^64 that 1 to 20 decimal digits write
 abbrev pub seed_of : List ℕ → Option ℕ

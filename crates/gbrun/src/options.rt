@@ -13,7 +13,7 @@ use crate::fault::Fault;
 use crate::order::order_named;
 use clap::error::ErrorKind;
 use clap::{Arg, ArgMatches, Command, Error, value_parser};
-use inline::Order;
+use desk::Order;
 use std::alloc::{AllocError, Global};
 
 /// What the command line asks for.

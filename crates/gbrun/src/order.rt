@@ -4,7 +4,7 @@ ghost use Rattle.std.specs.Char.{is_ascii_digit};
 ghost use Rattle.std.specs.List.{list_all};
 ghost use Rattle.gbrun.specs.Orders.{order_of, seed_of};
 
-use inline::Order;
+use desk::Order;
 
 // 2^64 - 1 has as many digits.
 const MOST_DIGITS: usize = 20;

@@ -1,6 +1,5 @@
 //! Histories, their names, and notes of places in them.
 ghost use Rattle.std.specs.Prelude.{◌≡◌, IfSome};
-ghost use Rattle.std.specs.Bool.{OnTrue};
 ghost use Rattle.std.specs.Option.{option_map};
 ghost use Rattle.calls.specs.declared.role.Role.{Role as AnyRole};
 ghost use Rattle.history.specs.Histories.{object_of};
@@ -8,6 +7,7 @@ ghost use Rattle.model.specs.Object.{IsObject};
 ghost use Rattle.runner.specs.Tickets.{Fit, lent_in, made_by};
 
 use crate::made::Made;
+use crate::noted::Noted;
 use crate::rule::{Add, Law, Nothing};
 use calls::{Recipe, Roles};
 use logbook::{Offer, Plain, Seen, Start, Word};
@@ -85,11 +85,14 @@ impl<J: Naming> Model for Note<J> {
         × IsObject (object_in (made_at n.seen.log n.place)) };
 }
 
-impl<J: Naming> Note<J> {
-    /// Another note of the same place.
-    pub fn again(&self) -> Note<J>
-        ensures { result ≡ self.now }
-    {
+impl<J: Naming> Noted for Note<J> {
+    type Log = History;
+
+    ghost told = { λ note. note };
+
+    ghost is_of = { λ history. Unit {0} };
+
+    fn again(&self) -> Note<J> {
         Note {
             place: self.place,
             seen: self.seen.again(),
@@ -97,15 +100,14 @@ impl<J: Naming> Note<J> {
         }
     }
 
-    /// Whether both are of one place, and so of one object.
-    pub fn agrees(&self, other: &Note<J>) -> bool
-        ensures { OnTrue result (self.now ≡ other.now) }
-    {
+    fn agrees(&self, _history: &History, other: &Note<J>) -> bool {
         let mut both = self.seen.again();
         both.learn(&other.seen);
         self.place == other.place
     }
+}
 
+impl<J: Naming> Note<J> {
     /// What it stands for is an object.
     fn is_sound(&self)
         ensures { IsObject (object_of self.now) }

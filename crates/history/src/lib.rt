@@ -3,7 +3,9 @@
 
 mod history;
 mod made;
+mod noted;
 mod rule;
 
 pub use history::{History, Naming, Note};
 pub use made::Made;
+pub use noted::Noted;

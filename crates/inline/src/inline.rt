@@ -1,26 +1,18 @@
 //! The runner that does all work when a store is asked for.
 ghost use Rattle.std.specs.Prelude.{◌≡◌};
 ghost use Rattle.board.specs.Boards.{view_of};
-ghost use Rattle.history.specs.Histories.{object_of};
-ghost use Rattle.inline.specs.Desks.{AreTold, object_in};
-ghost use Rattle.runner.specs.Tickets.{made_by};
+ghost use Rattle.desk.specs.Desks.{AreTold, object_in, told};
 
-use crate::desk::{notes_of, places_of, slot_of};
-use crate::dropping::give_up;
-use crate::picker::Picker;
-use crate::ticket::Ticket;
 use crate::work::finish;
-use board::{Board, Refusal};
+use board::Board;
 use calls::{Recipe, Roles};
-use history::{History, Naming, Note};
+use desk::{Picker, Ticket, give_up, notes_of, place, slot_of};
+use history::{History, Naming, Note, Noted};
 use model::NoMemory;
 use runner::{Failed, Runner};
 use std::alloc::Global;
 use std::sync::Arc;
 use store::Store;
-
-/// The slot of a ticket whose work is on no board.
-const NO_SLOT: u64 = u64::MAX;
 
 /// Does all work on the calling thread, inside `fetch`, in the order in which a picker picks it.
 #[derive(Drop)]
@@ -31,7 +23,7 @@ pub struct Inline<J: Naming, P: Picker + Drop> {
     history: History,
     board: Board<Note<J>>,
     ghost named: { history ≡ J.book },
-    ghost told: { AreTold (view_of board) },
+    ghost told: { AreTold told (view_of board) },
 }
 
 impl<J: Naming, P: Picker + Drop> Inline<J, P> {
@@ -48,59 +40,33 @@ impl<J: Naming, P: Picker + Drop> Inline<J, P> {
             board: Board::new(alloc),
         }
     }
-
-    /// A slot for what was noted, where all its inputs are on the board. A store that is there is shared, and nothing
-    /// is to be done for it.
-    fn place(
-        &mut self,
-        note: Note<J>,
-        recipe: Recipe,
-        inputs: &Roles<&Ticket<J>>,
-    ) -> Result<u64, NoMemory>
-        requires { object_of note ≡ made_by object_in recipe inputs.now }
-        ensures { self.new.epoch ≡ self.old.epoch }
-    {
-        match recipe {
-            Recipe::Given(given) => self.board.issue_given(note, given),
-            recipe => self.issue(note, recipe, inputs),
-        }
-    }
-
-    /// A slot for what was noted, which is done when it is asked for, where all its inputs are on the board.
-    fn issue(
-        &mut self,
-        note: Note<J>,
-        recipe: Recipe,
-        inputs: &Roles<&Ticket<J>>,
-    ) -> Result<u64, NoMemory>
-        requires { object_of note ≡ made_by object_in recipe inputs.now }
-        ensures { self.new.epoch ≡ self.old.epoch }
-    {
-        let Some(places) = places_of(&self.board, self.epoch, inputs) else {
-            return Ok(NO_SLOT);
-        };
-        match self.board.issue(note, recipe, places) {
-            Ok(slot) => Ok(slot),
-            Err(Refusal::NoMemory) => Err(NoMemory),
-            Err(Refusal::Stranger | Refusal::Twice) => Ok(NO_SLOT),
-        }
-    }
 }
 
 impl<J: Naming, P: Picker + Drop> Runner for Inline<J, P> {
-    type Ticket = Ticket<J>;
+    type Ticket = Ticket<Note<J>>;
 
-    ghost object_of = { object_in };
+    ghost object_of = { object_in told };
 
     ghost epoch = { λ r. r.epoch };
 
     ghost born = { λ t. t.epoch };
 
-    fn submit(&mut self, recipe: Recipe, inputs: Roles<&Ticket<J>>) -> Result<Ticket<J>, NoMemory> {
+    fn submit(
+        &mut self,
+        recipe: Recipe,
+        inputs: Roles<&Ticket<Note<J>>>,
+    ) -> Result<Ticket<Note<J>>, NoMemory> {
         let Some(note) = self.history.note(&recipe, notes_of(&inputs)) else {
             return Err(NoMemory);
         };
-        let slot = self.place(note.again(), recipe, &inputs)?;
+        let slot = place(
+            &mut self.board,
+            &self.history,
+            self.epoch,
+            note.again(),
+            recipe,
+            &inputs,
+        )?;
         Ok(Ticket {
             epoch: self.epoch,
             slot,
@@ -108,15 +74,15 @@ impl<J: Naming, P: Picker + Drop> Runner for Inline<J, P> {
         })
     }
 
-    fn fetch(&mut self, ticket: &Ticket<J>) -> Result<Arc<Store>, Failed> {
-        let Some(slot) = slot_of(&self.board, self.epoch, ticket) else {
+    fn fetch(&mut self, ticket: &Ticket<Note<J>>) -> Result<Arc<Store>, Failed> {
+        let Some(slot) = slot_of(&self.board, &self.history, self.epoch, ticket) else {
             return Err(Failed);
         };
         finish(self.alloc, &mut self.picker, &mut self.board, slot)
     }
 
-    fn hold(&mut self, ticket: &Ticket<J>) -> Result<Ticket<J>, NoMemory> {
-        if let Some(slot) = slot_of(&self.board, self.epoch, ticket) {
+    fn hold(&mut self, ticket: &Ticket<Note<J>>) -> Result<Ticket<Note<J>>, NoMemory> {
+        if let Some(slot) = slot_of(&self.board, &self.history, self.epoch, ticket) {
             self.board.hold(slot).map_err(|_| NoMemory)?;
         }
         Ok(Ticket {
@@ -126,8 +92,8 @@ impl<J: Naming, P: Picker + Drop> Runner for Inline<J, P> {
         })
     }
 
-    fn let_go(&mut self, ticket: Ticket<J>) {
-        if let Some(slot) = slot_of(&self.board, self.epoch, &ticket) {
+    fn let_go(&mut self, ticket: Ticket<Note<J>>) {
+        if let Some(slot) = slot_of(&self.board, &self.history, self.epoch, &ticket) {
             let _ = self.board.let_go(slot);
             give_up(&mut self.board, slot);
         }

@@ -1,29 +1,19 @@
-//! Pieces of work, done.
-ghost use Rattle.std.specs.Prelude.{◌≡◌, ◌<◌, ◌≤◌, IfOk, IfSome, OnErr, OnOk, slice_get, true};
+//! Tasks, done on the calling thread.
+ghost use Rattle.std.specs.Prelude.{◌≡◌, ◌<◌, IfOk, slice_get, true};
 ghost use Rattle.std.specs.Arc.{arc_value};
 ghost use Rattle.std.specs.Bool.{OnTrue};
 ghost use Rattle.board.specs.Boards.{view_of};
-ghost use Rattle.board.specs.Events.{may_fail};
-ghost use Rattle.board.specs.Pieces.{IsPieceFor, maps_in};
+ghost use Rattle.board.specs.Pieces.{IsPieceFor};
 ghost use Rattle.board.specs.Progress.{is_running};
-ghost use Rattle.board.specs.Stores.{stored_for};
 ghost use Rattle.board.specs.Tasks.{object_at};
-ghost use Rattle.calls.specs.declared.role.Role.{Role as AnyRole};
-ghost use Rattle.calls.specs.Recipes.{known_by, known_of};
-ghost use Rattle.inline.specs.Ends.{unfinished};
-ghost use Rattle.kernel.specs.Pieces.{HasForm, IsPieceOf};
-ghost use Rattle.kernel.specs.Takes.{Takes};
-ghost use Rattle.model.specs.Object.{rows_of};
+ghost use Rattle.desk.specs.Ends.{unfinished};
 ghost use Rattle.runner.specs.Tickets.{IsStoreFor};
 
-use crate::picker::Picker;
-use board::{Board, Given, Look, Piece, Stores};
-use calls::Recipe;
-use kernel::{Block, eval_piece, join, patch_over};
+use board::{Board, Piece};
+use desk::{Picker, look, made_of, take};
 use model::NoMemory;
 use runner::Failed;
 use std::alloc::Global;
-use std::ops::Range;
 use std::sync::Arc;
 use store::Store;
 
@@ -38,7 +28,7 @@ pub(crate) fn finish<P: Picker, N: Drop>(
     ensures tasks { (view_of board.new).tasks ≡ (view_of board.old).tasks }
     ensures notes { (view_of board.new).notes ≡ (view_of board.old).notes }
 {
-    // Each round does a task or fails one.
+    // Each round does a task.
     loop {
         if let Some(found) = look(board, slot) {
             return found;
@@ -46,18 +36,6 @@ pub(crate) fn finish<P: Picker, N: Drop>(
         if !work_once(alloc, picker, board) {
             return Err(Failed);
         }
-    }
-}
-
-/// The store of a slot, or that none will come. None while it is still to come.
-fn look<N: Drop>(board: &Board<N>, slot: u64) -> Option<Result<Arc<Store>, Failed>>
-    ensures { IfSome result (λ found. IfOk found
-        (λ store. IsStoreFor (object_at (view_of board.now).tasks slot) (arc_value store))) }
-{
-    match board.look(slot) {
-        Look::Done(store) => Some(Arc::try_clone(store).map_err(|_| Failed)),
-        Look::Failed | Look::Gone => Some(Err(Failed)),
-        Look::Unfinished => None,
     }
 }
 
@@ -72,13 +50,10 @@ pub(crate) fn work_once<P: Picker, N: Drop>(
     ensures fewer { OnTrue result
         (unfinished (view_of board.new).progress < unfinished (view_of board.old).progress) }
 {
-    match board.take(picker.pick(), &[]) {
-        Ok(Some(piece)) => work(alloc, board, piece),
-        Ok(None) => return false,
-        Err(number) => {
-            let _ = board.fail(number);
-        }
-    }
+    let Some(piece) = take(picker, board) else {
+        return false;
+    };
+    work(alloc, board, piece);
     true
 }
 
@@ -91,58 +66,12 @@ pub(crate) fn work<N: Drop>(alloc: Global, board: &mut Board<N>, piece: Piece)
         → unfinished (view_of board.new).progress < unfinished (view_of board.old).progress }
 {
     let number = piece.number;
-    if do_piece(alloc, board, piece).is_err() {
-        let _ = board.fail(number);
-    }
-}
-
-/// Does a piece of work, and hands in what it makes. Refused, its slot is one on which somebody works still.
-fn do_piece<N: Drop>(alloc: Global, board: &mut Board<N>, piece: Piece) -> Result<(), NoMemory>
-    requires { IsPieceFor (view_of board.old).tasks piece }
-    ensures tasks { (view_of board.new).tasks ≡ (view_of board.old).tasks }
-    ensures notes { (view_of board.new).notes ≡ (view_of board.old).notes }
-    ensures fewer { OnOk result (is_running (slice_get (view_of board.old).progress piece.number) ≡ true
-        → unfinished (view_of board.new).progress < unfinished (view_of board.old).progress) }
-    ensures refused { OnErr result (is_running (slice_get (view_of board.old).progress piece.number) ≡ true
-        → (unfinished (view_of board.new).progress ≡ unfinished (view_of board.old).progress)
-        × (may_fail (view_of board.new) piece.number ≡ true)) }
-{
-    let Piece {
-        number,
-        piece,
-        rows,
-        recipe,
-        inputs,
-    } = piece;
-    let block = block_of(alloc, &recipe, inputs, rows)?;
-    let Ok(Given::Last(block)) = board.give(number, piece, block) else {
-        // A board refuses no block of a piece that is out. One that did would wait for it for ever, so its slot fails.
-        return Err(NoMemory);
-    };
-    let store = Arc::new(alloc, join(&recipe, block))?;
-    let _ = board.whole(number, store);
-    Ok(())
-}
-
-/// What a recipe gives of stores. The edits of a patch are done in its store, where nobody shares that.
-fn block_of(
-    alloc: Global,
-    recipe: &Recipe,
-    inputs: Stores,
-    rows: Range<u64>,
-) -> Result<Block, NoMemory>
-    requires takes { (role : AnyRole) → Takes (known_by recipe.now role) (stored_for inputs role) }
-    requires range { rows.start ≤ rows.end }
-    requires rows { rows.end ≤ rows_of (known_of recipe.now).shape }
-    ensures piece { IfOk result (IsPieceOf recipe.now (maps_in inputs) rows.start rows.end) }
-    ensures form { IfOk result (HasForm recipe.now) }
-{
-    match recipe {
-        Recipe::Patch(patch) => {
-            let Stores { old, .. } = inputs;
-            let Some(old) = old else { unreachable!() };
-            Ok(Block::Whole(patch_over(alloc, patch, old)?))
+    match made_of(alloc, piece) {
+        Ok(store) => {
+            let _ = board.hand_in(number, store);
         }
-        recipe => eval_piece(alloc, recipe, &inputs.lent(), rows),
+        Err(NoMemory) => {
+            let _ = board.fail(number);
+        }
     }
 }

@@ -1,6 +1,5 @@
 //! Logs, their names, and notes of places in them.
-ghost use Rattle.std.specs.Prelude.{◌≡◌, ◌==◌, IfOk, IfSome};
-ghost use Rattle.std.specs.Bool.{OnTrue};
+ghost use Rattle.std.specs.Prelude.{◌≡◌, IfOk, IfSome};
 ghost use Rattle.std.specs.Option.{option_map};
 ghost use Rattle.history.specs.Histories.{object_of};
 ghost use Rattle.journal.specs.Inputs.{told_by};
@@ -10,6 +9,7 @@ ghost use Rattle.runner.specs.Tickets.{Fit, made_by};
 use crate::entry::{Entry, Input, Inputs};
 use boxcar::Pushed;
 use calls::{Recipe, Roles};
+use history::Noted;
 use model::NoMemory;
 use std::alloc::Global;
 use std::marker::{Brand, Model, PhantomData};
@@ -64,23 +64,21 @@ impl<J: Naming> Model for Note<J> {
     ghost invariant = { λ n. Shows J.log n.token × IsObject (object_in n.token.value.1) };
 }
 
-impl<J: Naming> Note<J> {
-    /// Another note of the same place.
-    pub fn again(&self) -> Note<J>
-        ensures { result ≡ self.now }
-    {
+impl<J: Naming> Noted for Note<J> {
+    type Log = Log;
+
+    ghost told = { λ note. note };
+
+    ghost is_of = { λ log. log ≡ J.log };
+
+    fn again(&self) -> Note<J> {
         Note {
             token: self.token.again(),
             of: PhantomData,
         }
     }
 
-    /// Whether both are of one place, and so of one object.
-    pub fn agrees(&self, log: &Log, other: &Note<J>) -> bool
-        requires { log.now ≡ J.log }
-        ensures place { result ≡ (self.now.place == other.now.place) }
-        ensures same { OnTrue result (self.now ≡ other.now) }
-    {
+    fn agrees(&self, log: &Log, other: &Note<J>) -> bool {
         if self.token.index() != other.token.index() {
             return false;
         }

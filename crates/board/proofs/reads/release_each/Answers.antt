@@ -13,9 +13,9 @@ returns c k =
     let first = is_at c.args.inputs.now.first k in
     let second = is_at c.args.inputs.now.second k in
     let start = slice_get c.args.stages.now.items k in
-    c.release-4.ensures k
-    ∙ (ap (option_map (released_if second u)) (c.release-3.ensures k
-    ∙ (ap (option_map (released_if first u)) (c.release-2.ensures k
-    ∙ (ap (option_map (released_if mask u)) (c.release.ensures k) ∙ released_twice mask old u start))
+    (rw c.second.ensures at (c.release-4.ensures k))
+    ∙ (ap (option_map (released_if second u)) ((rw c.first.ensures at (c.release-3.ensures k))
+    ∙ (ap (option_map (released_if first u)) ((rw c.mask.ensures at (c.release-2.ensures k))
+    ∙ (ap (option_map (released_if mask u)) (rw c.old.ensures at (c.release.ensures k)) ∙ released_twice mask old u start))
     ∙ released_twice first (old || mask) u start))
     ∙ released_twice second ((old || mask) || first) u start)

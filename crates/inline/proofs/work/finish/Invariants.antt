@@ -1,7 +1,7 @@
 -- Tasks and notes are those that were there, and each round leaves fewer slots that are to come.
 use Rattle.std.proofs.Common.{◌≡◌}
 use Rattle.board.specs.Boards.{view_of}
-use Rattle.inline.specs.Ends.{unfinished}
+use Rattle.desk.specs.Ends.{unfinished}
 use Rattle.inline.proofs.work.finish.Given as goal
 
 abbrev pub invariant-loop-found : goal.invariant-loop-found

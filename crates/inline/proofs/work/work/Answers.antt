@@ -1,11 +1,14 @@
--- A slot whose piece isn't done fails.
-use Rattle.std.proofs.Common.{arith}
+-- What is handed in is the store of the slot's object; then, or where the slot fails, fewer slots are to come.
 use Rattle.board.specs.Boards.{view_of}
-use Rattle.inline.proofs.EndLaws.{fewer_left, from_err}
+use Rattle.desk.proofs.EndLaws.{fewer_ended, fewer_handed}
 use Rattle.inline.proofs.work.work.Goals as goal
 
-pub returns-then-is_err-clause-fewer : goal.returns-then-is_err-clause-fewer
-returns-then-is_err-clause-fewer g c = λ runs.
-    let (same, may) = from_err c.do_piece.result c.if-is_err.ensures.value c.do_piece.ensures.refused runs in
-    let less = fewer_left (view_of c.do_piece.new.board) (view_of c.fail.new.self) c.args.piece.number c.fail.result c.fail.ensures.answer c.fail.ensures.failed may in
-    omega (arith, less, same)
+pub returns-in-Ok-clause-fewer : goal.returns-in-Ok-clause-fewer
+returns-in-Ok-clause-fewer g c = λ runs.
+    fewer_handed (view_of c.args.board.now) (view_of c.hand_in.new.self) c.args.piece.number c.hand_in.result runs c.hand_in.ensures.answer
+    c.hand_in.ensures.made
+
+pub returns-in-Err-clause-fewer : goal.returns-in-Err-clause-fewer
+returns-in-Err-clause-fewer g c = λ runs.
+    fewer_ended (view_of c.args.board.now) (view_of c.fail.new.self) c.args.piece.number c.fail.result runs c.fail.ensures.answer
+    c.fail.ensures.failed

@@ -1,16 +1,18 @@
 -- What is noted is what is made of the tickets' objects.
 use Rattle.std.proofs.Common.{◌∙◌, ap}
+use Rattle.desk.specs.Desks.{told}
+use Rattle.desk.proofs.DeskLaws.{noted-known, noted-made}
 use Rattle.history.specs.Histories.{Told, object_of}
-use Rattle.inline.proofs.DeskLaws.{noted-known, noted-made}
 use Rattle.inline.proofs.inline.InlineRunner.submit.Goals as goal
 
 pub note-requires-clause-fits : goal.note-requires-clause-fits
-note-requires-clause-fits g c = λ role. noted-known c.args.inputs c.notes_of.result c.notes_of.ensures role ∙ c.requires.fits role
+note-requires-clause-fits g c = λ role.
+    noted-known told c.args.inputs c.notes_of.result c.notes_of.ensures role ∙ c.requires.fits role
 
-pub place-requires : goal.place-requires
-place-requires g c =
+pub place-requires-clause-object : goal.place-requires-clause-object
+place-requires-clause-object g c =
     ap (λ (note : Told). object_of note) c.again.ensures
-    ∙ (c.in-Some.ensures.object ∙ noted-made c.args.inputs c.notes_of.result c.notes_of.ensures c.args.recipe)
+    ∙ (c.in-Some.ensures.object ∙ noted-made told c.args.inputs c.notes_of.result c.notes_of.ensures c.args.recipe)
 
 pub returns-clause-object : goal.returns-clause-object
-returns-clause-object g c = c.in-Some.ensures.object ∙ noted-made c.args.inputs c.notes_of.result c.notes_of.ensures c.args.recipe
+returns-clause-object g c = c.in-Some.ensures.object ∙ noted-made told c.args.inputs c.notes_of.result c.notes_of.ensures c.args.recipe

@@ -1,0 +1,4 @@
+pub mod Desks
+pub mod Ends
+pub mod Orders
+pub mod Works

@@ -1,0 +1,17 @@
+//! What all runners over a board share: tickets and their slots, who picks what is done next, and work that is taken,
+//! done and given up.
+#![tactic(auto)]
+
+mod dropping;
+mod picker;
+mod places;
+mod placing;
+mod ticket;
+mod works;
+
+pub use dropping::give_up;
+pub use picker::{Order, Picker};
+pub use places::{notes_of, slot_of};
+pub use placing::place;
+pub use ticket::Ticket;
+pub use works::{look, made_of, take};

@@ -1,0 +1,100 @@
+//! Pieces of work, taken and done, and what came of them.
+ghost use Rattle.std.specs.Prelude.{◌≡◌, ◌≤◌, IfOk, IfSome, None, [], slice_get, true};
+ghost use Rattle.std.specs.Arc.{arc_value};
+ghost use Rattle.board.specs.Boards.{view_of};
+ghost use Rattle.board.specs.Pieces.{IsPieceFor, maps_in};
+ghost use Rattle.board.specs.Progress.{is_running};
+ghost use Rattle.board.specs.Stores.{stored_for};
+ghost use Rattle.board.specs.Tasks.{object_at};
+ghost use Rattle.board.specs.Views.{offered};
+ghost use Rattle.calls.specs.declared.role.Role.{Role as AnyRole};
+ghost use Rattle.calls.specs.Recipes.{known_by, known_of};
+ghost use Rattle.desk.specs.Ends.{unfinished};
+ghost use Rattle.desk.specs.Works.{IsWork, object_by};
+ghost use Rattle.kernel.specs.Pieces.{HasForm, IsPieceOf};
+ghost use Rattle.kernel.specs.Takes.{Takes};
+ghost use Rattle.model.specs.Object.{rows_of};
+ghost use Rattle.runner.specs.Tickets.{IsStoreFor};
+
+use crate::picker::Picker;
+use board::{Board, Look, Piece, Stores};
+use calls::Recipe;
+use kernel::{Block, eval_piece, join, patch_over};
+use model::NoMemory;
+use runner::Failed;
+use std::alloc::Global;
+use std::ops::Range;
+use std::sync::Arc;
+use store::Store;
+
+/// The store of a slot, or that none will come. None while it is still to come.
+pub fn look<N: Drop>(board: &Board<N>, slot: u64) -> Option<Result<Arc<Store>, Failed>>
+    ensures { IfSome result (λ found. IfOk found
+        (λ store. IsStoreFor (object_at (view_of board.now).tasks slot) (arc_value store))) }
+{
+    match board.look(slot) {
+        Look::Done(store) => Some(Arc::try_clone(store).map_err(|_| Failed)),
+        Look::Failed | Look::Gone => Some(Err(Failed)),
+        Look::Unfinished => None,
+    }
+}
+
+/// The piece of one of the tasks that can be done; None where none can. A task fails for which a share of a store is
+/// refused.
+pub fn take<P: Picker, N: Drop>(picker: &mut P, board: &mut Board<N>) -> Option<Piece>
+    ensures none { result ≡ None → offered (view_of board.new).tasks (view_of board.new).progress ≡ [] }
+    ensures piece { IfSome result (IsPieceFor (view_of board.new).tasks) }
+    ensures running { IfSome result (λ piece.
+        is_running (slice_get (view_of board.new).progress piece.number) ≡ true) }
+    ensures tasks { (view_of board.new).tasks ≡ (view_of board.old).tasks }
+    ensures notes { (view_of board.new).notes ≡ (view_of board.old).notes }
+    ensures more { unfinished (view_of board.new).progress ≤ unfinished (view_of board.old).progress }
+{
+    // Each round but the last fails a task.
+    loop {
+        match board.take(picker.pick(), &[]) {
+            Ok(taken) => return taken,
+            Err(number) => {
+                let _ = board.fail(number);
+            }
+        }
+    }
+}
+
+/// The store of the object that a piece of work makes.
+pub fn made_of(alloc: Global, piece: Piece) -> Result<Arc<Store>, NoMemory>
+    requires { IsWork piece }
+    ensures { IfOk result (λ store. IsStoreFor (object_by piece) (arc_value store)) }
+{
+    let Piece {
+        rows,
+        recipe,
+        inputs,
+        ..
+    } = piece;
+    let block = block_of(alloc, &recipe, inputs, rows)?;
+    Ok(Arc::new(alloc, join(&recipe, block))?)
+}
+
+/// What a recipe gives of stores. The edits of a patch are done in its store, where nobody shares that.
+fn block_of(
+    alloc: Global,
+    recipe: &Recipe,
+    inputs: Stores,
+    rows: Range<u64>,
+) -> Result<Block, NoMemory>
+    requires takes { (role : AnyRole) → Takes (known_by recipe.now role) (stored_for inputs role) }
+    requires range { rows.start ≤ rows.end }
+    requires rows { rows.end ≤ rows_of (known_of recipe.now).shape }
+    ensures piece { IfOk result (IsPieceOf recipe.now (maps_in inputs) rows.start rows.end) }
+    ensures form { IfOk result (HasForm recipe.now) }
+{
+    match recipe {
+        Recipe::Patch(patch) => {
+            let Stores { old, .. } = inputs;
+            let Some(old) = old else { unreachable!() };
+            Ok(Block::Whole(patch_over(alloc, patch, old)?))
+        }
+        recipe => eval_piece(alloc, recipe, &inputs.lent(), rows),
+    }
+}
