@@ -1,0 +1,19 @@
+-- What is noted is what is made of the tickets' objects.
+use Rattle.std.proofs.Common.{◌∙◌, ap}
+use Rattle.desk.specs.Desks.{told}
+use Rattle.desk.proofs.DeskLaws.{noted-known, noted-made}
+use Rattle.history.specs.Histories.{Told, object_of}
+use Rattle.pool.proofs.pool.PoolRunner.submit.Goals as goal
+
+pub note-requires-clause-fits : goal.note-requires-clause-fits
+note-requires-clause-fits g c = λ role.
+    noted-known told c.args.inputs c.notes_of.result c.notes_of.ensures role ∙ c.requires.fits role
+
+pub submit-requires-clause-object : goal.submit-requires-clause-object
+submit-requires-clause-object g c =
+    ap (λ (note : Told). object_of note) c.again.ensures
+    ∙ (c.in_ok-note.ensures.object ∙ noted-made told c.args.inputs c.notes_of.result c.notes_of.ensures c.args.recipe)
+
+pub returns-clause-object : goal.returns-clause-object
+returns-clause-object g c =
+    c.in_ok-note.ensures.object ∙ noted-made told c.args.inputs c.notes_of.result c.notes_of.ensures c.args.recipe

@@ -1,0 +1,15 @@
+//! A runner whose work is done by threads, in whatever order its inputs permit.
+#![tactic(auto)]
+
+mod gate;
+mod locked;
+mod named;
+mod pool;
+mod serving;
+mod shared;
+#[cfg(test)]
+mod tests;
+mod work;
+
+pub use gate::{Gate, Open};
+pub use pool::Pool;

@@ -1,0 +1,199 @@
+//! The pool.
+ghost use Rattle.std.specs.Prelude.{◌≡◌, IfOk};
+ghost use Rattle.desk.specs.Desks.{object_in, told};
+
+use crate::gate::Gate;
+use crate::locked::Locked;
+use crate::named::Named;
+use crate::serving::{fetch, serve};
+use crate::shared::Shared;
+use calls::{Recipe, Roles};
+use desk::{Picker, Ticket, notes_of};
+use history::Noted;
+use journal::{Log, Naming, Note};
+use model::NoMemory;
+use runner::{Failed, Runner};
+use std::alloc::Global;
+use std::sync::{Arc, Condvar, Mutex, Wait};
+use std::thread;
+use std::thread::{JoinHandle, Threads};
+use store::Store;
+
+/// Workers over one board. All of them, and the calling thread while it waits, do tasks in the order in which a picker
+/// picks them, each once what it rests on is done.
+#[derive(Drop)]
+pub struct Pool<J: Naming, R: Wait + Drop, G: Gate + Drop, P: Picker + Drop> {
+    rt: R,
+    alloc: Global,
+    pub epoch: u64,
+    named: Arc<Named<J>>,
+    shared: Arc<Shared<J, G, P>>,
+    workers: Vec<JoinHandle<()>>,
+}
+
+impl<J, R, G, P> Pool<J, R, G, P>
+where
+    J: Naming + Send + Sync + 'static,
+    R: Wait + Threads + Clone + Drop + Send + 'static,
+    G: Gate + Drop + Send + Sync + 'static,
+    P: Picker + Drop + Send + 'static,
+{
+    /// A pool of so many workers over a log that has the name of its type. A worker that can't be started is left out.
+    pub fn new(
+        rt: R,
+        alloc: Global,
+        log: Log,
+        workers: u64,
+        gate: G,
+        picker: P,
+    ) -> Result<Pool<J, R, G, P>, NoMemory>
+        requires { log ≡ J.log }
+        ensures { IfOk result (λ pool. pool.epoch ≡ 0) }
+    {
+        let named = Arc::new(alloc, Named::new(log))?;
+        let shared = Shared {
+            locked: Mutex::new(Locked::new(alloc, picker)),
+            gate,
+            more: Condvar::new(),
+            come: Condvar::new(),
+        };
+        let shared = Arc::new(alloc, shared)?;
+        let workers = started(&rt, alloc, &named, &shared, workers);
+        Ok(Pool {
+            rt,
+            alloc,
+            epoch: 0,
+            named,
+            shared,
+            workers,
+        })
+    }
+
+    /// Ends the workers. Tasks that are out are done before; no other is.
+    pub fn close(self) {
+        let Pool {
+            rt,
+            shared,
+            workers,
+            ..
+        } = self;
+        shared.locked.lock(&rt).closing = true;
+        shared.more.notify_all();
+        for worker in workers {
+            worker.join(&rt);
+        }
+    }
+}
+
+/// As many workers as can be started, at most so many.
+fn started<J, R, G, P>(
+    rt: &R,
+    alloc: Global,
+    named: &Arc<Named<J>>,
+    shared: &Arc<Shared<J, G, P>>,
+    count: u64,
+) -> Vec<JoinHandle<()>>
+where
+    J: Naming + Send + Sync + 'static,
+    R: Wait + Threads + Clone + Drop + Send + 'static,
+    G: Gate + Drop + Send + Sync + 'static,
+    P: Picker + Drop + Send + 'static,
+{
+    let mut workers = Vec::new(alloc);
+    for _ in 0..count {
+        if workers.reserve(1).is_err() {
+            break;
+        }
+        let Ok(worker) = start(rt, alloc, named, shared) else {
+            break;
+        };
+        workers.push_reserved(worker);
+    }
+    workers
+}
+
+/// Starts a worker.
+fn start<J, R, G, P>(
+    rt: &R,
+    alloc: Global,
+    named: &Arc<Named<J>>,
+    shared: &Arc<Shared<J, G, P>>,
+) -> Result<JoinHandle<()>, NoMemory>
+where
+    J: Naming + Send + Sync + 'static,
+    R: Wait + Threads + Clone + Drop + Send + 'static,
+    G: Gate + Drop + Send + Sync + 'static,
+    P: Picker + Drop + Send + 'static,
+{
+    let named = Arc::try_clone(named).map_err(|_| NoMemory)?;
+    let shared = Arc::try_clone(shared).map_err(|_| NoMemory)?;
+    let theirs = rt.clone()?;
+    match thread::spawn(rt, move || serve(&theirs, alloc, &named, &shared)) {
+        Ok(worker) => Ok(worker),
+        Err(_) => Err(NoMemory),
+    }
+}
+
+impl<J: Naming, R: Wait + Drop, G: Gate + Drop, P: Picker + Drop> Runner for Pool<J, R, G, P> {
+    type Ticket = Ticket<Note<J>>;
+
+    ghost object_of = { object_in told };
+
+    ghost epoch = { λ r. r.epoch };
+
+    ghost born = { λ t. t.epoch };
+
+    fn submit(
+        &mut self,
+        recipe: Recipe,
+        inputs: Roles<&Ticket<Note<J>>>,
+    ) -> Result<Ticket<Note<J>>, NoMemory> {
+        let log = &self.named.log;
+        let note = log.note(&self.rt, &recipe, notes_of(&inputs))?;
+        let mut guard = self.shared.locked.lock(&self.rt);
+        let locked = &mut *guard;
+        let slot = locked.submit(log, note.again(), recipe, &inputs)?;
+        let wakes = locked.wakes_worker(2);
+        drop(guard);
+        if wakes {
+            self.shared.more.notify_one();
+        }
+        Ok(Ticket {
+            epoch: self.epoch,
+            slot,
+            note,
+        })
+    }
+
+    fn fetch(&mut self, ticket: &Ticket<Note<J>>) -> Result<Arc<Store>, Failed> {
+        if ticket.epoch != self.epoch {
+            return Err(Failed);
+        }
+        fetch(&self.rt, self.alloc, &self.named, &self.shared, ticket)
+    }
+
+    fn hold(&mut self, ticket: &Ticket<Note<J>>) -> Result<Ticket<Note<J>>, NoMemory> {
+        let mut guard = self.shared.locked.lock(&self.rt);
+        guard.hold(&self.named.log, ticket)?;
+        Ok(Ticket {
+            epoch: ticket.epoch,
+            slot: ticket.slot,
+            note: ticket.note.again(),
+        })
+    }
+
+    fn let_go(&mut self, ticket: Ticket<Note<J>>) {
+        let mut guard = self.shared.locked.lock(&self.rt);
+        guard.let_go(&self.named.log, &ticket);
+    }
+
+    fn renew(&mut self) -> Result<(), NoMemory> {
+        let epoch = self.epoch.checked_add(1).ok_or(NoMemory)?;
+        let mut guard = self.shared.locked.lock(&self.rt);
+        let old = guard.renew(self.alloc)?;
+        drop(guard);
+        drop(old);
+        self.epoch = epoch;
+        Ok(())
+    }
+}
