@@ -1,4 +1,6 @@
 //! How much work is done.
+mod held;
+
 use crate::running::run_over;
 use desk::Picker;
 use history::History;

@@ -61,10 +61,11 @@ pub fn take<P: Picker, N: Drop>(picker: &mut P, board: &mut Board<N>) -> Option<
     }
 }
 
-/// The store of the object that a piece of work makes.
-pub fn made_of(alloc: Global, piece: Piece) -> Result<Arc<Store>, NoMemory>
-    requires { IsWork piece }
-    ensures { IfOk result (λ store. IsStoreFor (object_by piece) (arc_value store)) }
+/// The store of the object that a piece of work makes. What it was made of stays in the piece, but for a store that
+/// was edited.
+pub fn made_of(alloc: Global, piece: &mut Piece) -> Result<Arc<Store>, NoMemory>
+    requires { IsWork piece.old }
+    ensures { IfOk result (λ store. IsStoreFor (object_by piece.old) (arc_value store)) }
 {
     let Piece {
         rows,
@@ -72,27 +73,28 @@ pub fn made_of(alloc: Global, piece: Piece) -> Result<Arc<Store>, NoMemory>
         inputs,
         ..
     } = piece;
-    let block = block_of(alloc, &recipe, inputs, rows)?;
-    Ok(Arc::new(alloc, join(&recipe, block))?)
+    let block = block_of(alloc, recipe, inputs, rows.start..rows.end)?;
+    Ok(Arc::new(alloc, join(recipe, block))?)
 }
 
 /// What a recipe gives of stores. The edits of a patch are done in its store, where nobody shares that.
 fn block_of(
     alloc: Global,
     recipe: &Recipe,
-    inputs: Stores,
+    inputs: &mut Stores,
     rows: Range<u64>,
 ) -> Result<Block, NoMemory>
-    requires takes { (role : AnyRole) → Takes (known_by recipe.now role) (stored_for inputs role) }
+    requires takes { (role : AnyRole) → Takes (known_by recipe.now role) (stored_for inputs.now role) }
     requires range { rows.start ≤ rows.end }
     requires rows { rows.end ≤ rows_of (known_of recipe.now).shape }
-    ensures piece { IfOk result (IsPieceOf recipe.now (maps_in inputs) rows.start rows.end) }
+    ensures piece { IfOk result (IsPieceOf recipe.now (maps_in inputs.entry.now) rows.start rows.end) }
     ensures form { IfOk result (HasForm recipe.now) }
 {
     match recipe {
         Recipe::Patch(patch) => {
-            let Stores { old, .. } = inputs;
-            let Some(old) = old else { unreachable!() };
+            let Some(old) = inputs.old.take() else {
+                unreachable!()
+            };
             Ok(Block::Whole(patch_over(alloc, patch, old)?))
         }
         recipe => eval_piece(alloc, recipe, &inputs.lent(), rows),

@@ -66,7 +66,8 @@ pub(crate) fn work<N: Drop>(alloc: Global, board: &mut Board<N>, piece: Piece)
         → unfinished (view_of board.new).progress < unfinished (view_of board.old).progress }
 {
     let number = piece.number;
-    match made_of(alloc, piece) {
+    let mut piece = piece;
+    match made_of(alloc, &mut piece) {
         Ok(store) => {
             let _ = board.hand_in(number, store);
         }

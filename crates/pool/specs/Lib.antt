@@ -1,1 +1,2 @@
+pub mod Crews
 pub mod Locks

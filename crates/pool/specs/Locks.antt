@@ -1,6 +1,6 @@
 -- What becomes of a board under a lock.
-use Rattle.std.specs.Prelude.{ℕ, Option, Some, None, if◌then◌else◌, slice_get}
-use Rattle.board.specs.Events.{failed, may_fail, with_progress}
+use Rattle.std.specs.Prelude.{ℕ, ◌+◌, Option, Some, None, if◌then◌else◌, slice_get, slice_index}
+use Rattle.board.specs.Events.{failed, may_fail, with_holds, with_progress}
 use Rattle.board.specs.Progress.{Made, is_running}
 use Rattle.board.specs.Views.{View}
 use Rattle.desk.specs.Desks.{is_on, told}
@@ -15,3 +15,7 @@ ended v k None = if may_fail v k then failed v k else v
 -- a task was done, if its slot is on the board
 abbrev pub finished_on : {A : Type 0} → ℕ → View Told → Ticket Told → Option A → View Told
 finished_on epoch v ticket store = if is_on told epoch v ticket then ended v ticket.slot store else v
+
+-- one hold more of a ticket's slot, if it is on the board
+abbrev pub held_on : ℕ → View Told → Ticket Told → View Told
+held_on epoch v ticket = if is_on told epoch v ticket then with_holds v ticket.slot (slice_index v.holds ticket.slot + 1) else v

@@ -1,6 +1,7 @@
 //! A runner whose work is done by threads, in whatever order its inputs permit.
 #![tactic(auto)]
 
+mod crew;
 mod gate;
 mod locked;
 mod named;
@@ -9,6 +10,7 @@ mod serving;
 mod shared;
 #[cfg(test)]
 mod tests;
+mod weights;
 mod work;
 
 pub use gate::{Gate, Open};

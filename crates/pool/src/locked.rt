@@ -1,17 +1,21 @@
 //! What lies under the lock.
 ghost use Rattle.std.specs.Prelude.{◌≡◌, ◌+◌, IfOk, IfSome, None, OnErr, OnOk, [], slice_get, true};
 ghost use Rattle.std.specs.Arc.{arc_value};
+ghost use Rattle.std.specs.Bool.{OnTrue};
 ghost use Rattle.board.specs.Boards.{view_of};
 ghost use Rattle.board.specs.Events.{empty_view};
 ghost use Rattle.board.specs.Progress.{is_running};
 ghost use Rattle.board.specs.Views.{offered};
 ghost use Rattle.desk.specs.Desks.{AreTold, is_on, object_in, told};
 ghost use Rattle.history.specs.Histories.{object_of};
-ghost use Rattle.pool.specs.Locks.{finished_on};
+ghost use Rattle.pool.specs.Crews.{Calls};
+ghost use Rattle.pool.specs.Locks.{finished_on, held_on};
 ghost use Rattle.runner.specs.Tickets.{IsStoreFor, made_by};
 
+use crate::crew::Crew;
+use crate::weights::{entries_for, work_in};
 use crate::work::{Finished, Work};
-use board::{Board, Look};
+use board::{Board, Look, Piece};
 use calls::{Recipe, Roles};
 use desk::{Picker, Ticket, give_up, look, place, slot_of, take};
 use history::Noted;
@@ -23,18 +27,13 @@ use std::mem;
 use std::sync::Arc;
 use store::Store;
 
-/// A board, its epoch, and who picks what is done next.
+/// A board, its epoch, who picks what is done next, and who sleeps.
 #[derive(Drop)]
 pub struct Locked<J: Naming, P: Picker + Drop> {
     pub board: Board<Note<J>>,
     pub epoch: u64,
     picker: P,
-    /// No task is taken any more.
-    pub closing: bool,
-    /// At least so many workers sleep that nobody has woken.
-    pub sleeping: u64,
-    /// The slot for which the calling thread sleeps.
-    pub awaited: Option<u64>,
+    pub crew: Crew,
     ghost told: { AreTold told (view_of board) },
 }
 
@@ -47,9 +46,7 @@ impl<J: Naming, P: Picker + Drop> Locked<J, P> {
             board: Board::new(alloc),
             epoch: 0,
             picker,
-            closing: false,
-            sleeping: 0,
-            awaited: None,
+            crew: Crew::new(),
         }
     }
 
@@ -63,6 +60,8 @@ impl<J: Naming, P: Picker + Drop> Locked<J, P> {
     ) -> Result<u64, NoMemory>
         requires log { log.now ≡ J.log }
         requires object { object_of note ≡ made_by (object_in told) recipe inputs.now }
+        ensures epoch { self.new.epoch ≡ self.old.epoch }
+        ensures crew { self.new.crew ≡ self.old.crew }
     {
         place(&mut self.board, log, self.epoch, note, recipe, inputs)
     }
@@ -86,6 +85,8 @@ impl<J: Naming, P: Picker + Drop> Locked<J, P> {
         ensures running { IfSome result (λ work.
             is_running (slice_get (view_of self.new.board).progress work.ticket.slot) ≡ true) }
         ensures on { IfSome result (λ work. is_on told self.new.epoch (view_of self.new.board) work.ticket ≡ true) }
+        ensures epoch { self.new.epoch ≡ self.old.epoch }
+        ensures crew { self.new.crew ≡ self.old.crew }
     {
         let piece = take(&mut self.picker, &mut self.board)?;
         let Some(note) = self.board.note(piece.number) else {
@@ -99,15 +100,22 @@ impl<J: Naming, P: Picker + Drop> Locked<J, P> {
         Some(Work { ticket, piece })
     }
 
-    /// A task was done. What comes of an epoch that is over is thrown away.
-    pub fn finish(&mut self, log: &Log, finished: Finished<J>)
+    /// A task was done. What comes of an epoch that is over is thrown away. Gives back what the task was made of.
+    pub fn finish(&mut self, log: &Log, finished: Finished<J>) -> Piece
         requires log { log.now ≡ J.log }
         ensures board { view_of self.new.board ≡ finished_on self.old.epoch (view_of self.old.board) finished.ticket
             finished.store }
+        ensures epoch { self.new.epoch ≡ self.old.epoch }
+        ensures crew { self.new.crew ≡ self.old.crew }
     {
-        let Finished { ticket, store, .. } = finished;
+        let Finished {
+            ticket,
+            store,
+            spent,
+            ..
+        } = finished;
         let Some(slot) = slot_of(&self.board, log, self.epoch, &ticket) else {
-            return;
+            return spent;
         };
         match store {
             Some(store) => {
@@ -117,11 +125,16 @@ impl<J: Naming, P: Picker + Drop> Locked<J, P> {
                 let _ = self.board.fail(slot);
             }
         }
+        spent
     }
 
-    /// One hold more of a ticket's slot.
+    /// One hold more of a ticket's slot, where it is on the board.
     pub fn hold(&mut self, log: &Log, ticket: &Ticket<Note<J>>) -> Result<(), NoMemory>
         requires log { log.now ≡ J.log }
+        ensures board { OnOk result (view_of self.new.board ≡ held_on self.old.epoch (view_of self.old.board) ticket.now) }
+        ensures refused { OnErr result (view_of self.new.board ≡ view_of self.old.board) }
+        ensures epoch { self.new.epoch ≡ self.old.epoch }
+        ensures crew { self.new.crew ≡ self.old.crew }
     {
         if let Some(slot) = slot_of(&self.board, log, self.epoch, ticket) {
             self.board.hold(slot).map_err(|_| NoMemory)?;
@@ -129,46 +142,113 @@ impl<J: Naming, P: Picker + Drop> Locked<J, P> {
         Ok(())
     }
 
-    /// One hold less. What nobody asks for any more isn't done.
-    pub fn let_go(&mut self, log: &Log, ticket: &Ticket<Note<J>>)
+    /// One hold less. What nobody asks for any more isn't done. Gives back a share of the store, so that nobody who has
+    /// the lock drops it.
+    pub fn let_go(&mut self, log: &Log, ticket: &Ticket<Note<J>>) -> Option<Arc<Store>>
         requires log { log.now ≡ J.log }
+        ensures tasks { (view_of self.new.board).tasks ≡ (view_of self.old.board).tasks }
+        ensures notes { (view_of self.new.board).notes ≡ (view_of self.old.board).notes }
+        ensures epoch { self.new.epoch ≡ self.old.epoch }
+        ensures crew { self.new.crew ≡ self.old.crew }
     {
-        if let Some(slot) = slot_of(&self.board, log, self.epoch, ticket) {
-            let _ = self.board.let_go(slot);
-            give_up(&mut self.board, slot);
-        }
+        let slot = slot_of(&self.board, log, self.epoch, ticket)?;
+        let share = share_of(&self.board, slot);
+        let _ = self.board.let_go(slot);
+        give_up(&mut self.board, slot);
+        share
     }
 
-    /// Begins a new epoch with an empty board, and gives back the old one.
-    pub fn renew(&mut self, alloc: Global) -> Result<Board<Note<J>>, NoMemory>
+    /// Begins a new epoch with an empty board, in exchange for the old one.
+    pub fn renew(&mut self, empty: &mut Board<Note<J>>) -> Result<(), NoMemory>
+        requires { view_of empty.old ≡ empty_view }
         ensures board { OnOk result (view_of self.new.board ≡ empty_view) }
         ensures epoch { OnOk result (self.new.epoch ≡ self.old.epoch + 1) }
-        ensures refused { OnErr result (self.new ≡ self.old) }
+        ensures crew { self.new.crew ≡ self.old.crew }
+        ensures refused { OnErr result ((self.new ≡ self.old) × (empty.new ≡ empty.old)) }
     {
-        let epoch = self.epoch.checked_add(1).ok_or(NoMemory)?;
-        self.epoch = epoch;
-        Ok(mem::replace(&mut self.board, Board::new(alloc)))
+        self.epoch = self.epoch.checked_add(1).ok_or(NoMemory)?;
+        mem::swap(&mut self.board, empty);
+        Ok(())
     }
 
-    /// Counts a worker awake, where one sleeps and at least so many tasks can be done. Says whether one is to be woken.
-    pub fn wakes_worker(&mut self, least: u64) -> bool {
-        if self.sleeping == 0 || self.board.offers() < least {
-            return false;
+    /// Whether a slot's store is still to come.
+    pub fn is_to_come(&self, slot: u64) -> bool {
+        matches!(self.board.look(slot), Look::Unfinished)
+    }
+
+    /// How many workers are to be woken once a slot was given for a recipe of so much work of its own. One task is left
+    /// for the calling thread.
+    pub fn call_after(&mut self, slot: u64, own: u64) -> u64
+        ensures board { self.new.board ≡ self.old.board }
+        ensures epoch { self.new.epoch ≡ self.old.epoch }
+        ensures calls { Calls self.old.crew self.new.crew result }
+    {
+        if self.crew.sleeping == 0 || self.board.offers() < 2 {
+            return 0;
         }
-        self.sleeping -= 1;
-        true
+        match entries_for(&self.board, slot) {
+            Some(entries) => self.call_for(entries.saturating_add(own), 1),
+            None => 0,
+        }
     }
 
-    /// Whether the calling thread sleeps for what has come, or could do a task that nobody else is there for.
-    pub fn wakes_caller(&mut self) -> bool {
-        let Some(slot) = self.awaited else {
+    /// How many workers are to be woken by whoever took a piece.
+    pub fn call_beside(&mut self, piece: &Piece) -> u64
+        ensures board { self.new.board ≡ self.old.board }
+        ensures epoch { self.new.epoch ≡ self.old.epoch }
+        ensures calls { Calls self.old.crew self.new.crew result }
+    {
+        if self.crew.sleeping == 0 || self.board.offers() == 0 {
+            return 0;
+        }
+        self.call_for(work_in(piece), 0)
+    }
+
+    /// How many workers are to be woken once a store was found. One task is left for the calling thread.
+    pub fn call_after_fetch(&mut self, found: &Result<Arc<Store>, Failed>) -> u64
+        ensures board { self.new.board ≡ self.old.board }
+        ensures epoch { self.new.epoch ≡ self.old.epoch }
+        ensures calls { Calls self.old.crew self.new.crew result }
+    {
+        match found {
+            Ok(store) => self.call_for(store.nvals(), 1),
+            Err(_) => 0,
+        }
+    }
+
+    /// How many workers are to be woken, where each task that can be done is so much work, but for so many of them.
+    pub fn call_for(&mut self, work: u64, but: u64) -> u64
+        ensures board { self.new.board ≡ self.old.board }
+        ensures epoch { self.new.epoch ≡ self.old.epoch }
+        ensures calls { Calls self.old.crew self.new.crew result }
+    {
+        let count = self.board.offers().saturating_sub(but);
+        self.crew.call(count.saturating_mul(work))
+    }
+
+    /// Whether the calling thread is to be woken, which sleeps: its store has come, or there is a task that it can do.
+    pub fn calls_caller(&mut self) -> bool
+        ensures board { self.new.board ≡ self.old.board }
+        ensures epoch { self.new.epoch ≡ self.old.epoch }
+        ensures closing { self.new.crew.closing ≡ self.old.crew.closing }
+        ensures sleeping { self.new.crew.sleeping ≡ self.old.crew.sleeping }
+        ensures awaited { OnTrue result (self.new.crew.awaited ≡ None) }
+    {
+        let Some(slot) = self.crew.awaited else {
             return false;
         };
-        let is_to_come = matches!(self.board.look(slot), Look::Unfinished);
-        if is_to_come && self.board.offers() == 0 {
+        if self.is_to_come(slot) && self.board.offers() == 0 {
             return false;
         }
-        self.awaited = None;
+        self.crew.awaited = None;
         true
+    }
+}
+
+/// A share of a slot's store, where it is there.
+fn share_of<N: Drop>(board: &Board<N>, slot: u64) -> Option<Arc<Store>> {
+    match look(board, slot) {
+        Some(Ok(store)) => Some(store),
+        _ => None,
     }
 }

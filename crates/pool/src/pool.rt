@@ -1,12 +1,16 @@
 //! The pool.
 ghost use Rattle.std.specs.Prelude.{◌≡◌, IfOk};
+ghost use Rattle.board.specs.Boards.{view_of};
+ghost use Rattle.board.specs.Events.{empty_view};
 ghost use Rattle.desk.specs.Desks.{object_in, told};
 
 use crate::gate::Gate;
 use crate::locked::Locked;
 use crate::named::Named;
-use crate::serving::{fetch, serve};
+use crate::serving::{fetch, leave, serve};
 use crate::shared::Shared;
+use crate::weights::work_of;
+use board::Board;
 use calls::{Recipe, Roles};
 use desk::{Picker, Ticket, notes_of};
 use history::Noted;
@@ -29,6 +33,9 @@ pub struct Pool<J: Naming, R: Wait + Drop, G: Gate + Drop, P: Picker + Drop> {
     named: Arc<Named<J>>,
     shared: Arc<Shared<J, G, P>>,
     workers: Vec<JoinHandle<()>>,
+    /// The board of the next epoch, whose lists have the room of one before.
+    spare: Board<Note<J>>,
+    ghost empty: { view_of spare ≡ empty_view },
 }
 
 impl<J, R, G, P> Pool<J, R, G, P>
@@ -66,6 +73,7 @@ where
             named,
             shared,
             workers,
+            spare: Board::new(alloc),
         })
     }
 
@@ -77,7 +85,7 @@ where
             workers,
             ..
         } = self;
-        shared.locked.lock(&rt).closing = true;
+        shared.locked.lock(&rt).crew.closing = true;
         shared.more.notify_all();
         for worker in workers {
             worker.join(&rt);
@@ -150,14 +158,12 @@ impl<J: Naming, R: Wait + Drop, G: Gate + Drop, P: Picker + Drop> Runner for Poo
     ) -> Result<Ticket<Note<J>>, NoMemory> {
         let log = &self.named.log;
         let note = log.note(&self.rt, &recipe, notes_of(&inputs))?;
+        let own = work_of(&recipe);
         let mut guard = self.shared.locked.lock(&self.rt);
         let locked = &mut *guard;
         let slot = locked.submit(log, note.again(), recipe, &inputs)?;
-        let wakes = locked.wakes_worker(2);
-        drop(guard);
-        if wakes {
-            self.shared.more.notify_one();
-        }
+        let called = locked.call_after(slot, own);
+        leave(&self.shared, guard, None, called);
         Ok(Ticket {
             epoch: self.epoch,
             slot,
@@ -184,15 +190,17 @@ impl<J: Naming, R: Wait + Drop, G: Gate + Drop, P: Picker + Drop> Runner for Poo
 
     fn let_go(&mut self, ticket: Ticket<Note<J>>) {
         let mut guard = self.shared.locked.lock(&self.rt);
-        guard.let_go(&self.named.log, &ticket);
+        let share = guard.let_go(&self.named.log, &ticket);
+        drop(guard);
+        drop(share);
     }
 
     fn renew(&mut self) -> Result<(), NoMemory> {
         let epoch = self.epoch.checked_add(1).ok_or(NoMemory)?;
         let mut guard = self.shared.locked.lock(&self.rt);
-        let old = guard.renew(self.alloc)?;
+        guard.renew(&mut self.spare)?;
         drop(guard);
-        drop(old);
+        self.spare.clear();
         self.epoch = epoch;
         Ok(())
     }

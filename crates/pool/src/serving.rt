@@ -5,21 +5,24 @@ ghost use Rattle.desk.specs.Desks.{object_in, told};
 ghost use Rattle.runner.specs.Tickets.{IsStoreFor};
 
 use crate::gate::Gate;
+use crate::locked::Locked;
 use crate::named::Named;
 use crate::shared::Shared;
 use crate::work::{Finished, Work};
+use board::Piece;
 use desk::{Picker, Ticket};
 use journal::{Naming, Note};
 use runner::Failed;
 use std::alloc::Global;
-use std::sync::{Arc, Wait};
+use std::sync::{Arc, MutexGuard, Wait};
 use store::Store;
 
-// No task is forgotten. A worker sleeps only where it saw, under the lock, that none can be done, and then counts as
-// one that sleeps until somebody wakes it. Whoever makes tasks ready does one of them itself, or will when it is asked
-// for, and wakes a worker for the next where one sleeps; who takes one of several wakes another. Who was awake all the
-// time looks under the lock before it sleeps. The calling thread sleeps only where none can be done and its store is
-// still to come: then some worker is at work, which finds on its return that it is awaited.
+// No task is forgotten. The calling thread sleeps only where nothing can be done and its store is still to come: then
+// some worker is at work, which finds on its return that it is awaited. A worker sleeps only where it saw, under the
+// lock, that nothing can be done. It counts as one that sleeps until somebody calls it, who wakes one then. Tasks that
+// can be done and for which nobody is called are done by workers that are awake, or by the calling thread once it asks
+// for a store; so workers are called for much work alone, and nothing hangs where none is. What a task was made of is
+// dropped by the thread that did it, once it holds no lock.
 
 /// Does tasks until the pool is closed.
 pub fn serve<J: Naming, R: Wait, G: Gate + Drop, P: Picker + Drop>(
@@ -28,33 +31,49 @@ pub fn serve<J: Naming, R: Wait, G: Gate + Drop, P: Picker + Drop>(
     named: &Named<J>,
     shared: &Shared<J, G, P>,
 ) {
-    let mut finished = None;
+    shared.locked.lock(rt).crew.begin();
+    let mut last = None;
     for _ in rt.forever() {
         let mut guard = shared.locked.lock(rt);
         let locked = &mut *guard;
-        if let Some(last) = finished.take() {
-            locked.finish(&named.log, last);
-        }
-        if locked.closing {
+        let spent = match last.take() {
+            Some(finished) => Some(locked.finish(&named.log, finished)),
+            None => None,
+        };
+        if locked.crew.closing {
             return;
         }
         let taken = locked.take();
-        if locked.wakes_caller() {
+        if locked.calls_caller() {
             shared.come.notify_one();
         }
         match taken {
             Some(work) => {
-                if locked.wakes_worker(1) {
-                    shared.more.notify_one();
-                }
-                drop(guard);
-                finished = Some(done(alloc, shared, work));
+                let called = locked.call_beside(&work.piece);
+                leave(shared, guard, spent, called);
+                last = Some(done(alloc, shared, work));
             }
-            None => {
-                locked.sleeping = locked.sleeping.saturating_add(1);
-                drop(shared.more.wait(rt, guard));
+            None if spent.is_none() => {
+                locked.crew.sleep();
+                let mut guard = shared.more.wait(rt, guard);
+                guard.crew.rise();
             }
+            None => leave(shared, guard, spent, 0),
         }
+    }
+}
+
+/// Gives the lock up; then drops what a task was made of, and wakes workers.
+pub fn leave<J: Naming, G: Gate + Drop, P: Picker + Drop>(
+    shared: &Shared<J, G, P>,
+    guard: MutexGuard<'_, Locked<J, P>>,
+    spent: Option<Piece>,
+    called: u64,
+) {
+    drop(guard);
+    drop(spent);
+    for _ in 0..called {
+        shared.more.notify_one();
     }
 }
 
@@ -78,32 +97,31 @@ pub fn fetch<J: Naming, R: Wait, G: Gate + Drop, P: Picker + Drop>(
 ) -> Result<Arc<Store>, Failed>
     ensures { IfOk result (λ store. IsStoreFor (object_in told ticket.now) (arc_value store)) }
 {
-    let mut finished = None;
+    let mut last = None;
     for _ in rt.forever() {
         let mut guard = shared.locked.lock(rt);
         let locked = &mut *guard;
-        locked.awaited = None;
-        if let Some(last) = finished.take() {
-            locked.finish(&named.log, last);
-        }
+        locked.crew.awaited = None;
+        let spent = match last.take() {
+            Some(finished) => Some(locked.finish(&named.log, finished)),
+            None => None,
+        };
         if let Some(found) = locked.look(&named.log, ticket) {
-            if locked.wakes_worker(2) {
-                shared.more.notify_one();
-            }
+            let called = locked.call_after_fetch(&found);
+            leave(shared, guard, spent, called);
             return found;
         }
         match locked.take() {
             Some(work) => {
-                if locked.wakes_worker(1) {
-                    shared.more.notify_one();
-                }
-                drop(guard);
-                finished = Some(done(alloc, shared, work));
+                let called = locked.call_beside(&work.piece);
+                leave(shared, guard, spent, called);
+                last = Some(done(alloc, shared, work));
             }
-            None => {
-                locked.awaited = Some(ticket.slot);
+            None if spent.is_none() && locked.is_to_come(ticket.slot) => {
+                locked.crew.awaited = Some(ticket.slot);
                 drop(shared.come.wait(rt, guard));
             }
+            None => leave(shared, guard, spent, 0),
         }
     }
     unreachable!()

@@ -22,6 +22,12 @@ use std::time::{Clock, Duration};
 /// How often a piece that is held looks again, and then gives up.
 const TURNS: u64 = 10_000;
 
+/// How many tasks there are: so many that workers are called for them.
+const TASKS: u64 = 200;
+
+/// How many workers there are.
+const WORKERS: u64 = 2;
+
 /// What a test and its gate tell each other.
 #[derive(Drop)]
 struct Signs {
@@ -29,6 +35,8 @@ struct Signs {
     submitted: AtomicU64,
     /// Pieces that came to the gate.
     entered: AtomicU64,
+    /// Leaves to pass the gate.
+    released: AtomicU64,
     /// Pieces that gave up.
     lost: AtomicU64,
 }
@@ -38,51 +46,54 @@ impl Signs {
         Signs {
             submitted: AtomicU64::new(0),
             entered: AtomicU64::new(0),
+            released: AtomicU64::new(0),
             lost: AtomicU64::new(0),
         }
     }
 }
 
-// Sleeps a millisecond a turn, until a count has come so far.
-fn await_count<R: Clock>(rt: &R, signs: &Signs, count: &AtomicU64, least: u64) {
-    for _ in 0..TURNS {
-        if count.load(SeqCst) >= least {
-            return;
+/// Which sign a piece waits for.
+#[derive(Clone, Copy)]
+enum Sign {
+    Submitted,
+    Entered,
+    Released,
+}
+
+/// Holds pieces of the first slots until a sign has come so far, or they have looked too often.
+#[derive(Drop)]
+struct Holding<R: Drop> {
+    rt: R,
+    signs: Arc<Signs>,
+    slots: u64,
+    sign: Sign,
+    least: u64,
+    turns: u64,
+}
+
+impl<R: Clock + Drop> Holding<R> {
+    // Sleeps a millisecond a turn.
+    fn hold(&self) {
+        let count = match self.sign {
+            Sign::Submitted => &self.signs.submitted,
+            Sign::Entered => &self.signs.entered,
+            Sign::Released => &self.signs.released,
+        };
+        for _ in 0..self.turns {
+            if count.load(SeqCst) >= self.least {
+                return;
+            }
+            thread::sleep(&self.rt, Duration::from_millis(1));
         }
-        thread::sleep(rt, Duration::from_millis(1));
-    }
-    signs.lost.fetch_add(1, SeqCst);
-}
-
-/// Holds every piece until so many recipes were submitted.
-#[derive(Drop)]
-struct UntilSubmitted<R: Drop> {
-    rt: R,
-    signs: Arc<Signs>,
-    least: u64,
-}
-
-impl<R: Clock + Drop> Gate for UntilSubmitted<R> {
-    fn enter(&self, _slot: u64, _piece: u64) {
-        self.signs.entered.fetch_add(1, SeqCst);
-        await_count(&self.rt, &self.signs, &self.signs.submitted, self.least);
+        self.signs.lost.fetch_add(1, SeqCst);
     }
 }
 
-/// Holds the piece of one slot until so many pieces have come.
-#[derive(Drop)]
-struct UntilEntered<R: Drop> {
-    rt: R,
-    signs: Arc<Signs>,
-    held: u64,
-    least: u64,
-}
-
-impl<R: Clock + Drop> Gate for UntilEntered<R> {
+impl<R: Clock + Drop> Gate for Holding<R> {
     fn enter(&self, slot: u64, _piece: u64) {
         self.signs.entered.fetch_add(1, SeqCst);
-        if slot == self.held {
-            await_count(&self.rt, &self.signs, &self.signs.entered, self.least);
+        if slot < self.slots {
+            self.hold();
         }
     }
 }
@@ -98,15 +109,14 @@ fn recipe(alloc: Global) -> Result<Recipe, AllocError>
     Ok(Recipe::New(Box::new(alloc, of)?))
 }
 
-// So many tickets of vectors without entries, each of which is counted once its submission has returned.
+// Tickets of vectors without entries, each of which is counted once its submission has returned.
 fn tickets<R: Runner>(
     alloc: Global,
     runner: &mut R,
     signs: &Signs,
-    count: u64,
 ) -> Result<Vec<R::Ticket>, AllocError> {
     let mut tickets = Vec::new(alloc);
-    for _ in 0..count {
+    for _ in 0..TASKS {
         let ticket = runner
             .submit(recipe(alloc)?, Roles::none())
             .map_err(|_| AllocError)?;
@@ -116,83 +126,160 @@ fn tickets<R: Runner>(
     Ok(tickets)
 }
 
-// Whether all of them have a store.
-fn are_fetched<R: Runner>(runner: &mut R, tickets: &[R::Ticket]) -> bool {
+// How many of them have a store.
+fn count_fetched<R: Runner>(runner: &mut R, tickets: &[R::Ticket]) -> u64 {
+    let mut count = 0u64;
     for ticket in tickets {
-        if runner.fetch(ticket).is_err() {
-            return false;
+        if runner.fetch(ticket).is_ok() {
+            count = count.saturating_add(1);
         }
     }
-    true
+    count
 }
 
-// Whether three submissions return while every piece is held, and their stores are there then.
-fn submits_while_held<J, R>(rt: R, alloc: Global, log: Log) -> Result<bool, AllocError>
+// Whether all stores are there.
+fn is_fetched<R: Runner>(alloc: Global, runner: &mut R, signs: &Signs) -> Result<bool, AllocError> {
+    let tickets = tickets(alloc, runner, signs)?;
+    Ok(count_fetched(runner, tickets.as_slice()) == TASKS)
+}
+
+// Waits until a piece has come to the gate.
+fn await_piece<R: Clock>(rt: &R, signs: &Signs) {
+    for _ in 0..TURNS {
+        if signs.entered.load(SeqCst) > 0 {
+            return;
+        }
+        thread::sleep(rt, Duration::from_millis(1));
+    }
+}
+
+// Whether what was submitted before an epoch ended, while a piece was held, has no store, and what came later has one.
+fn is_renewed<R: Runner, C: Clock>(
+    rt: &C,
+    alloc: Global,
+    runner: &mut R,
+    signs: &Signs,
+) -> Result<bool, AllocError> {
+    let old = tickets(alloc, runner, signs)?;
+    await_piece(rt, signs);
+    runner.renew().map_err(|_| AllocError)?;
+    signs.released.store(1, SeqCst);
+    let new = tickets(alloc, runner, signs)?;
+    let found = count_fetched(runner, new.as_slice());
+    Ok(found == TASKS && count_fetched(runner, old.as_slice()) == 0)
+}
+
+/// What is done while pieces are held.
+#[derive(Clone, Copy)]
+enum Trial {
+    /// All stores are asked for.
+    Fetch,
+    /// An epoch ends.
+    Renew,
+    /// The pool is closed.
+    Close,
+}
+
+// Whether a pool does what it should, over a log that has a name, and whether no more pieces gave up than may.
+fn over_log<J, R>(
+    rt: R,
+    alloc: Global,
+    log: Log,
+    signs: &Signs,
+    gate: Holding<R>,
+    trial: Trial,
+) -> Result<bool, AllocError>
 where
     J: Naming + Send + Sync + 'static,
     R: Wait + Threads + Clock + Clone + Drop + Send + Sync + 'static,
     requires { log ≡ J.log }
 {
-    let signs = Arc::new(alloc, Signs::new())?;
-    let gate = UntilSubmitted {
-        rt: rt.clone()?,
-        signs: Arc::try_clone(&signs)?,
-        least: 3,
-    };
-    let mut pool = Pool::<J, R, UntilSubmitted<R>, Order>::new(
-        rt,
+    let mut pool = Pool::<J, R, Holding<R>, Order>::new(
+        rt.clone()?,
         alloc,
         log,
-        2,
+        WORKERS,
         gate,
         Order::First,
     ).map_err(|_| AllocError)?;
-    let tickets = tickets(alloc, &mut pool, &signs, 3)?;
-    let fetched = are_fetched(&mut pool, tickets.as_slice());
+    let passed = match trial {
+        Trial::Fetch => is_fetched(alloc, &mut pool, signs)?,
+        Trial::Renew => is_renewed(&rt, alloc, &mut pool, signs)?,
+        Trial::Close => {
+            let tickets = tickets(alloc, &mut pool, signs)?;
+            await_piece(&rt, signs);
+            tickets.len() as u64 == TASKS
+        }
+    };
     pool.close();
-    Ok(fetched && signs.lost.load(SeqCst) == 0)
+    Ok(passed)
 }
 
-// Whether a second task is done while the first is held.
-fn passes_one_held<J, R>(rt: R, alloc: Global, log: Log) -> Result<bool, AllocError>
+// The same over a new log, with pieces of so many slots held until a sign has come so far, for so many turns at most.
+fn passes<R>(
+    rt: &R,
+    signs: &Arc<Signs>,
+    held: (u64, Sign, u64, u64),
+    trial: Trial,
+) -> Result<bool, AllocError>
 where
-    J: Naming + Send + Sync + 'static,
-    R: Wait + Threads + Clock + Clone + Drop + Send + Sync + 'static,
-    requires { log ≡ J.log }
+    R: Wait + Threads + Clock + Clone + Drop + Send + Sync + AllocGlobal + 'static,
 {
-    let signs = Arc::new(alloc, Signs::new())?;
-    let gate = UntilEntered {
+    let alloc = rt.alloc();
+    let (slots, sign, least, turns) = held;
+    let gate = Holding {
         rt: rt.clone()?,
-        signs: Arc::try_clone(&signs)?,
-        held: 0,
-        least: 2,
+        signs: Arc::try_clone(signs)?,
+        slots,
+        sign,
+        least,
+        turns,
     };
-    let mut pool = Pool::<J, R, UntilEntered<R>, Order>::new(
-        rt,
-        alloc,
-        log,
-        2,
-        gate,
-        Order::First,
-    ).map_err(|_| AllocError)?;
-    let tickets = tickets(alloc, &mut pool, &signs, 2)?;
-    let fetched = are_fetched(&mut pool, tickets.as_slice());
-    pool.close();
-    Ok(fetched && signs.lost.load(SeqCst) == 0)
+    let log = Log::new(alloc).map_err(|_| AllocError)?;
+    over_log::<Brand, R>(rt.clone()?, alloc, log, signs, gate, trial)
 }
 
 #[test]
 fn three_submits_return_while_every_piece_is_held(rt: HostRuntime) -> Result<(), AllocError> {
-    let alloc = rt.alloc();
-    let log = Log::new(alloc).map_err(|_| AllocError)?;
-    assert!(rt; submits_while_held::<Brand, HostRuntime>(rt.clone()?, alloc, log)?);
+    let signs = Arc::new(rt.alloc(), Signs::new())?;
+    let held = (TASKS, Sign::Submitted, 3, TURNS);
+    assert!(rt; passes(&rt, &signs, held, Trial::Fetch)?);
+    assert!(rt; signs.lost.load(SeqCst) == 0);
     Ok(())
 }
 
 #[test]
 fn second_task_enters_while_first_is_held(rt: HostRuntime) -> Result<(), AllocError> {
-    let alloc = rt.alloc();
-    let log = Log::new(alloc).map_err(|_| AllocError)?;
-    assert!(rt; passes_one_held::<Brand, HostRuntime>(rt.clone()?, alloc, log)?);
+    let signs = Arc::new(rt.alloc(), Signs::new())?;
+    assert!(rt; passes(&rt, &signs, (1, Sign::Entered, 2, TURNS), Trial::Fetch)?);
+    assert!(rt; signs.lost.load(SeqCst) == 0);
+    Ok(())
+}
+
+#[test]
+fn lowest_piece_is_given_last(rt: HostRuntime) -> Result<(), AllocError> {
+    let signs = Arc::new(rt.alloc(), Signs::new())?;
+    assert!(rt; passes(&rt, &signs, (1, Sign::Entered, TASKS, TURNS), Trial::Fetch)?);
+    assert!(rt; signs.lost.load(SeqCst) == 0);
+    Ok(())
+}
+
+#[test]
+fn renew_while_a_piece_is_held(rt: HostRuntime) -> Result<(), AllocError> {
+    let signs = Arc::new(rt.alloc(), Signs::new())?;
+    let held = (TASKS, Sign::Released, 1, TURNS);
+    assert!(rt; passes(&rt, &signs, held, Trial::Renew)?);
+    assert!(rt; signs.lost.load(SeqCst) == 0);
+    Ok(())
+}
+
+// Each worker has at most the piece that is held while the pool is closed.
+#[test]
+fn no_piece_is_taken_once_a_pool_is_closed(rt: HostRuntime) -> Result<(), AllocError> {
+    let signs = Arc::new(rt.alloc(), Signs::new())?;
+    let held = (TASKS, Sign::Released, 1, 200);
+    assert!(rt; passes(&rt, &signs, held, Trial::Close)?);
+    assert!(rt; signs.entered.load(SeqCst) <= WORKERS);
+    assert!(rt; signs.lost.load(SeqCst) == signs.entered.load(SeqCst));
     Ok(())
 }

@@ -27,6 +27,8 @@ pub struct Work<J: Naming> {
 pub struct Finished<J: Naming> {
     pub ticket: Ticket<Note<J>>,
     pub store: Option<Arc<Store>>,
+    /// What the store was made of. Whoever did the task drops it once it holds no lock.
+    pub spent: Piece,
     ghost right: { ForSome store (λ store. IsStoreFor (object_of ticket.note) (arc_value store)) },
 }
 
@@ -35,10 +37,16 @@ impl<J: Naming> Work<J> {
     pub fn run(self, alloc: Global) -> Finished<J>
         ensures { result.ticket ≡ self.ticket }
     {
-        let Work { ticket, piece, .. } = self;
+        let Work {
+            ticket,
+            mut piece,
+            ..
+        } = self;
+        let store = made_of(alloc, &mut piece).ok();
         Finished {
             ticket,
-            store: made_of(alloc, piece).ok(),
+            store,
+            spent: piece,
         }
     }
 }

@@ -8,7 +8,7 @@ returns-in-Ok-clause-fewer g c = λ runs.
     fewer_handed (view_of c.args.board.now) (view_of c.hand_in.new.self) c.args.piece.number c.hand_in.result runs c.hand_in.ensures.answer
     c.hand_in.ensures.made
 
-pub returns-in-Err-clause-fewer : goal.returns-in-Err-clause-fewer
-returns-in-Err-clause-fewer g c = λ runs.
+pub returns-clause-fewer : goal.returns-clause-fewer
+returns-clause-fewer g c = λ runs.
     fewer_ended (view_of c.args.board.now) (view_of c.fail.new.self) c.args.piece.number c.fail.result runs c.fail.ensures.answer
     c.fail.ensures.failed
