@@ -20,7 +20,6 @@ abbrev pub AreAnswers : Sources → List ℕ → List ℕ → Result (Unit {0}) 
 AreAnswers sources script text (Ok _) = Ran (readings_in sources script) [] text
 AreAnswers sources script text (Err _) = (n : ℕ) × Ran (take n (readings_in sources script)) [] text
 
--- a run by `deferral::run`, of whose options the answers show none: `order` says in which order work is done that was
--- put off, the others have no effect yet
+-- a run by `script::run`, over whatever runner the options choose: the answers show none of them
 abbrev pub AnswersRun : Sources → List ℕ → Options → Made → Type 0
 AnswersRun sources script options run = AreAnswers sources script run.appended run.ended

@@ -6,6 +6,7 @@ ghost use Rattle.gbrun.specs.declared.options.Options.{Options as Chosen};
 
 use crate::options::Options;
 use model::NoMemory;
+use runner::Runner;
 use script::Sources;
 use std::alloc::Global;
 
@@ -17,13 +18,14 @@ pub trait Evaluation {
     // Whether a run of a script with these files and options may be this one.
     ghost admits: { (List ℕ → Option (List ℕ)) → List ℕ → Chosen → Made → Type 0 };
 
-    /// Runs a script with these files, as the options say, and appends its answers to none.
-    fn run<S: Sources>(
+    /// Runs a script with these files over a runner that was chosen by the options, and appends its answers to none.
+    fn run<S: Sources, R: Runner>(
         &mut self,
         alloc: Global,
         script: &[u8],
         sources: &S,
         options: Options<'_>,
+        runner: &mut R,
     ) -> Result<(), NoMemory>
         requires { made self.old ≡ None }
         ensures { IsMade (admits (S.held sources.now) script.now options.entry) result (made self.new) };
@@ -33,9 +35,8 @@ pub trait Evaluation {
         ensures { IfSome (made self.now) (λ run. result.now ≡ run.appended) };
 }
 
-/// The run that `deferral::run` makes. Where memory ran out, its contract and that of `deferral::run` say no more of
-/// the text than that it answers some first lines. The option `order` says in which order the work is done that was
-/// put off, which the answers don't show; `workers` and `rows` have no effect yet.
+/// The run that `script::run` makes. Where memory ran out, its contract and that of `script::run` say no more of the text
+/// than that it answers some first lines. The answers show neither the options nor the runner.
 #[derive(Drop)]
 pub struct Answers {
     pub text: Vec<u8>,
@@ -60,15 +61,16 @@ impl Evaluation for Answers {
 
     ghost admits = { AnswersRun };
 
-    fn run<S: Sources>(
+    fn run<S: Sources, R: Runner>(
         &mut self,
         alloc: Global,
         script: &[u8],
         sources: &S,
-        options: Options<'_>,
+        _options: Options<'_>,
+        runner: &mut R,
     ) -> Result<(), NoMemory> {
         self.text.clear();
-        let ended = deferral::run(alloc, script, sources, options.order, &mut self.text);
+        let ended = script::run(alloc, script, sources, runner, &mut self.text);
         self.ended = Some(ended);
         ended
     }

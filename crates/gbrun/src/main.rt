@@ -11,6 +11,7 @@ mod options;
 mod order;
 mod pages;
 mod program;
+mod running;
 mod words;
 
 use fault::Fault;
@@ -23,6 +24,7 @@ fn main(rt: HostRuntime) -> ExitCode {
     let (mut input, mut out, mut err) = (rt.stdin(), rt.stdout(), rt.stderr());
     let status = match words::of_process(alloc, &rt) {
         Ok(words) => program::execute(
+            rt,
             alloc,
             words.as_slice(),
             &mut input,

@@ -25,8 +25,8 @@ pub enum Request<'a> {
     Run(Options<'a>),
 }
 
-/// How to run a script. No answer shows which options were chosen. `workers` and `rows` have no effect yet: all work
-/// is done on the thread that reads the script.
+/// How to run a script. No answer shows which options were chosen. `rows` has no effect yet: one thread does the whole
+/// of a call.
 #[derive(Clone, Copy, Debug, PartialEq, Eq)]
 pub struct Options<'a> {
     /// How many threads work beside the one that reads the script.

@@ -15,17 +15,21 @@ use crate::files::FileSource;
 use crate::loaded::Loaded;
 use crate::options;
 use crate::options::{Options, Request};
+use crate::running::run_as_chosen;
 use model::NoMemory;
 use std::alloc::Global;
 use std::io::{Read, Write};
+use std::sync::Wait;
+use std::thread::Threads;
 
 /// Runs the program on the words after its name, and gives its exit status. What stops it is told
-/// in a line on `err`.
+/// in a line on `err`. Threads that work beside this one are started by `rt`.
 ///
 /// The contract: there is an end, Ok or a fault, that these words, this script, a run of it and what `out`
 /// holds admit (`Ends`); the status is that end's, and `err` gets its line, or a beginning of it, and
 /// nothing else. Where the words name a script, `input` isn't read.
-pub fn execute<R: Read, F: FileSource, W: Write, E: Write>(
+pub fn execute<H, R, F, W, E>(
+    rt: H,
     alloc: Global,
     words: &[Vec<u8>],
     input: &mut R,
@@ -33,6 +37,12 @@ pub fn execute<R: Read, F: FileSource, W: Write, E: Write>(
     out: &mut W,
     err: &mut E,
 ) -> u8
+where
+    H: Wait + Threads + Clone + Drop + Send + 'static,
+    R: Read,
+    F: FileSource,
+    W: Write,
+    E: Write,
     ensures ends { (made : Option Made) × (end : Result (Unit {0}) Fault) × (result ≡ status_after end)
         × Ends AnswersRun (map (λ word. word.items) words.now)
         (given_in (F.content files.now) (F.readable files.now) (R.remaining input.old)
@@ -42,12 +52,13 @@ pub fn execute<R: Read, F: FileSource, W: Write, E: Write>(
     ensures unread { NamesScript (map (λ word. word.items) words.now) → input.new ≡ input.old }
 {
     let mut run = Answers::new(alloc);
-    execute_by(alloc, words, input, files, &mut run, out, err)
+    execute_by(rt, alloc, words, input, files, &mut run, out, err)
 }
 
 /// The same by a run of any kind. What output gains is what the run appended that was made, and nothing where none
 /// was.
-pub fn execute_by<R: Read, F: FileSource, X: Evaluation, W: Write, E: Write>(
+pub fn execute_by<H, R, F, X, W, E>(
+    rt: H,
     alloc: Global,
     words: &[Vec<u8>],
     input: &mut R,
@@ -56,6 +67,13 @@ pub fn execute_by<R: Read, F: FileSource, X: Evaluation, W: Write, E: Write>(
     out: &mut W,
     err: &mut E,
 ) -> u8
+where
+    H: Wait + Threads + Clone + Drop + Send + 'static,
+    R: Read,
+    F: FileSource,
+    X: Evaluation,
+    W: Write,
+    E: Write,
     requires { X.made run.old ≡ None }
     ensures ends { (end : Result (Unit {0}) Fault) × (result ≡ status_after end)
         × Ends X.admits (map (λ word. word.items) words.now)
@@ -65,14 +83,15 @@ pub fn execute_by<R: Read, F: FileSource, X: Evaluation, W: Write, E: Write>(
         × Tells end (E.contents err.old) (E.contents err.new) }
     ensures unread { NamesScript (map (λ word. word.items) words.now) → input.new ≡ input.old }
 {
-    match serve(alloc, words, input, files, run, out) {
+    match serve(&rt, alloc, words, input, files, run, out) {
         Ok(()) => 0,
         Err(fault) => fault.report(err),
     }
 }
 
 /// Does what the words after the program's name ask for.
-pub fn serve<R: Read, F: FileSource, X: Evaluation, W: Write>(
+pub fn serve<H, R, F, X, W>(
+    rt: &H,
     alloc: Global,
     words: &[Vec<u8>],
     input: &mut R,
@@ -80,6 +99,12 @@ pub fn serve<R: Read, F: FileSource, X: Evaluation, W: Write>(
     run: &mut X,
     out: &mut W,
 ) -> Result<(), Fault>
+where
+    H: Wait + Threads + Clone + Drop + Send + 'static,
+    R: Read,
+    F: FileSource,
+    X: Evaluation,
+    W: Write,
     requires { X.made run.old ≡ None }
     ensures ends { Ends X.admits (map (λ word. word.items) words.now)
         (given_in (F.content files.now) (F.readable files.now) (R.remaining input.old)
@@ -90,7 +115,7 @@ pub fn serve<R: Read, F: FileSource, X: Evaluation, W: Write>(
     let texts = options::texts(alloc, words)?;
     match options::parse(alloc, texts.as_slice())? {
         Request::Print(text) => print(out, text.as_bytes()),
-        Request::Run(options) => run_script(alloc, options, input, files, run, out),
+        Request::Run(options) => run_script(rt, alloc, options, input, files, run, out),
     }
 }
 
@@ -101,7 +126,8 @@ fn print<W: Write>(out: &mut W, text: &[u8]) -> Result<(), Fault>
     deliver(out, text).map_err(|_| Fault::UnwritableOutput)
 }
 
-fn run_script<R: Read, F: FileSource, X: Evaluation, W: Write>(
+fn run_script<H, R, F, X, W>(
+    rt: &H,
     alloc: Global,
     options: Options<'_>,
     input: &mut R,
@@ -109,6 +135,12 @@ fn run_script<R: Read, F: FileSource, X: Evaluation, W: Write>(
     run: &mut X,
     out: &mut W,
 ) -> Result<(), Fault>
+where
+    H: Wait + Threads + Clone + Drop + Send + 'static,
+    R: Read,
+    F: FileSource,
+    X: Evaluation,
+    W: Write,
     requires { X.made run.old ≡ None }
     ensures ends { RunEnds X.admits (λ chosen. chosen ≡ options.entry) (record {
       content = F.content files.now;
@@ -121,7 +153,7 @@ fn run_script<R: Read, F: FileSource, X: Evaluation, W: Write>(
 {
     let script = read_script(alloc, options.script, input, files)?;
     let loaded = Loaded::read(alloc, script.as_slice(), files)?;
-    let ended = run.run(alloc, script.as_slice(), &loaded, options);
+    let ended = run_as_chosen(rt, alloc, script.as_slice(), &loaded, options, run)?;
     finish(out, run.answers(), ended)
 }
 

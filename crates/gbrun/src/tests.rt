@@ -7,10 +7,12 @@ use crate::program::{execute, execute_by};
 use crate::words::of_process;
 use fakes::{Input, NoFiles, Output, Shelf};
 use model::NoMemory;
-use runner::AtOnce;
+use runner::{AtOnce, Runner};
 use script::Sources;
 use std::alloc::{AllocError, Global};
 use std::env::{Env, FillError};
+use std::sync::Wait;
+use std::thread::Threads;
 
 const STORED: &str =
     "matrix A INT64 1 2\nmatrix B INT64 2 1\nmatrix C INT64 1 1\nset A 0 0 1\nset A 0 1 1\nset B 0 0 5\n\
@@ -61,15 +63,17 @@ fn words_of(alloc: Global, line: &str) -> Result<Vec<Vec<u8>>, AllocError> {
 }
 
 // Runs a line of words over an input, into these outputs.
-fn run_into(
-    alloc: Global,
+fn run_into<H: Wait + Threads + Clone + Drop + Send + AllocGlobal + 'static>(
+    rt: &H,
     line: &str,
     mut input: Input<'_>,
     mut out: Output,
     mut err: Output,
 ) -> Result<Outcome, AllocError> {
+    let alloc = rt.alloc();
     let words = words_of(alloc, line)?;
     let status = execute(
+        rt.clone()?,
         alloc,
         words.as_slice(),
         &mut input,
@@ -80,9 +84,13 @@ fn run_into(
     Ok(Outcome { status, out, err })
 }
 
-fn run(alloc: Global, line: &str, text: &str) -> Result<Outcome, AllocError> {
-    let (out, err) = (Output::new(alloc), Output::new(alloc));
-    run_into(alloc, line, Input::new(text), out, err)
+fn run<H: Wait + Threads + Clone + Drop + Send + AllocGlobal + 'static>(
+    rt: &H,
+    line: &str,
+    text: &str,
+) -> Result<Outcome, AllocError> {
+    let (out, err) = (Output::new(rt.alloc()), Output::new(rt.alloc()));
+    run_into(rt, line, Input::new(text), out, err)
 }
 
 fn answers(alloc: Global, text: &str) -> Result<Vec<u8>, AllocError> {
@@ -106,20 +114,25 @@ fn runs_the_script_of_each_source(rt: HostRuntime) -> Result<(), AllocError> {
         ("-- stored", ""),
     ];
     for (line, text) in cases {
-        let outcome = run(alloc, line, text)?;
+        let outcome = run(&rt, line, text)?;
         assert!(rt; outcome.is(0, stored.as_slice(), ""), "at {line:?}");
         assert!(rt; outcome.out.is_flushed, "at {line:?}");
     }
-    let empty = run(alloc, "", "")?;
+    let empty = run(&rt, "", "")?;
     assert!(rt; empty.is(0, b"", ""));
     Ok(())
 }
 
 // Whether a script is answered in an order as by a runner that puts nothing off.
-fn is_answered_in(alloc: Global, text: &str, order: &str) -> Result<bool, AllocError> {
+fn is_answered_in<H: Wait + Threads + Clone + Drop + Send + AllocGlobal + 'static>(
+    rt: &H,
+    text: &str,
+    order: &str,
+) -> Result<bool, AllocError> {
+    let alloc = rt.alloc();
     let wanted = answers(alloc, text)?;
     let line = format!(in alloc; "--order {order}")?;
-    let outcome = run(alloc, line.as_str(), text)?;
+    let outcome = run(rt, line.as_str(), text)?;
     Ok(outcome.is(0, wanted.as_slice(), ""))
 }
 
@@ -127,8 +140,8 @@ fn is_answered_in(alloc: Global, text: &str, order: &str) -> Result<bool, AllocE
 fn answers_the_same_in_each_order(rt: HostRuntime) -> Result<(), AllocError> {
     let alloc = rt.alloc();
     for order in ["first", "last", "seed:1", "seed:18446744073709551615"] {
-        assert!(rt; is_answered_in(alloc, STORED, order)?, "at {order:?}");
-        assert!(rt; is_answered_in(alloc, WAITING, order)?, "at {order:?}");
+        assert!(rt; is_answered_in(&rt, STORED, order)?, "at {order:?}");
+        assert!(rt; is_answered_in(&rt, WAITING, order)?, "at {order:?}");
     }
     Ok(())
 }
@@ -138,14 +151,14 @@ fn reads_the_files_that_loads_name(rt: HostRuntime) -> Result<(), AllocError> {
     let script = "load A INT64 one.mtx\nload B INT64 two.mtx\nload C INT64\nload D BOOL one.mtx\n\
         get A 0 1\nget D 0 1\n";
     let wanted = "1 OK\n2 NO_FILE\n3 SYNTAX\n4 OK\n5 OK\n-7\n6 OK\n1\n";
-    let outcome = run(rt.alloc(), "", script)?;
+    let outcome = run(&rt, "", script)?;
     assert!(rt; outcome.is(0, wanted.as_bytes(), ""));
     Ok(())
 }
 
 #[test]
 fn tells_want_of_memory_for_a_file(rt: HostRuntime) -> Result<(), AllocError> {
-    let outcome = run(rt.alloc(), "", "load A INT64 great.mtx\n")?;
+    let outcome = run(&rt, "", "load A INT64 great.mtx\n")?;
     assert!(rt; outcome.is(1, b"", NO_MEMORY));
     Ok(())
 }
@@ -167,7 +180,7 @@ fn takes_a_right_command_line(rt: HostRuntime) -> Result<(), AllocError> {
         "--order=seed:5 --rows=7 --workers=3",
     ];
     for line in right {
-        let outcome = run(alloc, line, "")?;
+        let outcome = run(&rt, line, "")?;
         assert!(rt; outcome.is(0, b"", ""), "at {line:?}");
     }
     Ok(())
@@ -193,7 +206,7 @@ fn tells_a_wrong_command_line(rt: HostRuntime) -> Result<(), AllocError> {
         "--order",
     ];
     for line in wrong {
-        let outcome = run(alloc, line, STORED)?;
+        let outcome = run(&rt, line, STORED)?;
         assert!(rt; outcome.status == 2, "at {line:?}");
         assert!(rt; outcome.out.bytes.is_empty(), "at {line:?}");
         assert!(rt; outcome.err_starts_with("error: "), "at {line:?}");
@@ -222,10 +235,10 @@ fn tells_a_bad_order(rt: HostRuntime) -> Result<(), AllocError> {
     ];
     for order in orders {
         let line = format!(in alloc; "--order {order} missing")?;
-        let outcome = run(alloc, line.as_str(), STORED)?;
+        let outcome = run(&rt, line.as_str(), STORED)?;
         assert!(rt; outcome.is(2, b"", BAD_ORDER), "at {order:?}");
     }
-    let empty = run(alloc, "--order=", STORED)?;
+    let empty = run(&rt, "--order=", STORED)?;
     assert!(rt; empty.is(2, b"", BAD_ORDER));
     Ok(())
 }
@@ -234,7 +247,7 @@ fn tells_a_bad_order(rt: HostRuntime) -> Result<(), AllocError> {
 fn prints_help(rt: HostRuntime) -> Result<(), AllocError> {
     let alloc = rt.alloc();
     for line in ["--help", "-h", "--order bad --help", "missing -h"] {
-        let outcome = run(alloc, line, STORED)?;
+        let outcome = run(&rt, line, STORED)?;
         let text = outcome.out.bytes.as_slice();
         assert!(rt;
             outcome.status == 0 && outcome.err.bytes.is_empty(),
@@ -251,7 +264,7 @@ fn prints_help(rt: HostRuntime) -> Result<(), AllocError> {
     }
     let mut closed = Output::new(alloc);
     closed.fails_at = Some(0);
-    let untold = run_into(alloc, "-h", Input::new(""), closed, Output::new(alloc))?;
+    let untold = run_into(&rt, "-h", Input::new(""), closed, Output::new(alloc))?;
     assert!(rt; untold.is(1, b"", NO_OUTPUT));
     Ok(())
 }
@@ -260,7 +273,7 @@ fn prints_help(rt: HostRuntime) -> Result<(), AllocError> {
 fn prints_the_version(rt: HostRuntime) -> Result<(), AllocError> {
     let alloc = rt.alloc();
     for line in ["--version", "-V", "--rows 2 --version missing"] {
-        let outcome = run(alloc, line, STORED)?;
+        let outcome = run(&rt, line, STORED)?;
         assert!(rt; outcome.is(0, b"gbrun 0.1.0\n", ""), "at {line:?}");
         assert!(rt; outcome.out.is_flushed, "at {line:?}");
     }
@@ -281,12 +294,13 @@ impl Evaluation for CutOff<'_> {
 
     ghost admits = { λ _ _ _ _. Unit {0} };
 
-    fn run<S: Sources>(
+    fn run<S: Sources, R: Runner>(
         &mut self,
         _alloc: Global,
         _script: &[u8],
         _sources: &S,
         _options: Options<'_>,
+        _runner: &mut R,
     ) -> Result<(), NoMemory> {
         let ended = Err(NoMemory);
         self.ended = Some(ended);
@@ -298,7 +312,11 @@ impl Evaluation for CutOff<'_> {
     }
 }
 
-fn run_cut_off(alloc: Global, mut out: Output) -> Outcome {
+fn run_cut_off<H: Wait + Threads + Clone + Drop + Send + AllocGlobal + 'static>(
+    rt: &H,
+    mut out: Output,
+) -> Result<Outcome, AllocError> {
+    let alloc = rt.alloc();
     let mut err = Output::new(alloc);
     let mut run = CutOff {
         answers: b"1 OK\n",
@@ -306,6 +324,7 @@ fn run_cut_off(alloc: Global, mut out: Output) -> Outcome {
     };
     let input = &mut Input::new(STORED);
     let status = execute_by(
+        rt.clone()?,
         alloc,
         &[],
         input,
@@ -314,17 +333,20 @@ fn run_cut_off(alloc: Global, mut out: Output) -> Outcome {
         &mut out,
         &mut err,
     );
-    Outcome { status, out, err }
+    Ok(Outcome { status, out, err })
 }
 
 #[test]
-fn delivers_the_answers_that_were_whole_when_memory_ran_out(rt: HostRuntime) {
+fn delivers_the_answers_that_were_whole_when_memory_ran_out(
+    rt: HostRuntime,
+) -> Result<(), AllocError> {
     let alloc = rt.alloc();
-    let outcome = run_cut_off(alloc, Output::new(alloc));
+    let outcome = run_cut_off(&rt, Output::new(alloc))?;
     assert!(rt; outcome.is(1, b"1 OK\n", NO_MEMORY) && outcome.out.is_flushed);
     let mut closed = Output::new(alloc);
     closed.fails_at = Some(0);
-    assert!(rt; run_cut_off(alloc, closed).is(1, b"", NO_MEMORY));
+    assert!(rt; run_cut_off(&rt, closed)?.is(1, b"", NO_MEMORY));
+    Ok(())
 }
 
 #[test]
@@ -337,14 +359,14 @@ fn tells_an_unreadable_script(rt: HostRuntime) -> Result<(), AllocError> {
             fails_at: Some(step),
         };
         let (out, err) = (Output::new(alloc), Output::new(alloc));
-        let outcome = run_into(alloc, "", failing, out, err)?;
+        let outcome = run_into(&rt, "", failing, out, err)?;
         assert!(rt; outcome.is(1, b"", NO_SCRIPT), "at {step}");
     }
-    let missing = run(alloc, "missing", STORED)?;
+    let missing = run(&rt, "missing", STORED)?;
     assert!(rt; missing.is(1, b"", NO_SCRIPT));
     let mut closed = Output::new(alloc);
     closed.fails_at = Some(0);
-    let first = run_into(alloc, "missing", Input::new(""), closed, Output::new(alloc))?;
+    let first = run_into(&rt, "missing", Input::new(""), closed, Output::new(alloc))?;
     assert!(rt; first.is(1, b"", NO_SCRIPT));
     Ok(())
 }
@@ -357,24 +379,24 @@ fn tells_an_output_that_fails(rt: HostRuntime) -> Result<(), AllocError> {
         let mut out = Output::new(alloc);
         out.most = 2;
         out.fails_at = Some(step);
-        let outcome = run_into(alloc, "", Input::new(STORED), out, Output::new(alloc))?;
+        let outcome = run_into(&rt, "", Input::new(STORED), out, Output::new(alloc))?;
         let taken = 2 * step as usize;
         let kept = stored.as_slice().get(..taken).expect(&rt, "long answers");
         assert!(rt; outcome.is(1, kept, NO_OUTPUT), "at {step}");
     }
     let mut unflushed = Output::new(alloc);
     unflushed.flush_fails = true;
-    let outcome = run_into(alloc, "", Input::new(STORED), unflushed, Output::new(alloc))?;
+    let outcome = run_into(&rt, "", Input::new(STORED), unflushed, Output::new(alloc))?;
     assert!(rt; outcome.is(1, stored.as_slice(), NO_OUTPUT));
     let mut full = Output::new(alloc);
     full.most = 0;
-    let outcome = run_into(alloc, "stored", Input::new(""), full, Output::new(alloc))?;
+    let outcome = run_into(&rt, "stored", Input::new(""), full, Output::new(alloc))?;
     assert!(rt; outcome.is(1, b"", NO_OUTPUT));
     let (mut slow, mut slow_err) = (Output::new(alloc), Output::new(alloc));
     slow.most = 1;
     slow.is_interrupted = true;
     slow_err.most = 1;
-    let outcome = run_into(alloc, "stored", Input::new(""), slow, slow_err)?;
+    let outcome = run_into(&rt, "stored", Input::new(""), slow, slow_err)?;
     assert!(rt; outcome.is(0, stored.as_slice(), ""));
     Ok(())
 }
@@ -386,14 +408,14 @@ fn keeps_the_status_where_err_fails(rt: HostRuntime) -> Result<(), AllocError> {
         let (mut closed, mut unflushed) = (Output::new(alloc), Output::new(alloc));
         closed.fails_at = Some(0);
         unflushed.flush_fails = true;
-        let outcome = run_into(alloc, line, Input::new(""), Output::new(alloc), closed)?;
+        let outcome = run_into(&rt, line, Input::new(""), Output::new(alloc), closed)?;
         assert!(rt; outcome.is(status, b"", ""), "at {line:?}");
-        let outcome = run_into(alloc, line, Input::new(""), Output::new(alloc), unflushed)?;
+        let outcome = run_into(&rt, line, Input::new(""), Output::new(alloc), unflushed)?;
         assert!(rt; outcome.status == status, "at {line:?}");
     }
     let mut slow = Output::new(alloc);
     slow.most = 1;
-    let outcome = run_into(alloc, "missing", Input::new(""), Output::new(alloc), slow)?;
+    let outcome = run_into(&rt, "missing", Input::new(""), Output::new(alloc), slow)?;
     assert!(rt; outcome.is(1, b"", NO_SCRIPT));
     Ok(())
 }
@@ -437,6 +459,7 @@ fn refuses_words_that_are_no_text(rt: HostRuntime) -> Result<(), AllocError> {
     assert!(rt; words.first().is_some_and(|word| word.len() == LONG));
     let (mut out, mut err) = (Output::new(alloc), Output::new(alloc));
     let status = execute(
+        rt.clone()?,
         alloc,
         words.as_slice(),
         &mut Input::new(STORED),
