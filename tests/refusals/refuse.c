@@ -1,13 +1,16 @@
 /* Refuses one request for memory of a program that it is loaded into (LD_PRELOAD): the one whose number $REFUSE_AT
- * gives. When the program ends it writes how many there were into the file $REFUSE_COUNT. */
+ * gives; and to start the thread whose number $REFUSE_THREAD gives. When the program ends it writes how many requests
+ * there were into the file $REFUSE_COUNT. */
 #define _GNU_SOURCE
 #include <dlfcn.h>
 #include <errno.h>
+#include <pthread.h>
 #include <stddef.h>
 #include <stdio.h>
 #include <stdlib.h>
 
 static long asked, refused = -1;
+static long started, unstarted = -1;
 
 static void *(*real_malloc)(size_t);
 static void *(*real_realloc)(void *, size_t);
@@ -23,6 +26,8 @@ __attribute__((constructor)) static void begin(void)
     real_posix_memalign = dlsym(RTLD_NEXT, "posix_memalign");
     asked = 0;
     refused = number ? atol(number) : -1;
+    number = getenv("REFUSE_THREAD");
+    unstarted = number ? atol(number) : -1;
 }
 
 __attribute__((destructor)) static void end(void)
@@ -39,8 +44,7 @@ __attribute__((destructor)) static void end(void)
 
 static int is_refused(void)
 {
-    asked++;
-    return asked == refused;
+    return __atomic_add_fetch(&asked, 1, __ATOMIC_RELAXED) == refused;
 }
 
 void *malloc(size_t size)
@@ -65,4 +69,10 @@ void *aligned_alloc(size_t alignment, size_t size)
 int posix_memalign(void **to, size_t alignment, size_t size)
 {
     return is_refused() ? ENOMEM : real_posix_memalign(to, alignment, size);
+}
+
+int pthread_create(pthread_t *thread, const pthread_attr_t *how, void *(*start)(void *), void *with)
+{
+    int (*real)(pthread_t *, const pthread_attr_t *, void *(*)(void *), void *) = dlsym(RTLD_NEXT, "pthread_create");
+    return ++started == unstarted ? EAGAIN : real(thread, how, start, with);
 }
