@@ -3,7 +3,11 @@ ghost use Rattle.std.specs.Prelude.{◌≡◌};
 ghost use Rattle.pool.specs.Crews.{Calls};
 
 /// How much work a worker is woken for, in entries that are read: about what a thread does while another wakes.
-const SHARE: u64 = 4_096;
+pub const SHARE: u64 = 4_096;
+
+/// A task is done by another thread only where it is at least such a part of a share: to hand less over, and to have the
+/// store in the cache of another processor, takes longer than to do it.
+const PARTS: u64 = 8;
 
 /// Who of the threads of a pool sleeps.
 #[derive(Clone, Copy, Debug, PartialEq, Eq)]
@@ -18,17 +22,20 @@ pub struct Crew {
     pub awake: u64,
     /// The slot for which the calling thread sleeps.
     pub awaited: Option<u64>,
+    /// How much work a worker is woken for.
+    share: u64,
 }
 
 impl Crew {
-    /// Nobody has come yet.
-    pub fn new() -> Crew {
+    /// Nobody has come yet. A worker is woken for so much work.
+    pub fn new(share: u64) -> Crew {
         Crew {
             closing: false,
             sleeping: 0,
             called: 0,
             awake: 0,
             awaited: None,
+            share,
         }
     }
 
@@ -53,11 +60,14 @@ impl Crew {
         }
     }
 
-    /// Calls workers that sleep, where there is more work than for those that are awake. Says how many are to be woken.
-    pub fn call(&mut self, work: u64) -> u64
+    /// Calls workers that sleep for so many tasks of so much work each, where that is more than for those that are awake,
+    /// but at most one for each part of a task. Says how many are to be woken.
+    pub fn call(&mut self, tasks: u64, work: u64) -> u64
         ensures { Calls self.old self.new result }
     {
-        let count = (work / SHARE).saturating_sub(self.awake).min(self.sleeping);
+        let most = work.saturating_mul(tasks.min(PARTS));
+        let wanted = most.checked_div(self.share).unwrap_or(0);
+        let count = wanted.saturating_sub(self.awake).min(self.sleeping);
         self.sleeping -= count;
         self.called = self.called.saturating_add(count);
         self.awake = self.awake.saturating_add(count);

@@ -27,6 +27,9 @@ use std::mem;
 use std::sync::Arc;
 use store::Store;
 
+/// A store of fewer entries is dropped in less time than its share is taken and given back by another thread.
+const SOON_DROPPED: u64 = 1_024;
+
 /// A board, its epoch, who picks what is done next, and who sleeps.
 #[derive(Drop)]
 pub struct Locked<J: Naming, P: Picker + Drop> {
@@ -38,15 +41,15 @@ pub struct Locked<J: Naming, P: Picker + Drop> {
 }
 
 impl<J: Naming, P: Picker + Drop> Locked<J, P> {
-    /// An empty board.
-    pub fn new(alloc: Global, picker: P) -> Locked<J, P>
+    /// An empty board. A worker is woken for so much work.
+    pub fn new(alloc: Global, picker: P, share: u64) -> Locked<J, P>
         ensures { result.epoch ≡ 0 }
     {
         Locked {
             board: Board::new(alloc),
             epoch: 0,
             picker,
-            crew: Crew::new(),
+            crew: Crew::new(share),
         }
     }
 
@@ -222,8 +225,8 @@ impl<J: Naming, P: Picker + Drop> Locked<J, P> {
         ensures epoch { self.new.epoch ≡ self.old.epoch }
         ensures calls { Calls self.old.crew self.new.crew result }
     {
-        let count = self.board.offers().saturating_sub(but);
-        self.crew.call(count.saturating_mul(work))
+        let tasks = self.board.offers().saturating_sub(but);
+        self.crew.call(tasks, work)
     }
 
     /// Whether the calling thread is to be woken, which sleeps: its store has come, or there is a task that it can do.
@@ -245,10 +248,10 @@ impl<J: Naming, P: Picker + Drop> Locked<J, P> {
     }
 }
 
-/// A share of a slot's store, where it is there.
+/// A share of a slot's store, where it is there and takes long to drop.
 fn share_of<N: Drop>(board: &Board<N>, slot: u64) -> Option<Arc<Store>> {
-    match look(board, slot) {
-        Some(Ok(store)) => Some(store),
+    match board.look(slot) {
+        Look::Done(store) if store.nvals() >= SOON_DROPPED => Arc::try_clone(store).ok(),
         _ => None,
     }
 }

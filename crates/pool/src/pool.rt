@@ -4,6 +4,7 @@ ghost use Rattle.board.specs.Boards.{view_of};
 ghost use Rattle.board.specs.Events.{empty_view};
 ghost use Rattle.desk.specs.Desks.{object_in, told};
 
+use crate::crew::SHARE;
 use crate::gate::Gate;
 use crate::locked::Locked;
 use crate::named::Named;
@@ -57,9 +58,25 @@ where
         requires { log ≡ J.log }
         ensures { IfOk result (λ pool. pool.epoch ≡ 0) }
     {
+        Pool::with_share(rt, alloc, log, workers, gate, picker, SHARE)
+    }
+
+    /// The same, with a worker woken for so much work.
+    pub(crate) fn with_share(
+        rt: R,
+        alloc: Global,
+        log: Log,
+        workers: u64,
+        gate: G,
+        picker: P,
+        share: u64,
+    ) -> Result<Pool<J, R, G, P>, NoMemory>
+        requires { log ≡ J.log }
+        ensures { IfOk result (λ pool. pool.epoch ≡ 0) }
+    {
         let named = Arc::new(alloc, Named::new(log))?;
         let shared = Shared {
-            locked: Mutex::new(Locked::new(alloc, picker)),
+            locked: Mutex::new(Locked::new(alloc, picker, share)),
             gate,
             more: Condvar::new(),
             come: Condvar::new(),

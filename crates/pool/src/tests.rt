@@ -1,4 +1,4 @@
-//! Pools whose pieces of work are held at a gate.
+//! Pools whose pieces of work are held at a gate, and whose workers are woken for any work.
 ghost use Rattle.std.specs.Prelude.{◌≡◌, IfOk, None};
 ghost use Rattle.calls.specs.Recipes.{known_by};
 ghost use Rattle.calls.specs.declared.role.Role.{Role as AnyRole};
@@ -22,7 +22,7 @@ use std::time::{Clock, Duration};
 /// How often a piece that is held looks again, and then gives up.
 const TURNS: u64 = 10_000;
 
-/// How many tasks there are: so many that workers are called for them.
+/// How many tasks there are.
 const TASKS: u64 = 200;
 
 /// How many workers there are.
@@ -194,13 +194,14 @@ where
     R: Wait + Threads + Clock + Clone + Drop + Send + Sync + 'static,
     requires { log ≡ J.log }
 {
-    let mut pool = Pool::<J, R, Holding<R>, Order>::new(
+    let mut pool = Pool::<J, R, Holding<R>, Order>::with_share(
         rt.clone()?,
         alloc,
         log,
         WORKERS,
         gate,
         Order::First,
+        1,
     ).map_err(|_| AllocError)?;
     let passed = match trial {
         Trial::Fetch => is_fetched(alloc, &mut pool, signs)?,
