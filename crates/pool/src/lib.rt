@@ -5,6 +5,7 @@ mod crew;
 mod gate;
 mod locked;
 mod named;
+mod pages;
 mod pool;
 mod serving;
 mod shared;
@@ -14,4 +15,5 @@ mod weights;
 mod work;
 
 pub use gate::{Gate, Open};
+pub use pages::keep_pages;
 pub use pool::Pool;
