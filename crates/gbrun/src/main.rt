@@ -9,6 +9,7 @@ mod files;
 mod loaded;
 mod options;
 mod order;
+mod pages;
 mod program;
 mod running;
 mod words;
@@ -19,7 +20,7 @@ use std::process::ExitCode;
 
 fn main(rt: HostRuntime) -> ExitCode {
     let alloc = rt.alloc();
-    pool::keep_pages(alloc);
+    pages::keep_pages(alloc);
     let (mut input, mut out, mut err) = (rt.stdin(), rt.stdout(), rt.stderr());
     let status = match words::of_process(alloc, &rt) {
         Ok(words) => program::execute(

@@ -5,7 +5,6 @@ mod crew;
 mod gate;
 mod locked;
 mod named;
-mod pages;
 mod pool;
 mod serving;
 mod shared;
@@ -15,5 +14,4 @@ mod weights;
 mod work;
 
 pub use gate::{Gate, Open};
-pub use pages::keep_pages;
 pub use pool::Pool;

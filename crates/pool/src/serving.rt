@@ -7,7 +7,6 @@ ghost use Rattle.runner.specs.Tickets.{IsStoreFor};
 use crate::gate::Gate;
 use crate::locked::Locked;
 use crate::named::Named;
-use crate::pages::keep_pages;
 use crate::shared::Shared;
 use crate::work::{Finished, Work};
 use board::Piece;
@@ -32,7 +31,6 @@ pub fn serve<J: Naming, R: Wait, G: Gate + Drop, P: Picker + Drop>(
     named: &Named<J>,
     shared: &Shared<J, G, P>,
 ) {
-    keep_pages(alloc);
     shared.locked.lock(rt).crew.begin();
     let mut last = None;
     for _ in rt.forever() {

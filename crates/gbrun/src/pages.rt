@@ -1,4 +1,4 @@
-//! The memory that threads keep for themselves.
+//! The memory that the process keeps for itself.
 use std::alloc::{AllocError, Global};
 
 /// Blocks of at most so many bytes keep their pages when they are freed.
@@ -6,9 +6,7 @@ const KEPT: usize = 16 << 20;
 
 /// Has the C library keep the pages of freed blocks for the blocks to come. A block that is large has its pages from
 /// the kernel, afresh and cleared one by one, and glibc takes each for large that is larger than the largest that
-/// was freed, from 128 KiB on. So the first thread frees a block before all else. Each other thread does so too, since
-/// it has memory of its own, which else grows by calls of the kernel, block by block. Without memory for it nothing is
-/// lost but time.
+/// was freed, from 128 KiB on. So a block is freed before all else. Without memory for it nothing is lost but time.
 pub fn keep_pages(alloc: Global) {
     let _ = block(alloc);
 }
