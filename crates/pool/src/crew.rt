@@ -1,6 +1,6 @@
 //! Which threads sleep, and how many are woken.
-ghost use Rattle.std.specs.Prelude.{◌≡◌};
-ghost use Rattle.pool.specs.Crews.{Calls};
+ghost use Rattle.std.specs.Prelude.{◌≡◌, false, None};
+ghost use Rattle.pool.specs.Crews.{Calls, Rises, Sleeps};
 
 /// How much work a worker is woken for, in entries that are read: about what a thread does while another wakes.
 pub const SHARE: u64 = 4_096;
@@ -28,7 +28,12 @@ pub struct Crew {
 
 impl Crew {
     /// Nobody has come yet. A worker is woken for so much work.
-    pub fn new(share: u64) -> Crew {
+    pub fn new(share: u64) -> Crew
+        ensures sleeping { result.sleeping ≡ 0 }
+        ensures called { result.called ≡ 0 }
+        ensures closing { result.closing ≡ false }
+        ensures awaited { result.awaited ≡ None }
+    {
         Crew {
             closing: false,
             sleeping: 0,
@@ -40,18 +45,27 @@ impl Crew {
     }
 
     /// A worker begins.
-    pub fn begin(&mut self) {
+    pub fn begin(&mut self)
+        ensures sleeping { self.new.sleeping ≡ self.old.sleeping }
+        ensures called { self.new.called ≡ self.old.called }
+        ensures closing { self.new.closing ≡ self.old.closing }
+        ensures awaited { self.new.awaited ≡ self.old.awaited }
+    {
         self.awake = self.awake.saturating_add(1);
     }
 
     /// A worker goes to sleep.
-    pub fn sleep(&mut self) {
+    pub fn sleep(&mut self)
+        ensures { Sleeps self.old self.new }
+    {
         self.awake = self.awake.saturating_sub(1);
         self.sleeping = self.sleeping.saturating_add(1);
     }
 
     /// A worker rises: one that was called, where there is one; else by itself.
-    pub fn rise(&mut self) {
+    pub fn rise(&mut self)
+        ensures { Rises self.old self.new }
+    {
         if self.called > 0 {
             self.called -= 1;
         } else {
