@@ -35,8 +35,8 @@ pub trait Evaluation {
         ensures { IfSome (made self.now) (λ run. result.now ≡ run.appended) };
 }
 
-/// The run that `script::run` makes. Where memory ran out, its contract and that of `script::run` say no more of the text
-/// than that it answers some first lines. The answers show neither the options nor the runner.
+/// The run that `script::run` makes. Where memory ran out, its contract and that of `script::run` say no more of the
+/// text than that it answers some first lines. The answers show neither the options nor the runner.
 #[derive(Drop)]
 pub struct Answers {
     pub text: Vec<u8>,

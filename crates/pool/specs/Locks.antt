@@ -18,4 +18,5 @@ finished_on epoch v ticket store = if is_on told epoch v ticket then ended v tic
 
 -- one hold more of a ticket's slot, if it is on the board
 abbrev pub held_on : ℕ → View Told → Ticket Told → View Told
-held_on epoch v ticket = if is_on told epoch v ticket then with_holds v ticket.slot (slice_index v.holds ticket.slot + 1) else v
+held_on epoch v ticket =
+    if is_on told epoch v ticket then with_holds v ticket.slot (slice_index v.holds ticket.slot + 1) else v

@@ -5,8 +5,8 @@ ghost use Rattle.pool.specs.Crews.{Calls, Rises, Sleeps};
 /// How much work a worker is woken for, in entries that are read: about what a thread does while another wakes.
 pub const SHARE: u64 = 4_096;
 
-/// A task is done by another thread only where it is at least such a part of a share: to hand less over, and to have the
-/// store in the cache of another processor, takes longer than to do it.
+/// A task is done by another thread only where it is at least such a part of a share: to hand less over, and to have
+/// the store in the cache of another processor, takes longer than to do it.
 const PARTS: u64 = 8;
 
 /// Who of the threads of a pool sleeps.
@@ -74,8 +74,8 @@ impl Crew {
         }
     }
 
-    /// Calls workers that sleep for so many tasks of so much work each, where that is more than for those that are awake,
-    /// but at most one for each part of a task. Says how many are to be woken.
+    /// Calls workers that sleep for so many tasks of so much work each, where that is more than for those that are
+    /// awake, but at most one for each part of a task. Says how many are to be woken.
     pub fn call(&mut self, tasks: u64, work: u64) -> u64
         ensures { Calls self.old self.new result }
     {

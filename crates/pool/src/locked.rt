@@ -134,7 +134,8 @@ impl<J: Naming, P: Picker + Drop> Locked<J, P> {
     /// One hold more of a ticket's slot, where it is on the board.
     pub fn hold(&mut self, log: &Log, ticket: &Ticket<Note<J>>) -> Result<(), NoMemory>
         requires log { log.now ≡ J.log }
-        ensures board { OnOk result (view_of self.new.board ≡ held_on self.old.epoch (view_of self.old.board) ticket.now) }
+        ensures board { OnOk result (view_of self.new.board
+            ≡ held_on self.old.epoch (view_of self.old.board) ticket.now) }
         ensures refused { OnErr result (view_of self.new.board ≡ view_of self.old.board) }
         ensures epoch { self.new.epoch ≡ self.old.epoch }
         ensures crew { self.new.crew ≡ self.old.crew }
