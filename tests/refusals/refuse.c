@@ -8,6 +8,7 @@
 #include <stddef.h>
 #include <stdio.h>
 #include <stdlib.h>
+#include <unistd.h>
 
 static long asked, refused = -1;
 static long started, unstarted = -1;
@@ -30,7 +31,7 @@ __attribute__((constructor)) static void begin(void)
     unstarted = number ? atol(number) : -1;
 }
 
-__attribute__((destructor)) static void end(void)
+static void end(void)
 {
     const char *name = getenv("REFUSE_COUNT");
     long count = asked;
@@ -75,4 +76,12 @@ int pthread_create(pthread_t *thread, const pthread_attr_t *how, void *(*start)(
 {
     int (*real)(pthread_t *, const pthread_attr_t *, void *(*)(void *), void *) = dlsym(RTLD_NEXT, "pthread_create");
     return ++started == unstarted ? EAGAIN : real(thread, how, start, with);
+}
+
+void _exit(int status)
+{
+    void (*real)(int) = dlsym(RTLD_NEXT, "_exit");
+    end();
+    real(status);
+    __builtin_unreachable();
 }
