@@ -1,5 +1,5 @@
 //! Which threads sleep, and how many are woken.
-ghost use Rattle.std.specs.Prelude.{◌≡◌, false, None};
+ghost use Rattle.std.specs.Prelude.{◌≡◌, ◌<◌, ◌↔◌, IsTrue, false, None};
 ghost use Rattle.pool.specs.Crews.{Calls, Rises, Sleeps};
 
 /// How much work a worker is woken for, in entries that are read: about what a thread does while another wakes.
@@ -24,11 +24,13 @@ pub struct Crew {
     pub awaited: Option<u64>,
     /// How much work a worker is woken for.
     share: u64,
+    /// How many threads can be at work at one time.
+    processors: u64,
 }
 
 impl Crew {
-    /// Nobody has come yet. A worker is woken for so much work.
-    pub fn new(share: u64) -> Crew
+    /// Nobody has come yet. A worker is woken for so much work, and so many threads can be at work at one time.
+    pub fn new(share: u64, processors: u64) -> Crew
         ensures sleeping { result.sleeping ≡ 0 }
         ensures called { result.called ≡ 0 }
         ensures closing { result.closing ≡ false }
@@ -41,6 +43,7 @@ impl Crew {
             awake: 0,
             awaited: None,
             share,
+            processors,
         }
     }
 
@@ -72,6 +75,13 @@ impl Crew {
             self.sleeping = self.sleeping.saturating_sub(1);
             self.awake = self.awake.saturating_add(1);
         }
+    }
+
+    /// Whether the calling thread can be at work beside the workers that are awake.
+    pub fn has_room(&self) -> bool
+        ensures { IsTrue result ↔ self.now.awake < self.now.processors }
+    {
+        self.awake < self.processors
     }
 
     /// Calls workers that sleep for so many tasks of so much work each, where that is more than for those that are

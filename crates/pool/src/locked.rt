@@ -1,5 +1,5 @@
 //! What lies under the lock.
-ghost use Rattle.std.specs.Prelude.{◌≡◌, ◌+◌, IfOk, IfSome, None, OnErr, OnOk, [], slice_get, true};
+ghost use Rattle.std.specs.Prelude.{◌≡◌, ◌+◌, ◌<◌, IfOk, IfSome, None, OnErr, OnOk, [], slice_get, true};
 ghost use Rattle.std.specs.Arc.{arc_value};
 ghost use Rattle.std.specs.Bool.{OnTrue};
 ghost use Rattle.board.specs.Boards.{view_of};
@@ -41,15 +41,16 @@ pub struct Locked<J: Naming, P: Picker + Drop> {
 }
 
 impl<J: Naming, P: Picker + Drop> Locked<J, P> {
-    /// An empty board. A worker is woken for so much work.
-    pub fn new(alloc: Global, picker: P, share: u64) -> Locked<J, P>
-        ensures { result.epoch ≡ 0 }
+    /// An empty board, and who is to work on it.
+    pub fn new(alloc: Global, picker: P, crew: Crew) -> Locked<J, P>
+        ensures epoch { result.epoch ≡ 0 }
+        ensures crew { result.crew ≡ crew }
     {
         Locked {
             board: Board::new(alloc),
             epoch: 0,
             picker,
-            crew: Crew::new(share),
+            crew,
         }
     }
 
@@ -101,6 +102,20 @@ impl<J: Naming, P: Picker + Drop> Locked<J, P> {
             note: note.again(),
         };
         Some(Work { ticket, piece })
+    }
+
+    /// What `take` gives the calling thread, which leaves the tasks to workers where so many are awake as can be at work
+    /// at one time.
+    pub fn take_beside(&mut self) -> Option<Work<J>>
+        ensures none { result ≡ None → self.old.crew.awake < self.old.crew.processors
+            → offered (view_of self.new.board).tasks (view_of self.new.board).progress ≡ [] }
+        ensures epoch { self.new.epoch ≡ self.old.epoch }
+        ensures crew { self.new.crew ≡ self.old.crew }
+    {
+        if !self.crew.has_room() {
+            return None;
+        }
+        self.take()
     }
 
     /// A task was done. What comes of an epoch that is over is thrown away. Gives back what the task was made of.
@@ -241,7 +256,8 @@ impl<J: Naming, P: Picker + Drop> Locked<J, P> {
         let Some(slot) = self.crew.awaited else {
             return false;
         };
-        if self.is_to_come(slot) && self.board.offers() == 0 {
+        let is_idle = self.board.offers() == 0 || !self.crew.has_room();
+        if is_idle && self.is_to_come(slot) {
             return false;
         }
         self.crew.awaited = None;

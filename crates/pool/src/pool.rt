@@ -4,7 +4,7 @@ ghost use Rattle.board.specs.Boards.{view_of};
 ghost use Rattle.board.specs.Events.{empty_view};
 ghost use Rattle.desk.specs.Desks.{object_in, told};
 
-use crate::crew::SHARE;
+use crate::crew::{Crew, SHARE};
 use crate::gate::Gate;
 use crate::locked::Locked;
 use crate::named::Named;
@@ -75,8 +75,9 @@ where
         ensures { IfOk result (λ pool. pool.epoch ≡ 0) }
     {
         let named = Arc::new(alloc, Named::new(log))?;
+        let crew = Crew::new(share, processors(&rt));
         let shared = Shared {
-            locked: Mutex::new(Locked::new(alloc, picker, share)),
+            locked: Mutex::new(Locked::new(alloc, picker, crew)),
             gate,
             more: Condvar::new(),
             come: Condvar::new(),
@@ -107,6 +108,14 @@ where
         for worker in workers {
             worker.join(&rt);
         }
+    }
+}
+
+/// How many threads can be at work at one time; all where that isn't known.
+fn processors(rt: &impl Threads) -> u64 {
+    match thread::available_parallelism(rt) {
+        Ok(count) => count.get() as u64,
+        Err(_) => u64::MAX,
     }
 }
 

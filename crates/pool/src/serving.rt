@@ -17,9 +17,9 @@ use std::alloc::Global;
 use std::sync::{Arc, MutexGuard, Wait};
 use store::Store;
 
-// No task is forgotten. The calling thread sleeps only where nothing can be done and its store is still to come: then
-// some worker is at work, which finds on its return that it is awaited. A worker sleeps only where it saw, under the
-// lock, that nothing can be done. It counts as one that sleeps until somebody calls it, who wakes one then. Tasks that
+// No task is forgotten. The calling thread sleeps only where its store is still to come, and nothing can be done or so
+// many workers are awake as there are processors: then some worker is at work, which finds on its return that it is
+// awaited, or takes what can be done. A worker sleeps only where it saw, under the lock, that nothing can be done. It counts as one that sleeps until somebody calls it, who wakes one then. Tasks that
 // can be done and for which nobody is called are done by workers that are awake, or by the calling thread once it asks
 // for a store; so workers are called for much work alone, and nothing hangs where none is. What a task was made of is
 // dropped by the thread that did it, once it holds no lock.
@@ -87,7 +87,7 @@ fn done<J: Naming, G: Gate + Drop, P: Picker + Drop>(
     work.run(alloc)
 }
 
-/// The store of a ticket's object. The calling thread does tasks until it has come.
+/// The store of a ticket's object. The calling thread does tasks until it has come, where there is a processor for it.
 pub fn fetch<J: Naming, R: Wait, G: Gate + Drop, P: Picker + Drop>(
     rt: &R,
     alloc: Global,
@@ -111,7 +111,7 @@ pub fn fetch<J: Naming, R: Wait, G: Gate + Drop, P: Picker + Drop>(
             leave(shared, guard, spent, called);
             return found;
         }
-        match locked.take() {
+        match locked.take_beside() {
             Some(work) => {
                 let called = locked.call_beside(&work.piece);
                 leave(shared, guard, spent, called);
