@@ -1,11 +1,13 @@
 //! Stores: what an object holds.
 ghost use Rattle.std.specs.Prelude.{◌≡◌, ℕ, ◌<◌, ◌≤◌, None, length, OnOk, OnErr, IfOk};
+ghost use Rattle.std.specs.Option.{option_or};
 ghost use Rattle.model.specs.Entries.{InOrder, IsInside, entries_between, entries_of, row_entries, word_at};
 ghost use Rattle.model.specs.Object.{with_entry, without_entry, IsWithin};
 ghost use Rattle.model.specs.Reductions.{all_words};
 
 use crate::edits::{put, take_out};
 use crate::finding::{NO_HINT, fiber, find, row_of_column};
+use crate::putting::put_column;
 use crate::ranges::{column_between, fibers_between, outer_past, row_past};
 use crate::{FiberLists, Fibers, RowBlock, Rows};
 use model::NoMemory;
@@ -274,6 +276,26 @@ impl Store {
         } else {
             put(&mut self.lists, i, j, word)
         }
+    }
+
+    /// Puts the entries of a block into a store with one column, each over the one at its position or as a new one.
+    /// The entries behind the first new one are moved once, and each entry of the block takes two searches, which are
+    /// short where these lie close. Where there is an entry at each position of the block, none is moved and no
+    /// memory is taken.
+    pub fn put_block(&mut self, block: &RowBlock) -> Result<(), NoMemory>
+        requires column { self.old.cols ≡ 1 }
+        requires cols { block.now.cols ≡ 1 }
+        requires past { block.now.past ≤ self.old.rows }
+        ensures content { OnOk result ((i j : ℕ)
+            → content_of self.new i j ≡ option_or (block_content block.now i j) (content_of self.old i j)) }
+        ensures rows { self.new.rows ≡ self.old.rows }
+        ensures cols { self.new.cols ≡ self.old.cols }
+        ensures refused { OnErr result (self.new ≡ self.old) }
+    {
+        if block.is_empty() {
+            return Ok(());
+        }
+        put_column(&mut self.lists, &block.lists)
     }
 
     /// Removes the entry at row `i` and column `j`, where there is one. It moves those behind it, and
