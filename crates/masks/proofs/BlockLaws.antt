@@ -16,7 +16,7 @@ use Rattle.masks.specs.declared.view.MaskTest.{MaskTest}
 use Rattle.masks.specs.Keeps.{kept_by}
 use Rattle.masks.specs.Masks.{lets_word}
 
-same_at : (i j row col : ℕ) → (eqb i row && eqb j col) ≡ true → (i ≡ row) × (j ≡ col)
+pub same_at : (i j row col : ℕ) → (eqb i row && eqb j col) ≡ true → (i ≡ row) × (j ≡ col)
 same_at i j row col at = (grind (arith, nat_tests), grind (arith, nat_tests))
 
 either_way : (b : Bool) (o : Option ℕ) → cond b o o ≡ o

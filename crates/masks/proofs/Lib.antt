@@ -2,6 +2,7 @@ pub mod BlockLaws
 pub mod FiberMerges
 pub mod FewLaws
 pub mod FullLaws
+mod InPlaceLaws
 mod JoinedWords
 pub mod Joins
 mod Keeping

@@ -50,12 +50,22 @@ nothing_accumulated op None = refl
 nothing_accumulated op (Some word) = refl
 
 -- what was there outside the mask set, beside what was computed inside
-pub beside : (is_in others : Bool) (old t : Option ℕ) → others ≡ not is_in
-    → join_word Right (cond others old None) (cond is_in t None) ≡ written_at None false is_in old t
-beside true others old None is = rw is refl
-beside true others old (Some word) is = rw is refl
-beside false others None t is = rw is refl
-beside false others (Some word) t is = rw is refl
+pub beside : (is_in others : Bool) (old t : Option ℕ) → others ≡ not is_in → (is_in ≡ false → t ≡ None)
+    → join_word Right (cond others old None) t ≡ written_at None false is_in old t
+beside true others old None is none = rw is refl
+beside true others old (Some word) is none = rw is refl
+beside false others None t is none = rw (is, none refl) refl
+beside false others (Some word) t is none = rw (is, none refl) refl
+
+-- what was computed counts inside the mask set alone
+pub inside_written : (is_in : Bool) (old t : Option ℕ)
+    → written_at None false is_in old (cond is_in t None) ≡ written_at None false is_in old t
+inside_written true old t = refl
+inside_written false old t = refl
+
+pub none_outside : (is_in : Bool) (word t : Option ℕ) → word ≡ cond is_in t None → is_in ≡ false → word ≡ None
+none_outside true word t is out = cc
+none_outside false word t is out = is
 
 -- what is accumulated inside the mask set, and nothing outside
 pub accumulated_inside : (op : BinaryOp) (is_in : Bool) (old t : Option ℕ)

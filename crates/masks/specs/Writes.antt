@@ -1,8 +1,8 @@
 -- What a call leaves in its output (mask, accumulator and GrB_REPLACE of the GraphBLAS C API), position by position.
-use Rattle.std.specs.Prelude.{ℕ, Bool, if◌then◌else◌, Option, None}
+use Rattle.std.specs.Prelude.{ℕ, Bool, if◌then◌else◌, Option, None, Some}
 use Rattle.algebra.specs.declared.operator_names.OpName.{OpName}
 use Rattle.model.specs.Object.{Content}
-use Rattle.model.specs.WriteBack.{accumulated_by, masked_at}
+use Rattle.model.specs.WriteBack.{accumulated, accumulated_by, masked_at}
 use Rattle.masks.specs.declared.view.Mask.{Mask}
 use Rattle.masks.specs.Masks.{lets_through}
 
@@ -18,3 +18,8 @@ written_by mask accum replace old t = λ i j. written_at accum replace (lets_thr
 -- what a mask set has of a map
 abbrev pub inside_of : Mask → Content → Content
 inside_of mask t = λ i j. if lets_through mask i j then t i j else None
+
+-- an old value and a new one where there is a new one, else nothing
+abbrev pub accumulated_where : OpName → Option ℕ → Option ℕ → Option ℕ
+accumulated_where op old None = None
+accumulated_where op old (Some new) = accumulated op old (Some new)

@@ -7,6 +7,7 @@ mod append;
 mod blocks;
 mod few;
 mod full;
+mod in_place;
 mod join;
 mod keep;
 mod merge;
@@ -16,6 +17,7 @@ mod write;
 
 pub use alike::{are_alike, join_alike};
 pub use append::append_fibers;
+pub use in_place::write_into;
 pub use join::{Joining, join_rows};
 pub use keep::keep_fiber;
 pub use view::{Mask, MaskTest, StoredMask};

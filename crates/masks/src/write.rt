@@ -112,16 +112,35 @@ fn write_under(
     let inside = keep_block(t, mask);
     match (accum, replace) {
         (None, true) => Ok(inside),
-        (None, false) => {
-            let rest = old_rows(alloc, old, &inside, mask.complement())?;
-            join_blocks(alloc, rest, inside, Joining::Right)
-        }
+        (None, false) => write_over(alloc, old, inside, mask),
         (Some(op), true) => {
             let kept = old_rows(alloc, old, &inside, mask)?;
             join_blocks(alloc, kept, inside, Joining::Accumulate(op))
         }
         (Some(op), false) => accumulate(alloc, old, inside, op),
     }
+}
+
+/// What was computed at the positions that a mask lets through, beside what was there at the others.
+pub(crate) fn write_over(
+    alloc: Global,
+    old: &Store,
+    inside: RowBlock,
+    mask: StoredMask<'_>,
+) -> Result<RowBlock, NoMemory>
+    requires cols { inside.cols ≡ old.now.cols }
+    requires mask { mask.store.now.cols ≡ old.now.cols }
+    requires inside { (i j : ℕ) → inside.first ≤ i → i < inside.past
+        → lets_word mask.test (content_of mask.store.now i j) ≡ false → block_content inside i j ≡ None }
+    ensures first { IfOk result (λ block. block.first ≡ inside.first) }
+    ensures past { IfOk result (λ block. block.past ≡ inside.past) }
+    ensures cols { IfOk result (λ block. block.cols ≡ inside.cols) }
+    ensures words { IfOk result (λ block. (i j : ℕ) → inside.first ≤ i → i < inside.past → block_content block i j
+        ≡ written_at None false (lets_word mask.entry.test (content_of mask.entry.store.now i j))
+        (content_of old.now i j) (block_content inside i j)) }
+{
+    let rest = old_rows(alloc, old, &inside, mask.complement())?;
+    join_blocks(alloc, rest, inside, Joining::Right)
 }
 
 /// What a mask keeps of what was there in the rows of a block.
@@ -143,7 +162,12 @@ fn old_rows(
 }
 
 /// Accumulates what was computed into what was there, at every position.
-fn accumulate(alloc: Global, old: &Store, t: RowBlock, op: BinaryOp) -> Result<RowBlock, NoMemory>
+pub(crate) fn accumulate(
+    alloc: Global,
+    old: &Store,
+    t: RowBlock,
+    op: BinaryOp,
+) -> Result<RowBlock, NoMemory>
     requires { t.cols ≡ old.now.cols }
     ensures first { IfOk result (λ block. block.first ≡ t.first) }
     ensures past { IfOk result (λ block. block.past ≡ t.past) }
