@@ -1,3 +1,4 @@
 pub mod DeskLaws
 pub mod EndLaws
+pub mod OverLaws
 pub mod WorkLaws

@@ -1,6 +1,7 @@
 //! Pieces of work, taken and done, and what came of them.
-ghost use Rattle.std.specs.Prelude.{◌≡◌, ◌≤◌, IfOk, IfSome, None, [], slice_get, true};
+ghost use Rattle.std.specs.Prelude.{◌≡◌, ◌≤◌, IfOk, IfSome, None, Some, [], slice_get, true};
 ghost use Rattle.std.specs.Arc.{arc_value};
+ghost use Rattle.std.specs.Option.{option_map};
 ghost use Rattle.board.specs.Boards.{view_of};
 ghost use Rattle.board.specs.Pieces.{IsPieceFor, maps_in};
 ghost use Rattle.board.specs.Progress.{is_running};
@@ -18,8 +19,8 @@ ghost use Rattle.runner.specs.Tickets.{IsStoreFor};
 
 use crate::picker::Picker;
 use board::{Board, Look, Piece, Stores};
-use calls::Recipe;
-use kernel::{Block, eval_piece, join, patch_over};
+use calls::{Computation, Recipe};
+use kernel::{Block, computed_over, eval_piece, join, patch_over};
 use model::NoMemory;
 use runner::Failed;
 use std::alloc::Global;
@@ -77,7 +78,8 @@ pub fn made_of(alloc: Global, piece: &mut Piece) -> Result<Arc<Store>, NoMemory>
     Ok(Arc::new(alloc, join(recipe, block))?)
 }
 
-/// What a recipe gives of stores. The edits of a patch are done in its store, where nobody shares that.
+/// What a recipe gives of stores. The edits of a patch are done in its store, where nobody shares that, and so what an
+/// operation writes.
 fn block_of(
     alloc: Global,
     recipe: &Recipe,
@@ -97,6 +99,52 @@ fn block_of(
             };
             Ok(Block::Whole(patch_over(alloc, patch, old)?))
         }
+        Recipe::Computed(computation) => {
+            let of = recipe.signature();
+            if rows.start == 0 && rows.end == of.shape.rows() {
+                return computed_block(alloc, recipe, computation, inputs);
+            }
+            eval_piece(alloc, recipe, &inputs.lent(), rows)
+        }
         recipe => eval_piece(alloc, recipe, &inputs.lent(), rows),
+    }
+}
+
+/// All that an operation gives of stores. Where nobody shares what its output had, that is taken over.
+fn computed_block(
+    alloc: Global,
+    recipe: &Recipe,
+    computation: &Computation,
+    inputs: &mut Stores,
+) -> Result<Block, NoMemory>
+    requires recipe { recipe.now ≡ Recipe.Computed computation.now }
+    requires takes { (role : AnyRole) → Takes (known_by recipe.now role) (stored_for inputs.now role) }
+    ensures piece { IfOk result (IsPieceOf recipe.now (maps_in inputs.entry.now) 0 (rows_of (known_of recipe.now).shape)) }
+    ensures form { IfOk result (HasForm recipe.now) }
+{
+    match take_unshared(&mut inputs.old) {
+        Some(old) => {
+            let store = computed_over(alloc, &computation.accepted, old, &inputs.lent())?;
+            Ok(Block::Rows(store.into_block()))
+        }
+        None => {
+            let rows = recipe.signature().shape.rows();
+            eval_piece(alloc, recipe, &inputs.lent(), 0..rows)
+        }
+    }
+}
+
+/// A store that nobody shares, out of its place.
+fn take_unshared(place: &mut Option<Arc<Store>>) -> Option<Store>
+    ensures taken { IfSome result (λ store. option_map (λ s. arc_value s) place.old ≡ Some store) }
+    ensures kept { result ≡ None → option_map (λ s. arc_value s) place.new ≡ option_map (λ s. arc_value s) place.old }
+{
+    let store = place.take()?;
+    match Arc::try_unwrap(store) {
+        Ok(store) => Some(store),
+        Err(shared) => {
+            *place = Some(shared);
+            None
+        }
     }
 }

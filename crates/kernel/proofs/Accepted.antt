@@ -2,7 +2,7 @@
 use Rattle.std.specs.Prelude.{nat_le}
 use Rattle.std.proofs.Common.{◌≡◌, ◌∙◌, ℕ, ◌&&◌, true, [], ◌∷◌, Some, None, sym, ap, subst}
 use Rattle.std.specs.List.{All}
-use Rattle.std.specs.Option.{option_map_or}
+use Rattle.std.specs.Option.{option_map, option_map_or}
 use Rattle.std.proofs.lemmas.List.Elements.{All-cons, All-nil}
 use Rattle.std.proofs.lemmas.Bool.{and_parts}
 use Rattle.algebra.specs.declared.operator_names.OpName.{OpName}
@@ -34,6 +34,23 @@ use Rattle.model.proofs.ObjectLaws.{same_shape-rows}
 use Rattle.model.proofs.OperationLaws.{operation-words}
 use Rattle.model.proofs.RenamedLaws.{operation_twice}
 use Rattle.model.proofs.WriteBackLaws.{accepted-accumulator, accepted-compatible, accepted-implemented, accepted-inside, accepted-kinds, accepted-mask, accepted-shapes, accepted-values}
+
+-- ---- what an accepted operation says of its mask and its accumulator
+
+-- the mask, where there is one, has the output's shape
+pub mask-fits : (out : Out Signature) (op : Operation Signature) → operation_fault out op ≡ None
+    → (mask : Signature) → out.mask ≡ Some mask
+    → (rows_of mask.shape ≡ rows_of out.c.shape) × (cols_of mask.shape ≡ cols_of out.c.shape)
+mask-fits out op accepted mask is = same_shape-rows mask.shape out.c.shape (rw is at (accepted-mask out op accepted))
+
+-- the accumulator, where there is one, is offered
+pub accumulator-offered : (out : Out Signature) (op : Operation Signature) → operation_fault out op ≡ None
+    → (name : OpName) → out.accum ≡ Some name → offers name.kind name.domain ≡ true
+accumulator-offered out op accepted name is =
+    let domain = out.c.domain in
+    let passes : accumulates domain name ≡ true = rw is at (accepted-accumulator out op accepted) in
+    (and_parts (offers name.kind name.domain) (same_domain name.domain domain)
+    (and_parts (offers name.kind name.domain && same_domain name.domain domain) (same_domain (answer_domain name.kind name.domain) domain) passes).0).0
 
 -- ---- operations that transpose no input
 
@@ -92,16 +109,11 @@ module _ (task : Task) where
   pub task-mask : (mask : Input) → task.out.mask ≡ Some mask
       → (rows_of mask.signature.shape ≡ rows_of task.out.c.signature.shape)
       × (cols_of mask.signature.shape ≡ cols_of task.out.c.signature.shape)
-  task-mask mask is =
-      same_shape-rows mask.signature.shape task.out.c.signature.shape (rw is at (accepted-mask known_out known task.accepted))
+  task-mask mask is = mask-fits known_out known task.accepted mask.signature (ap (option_map known_of) is)
 
   -- the accumulator, where there is one, is offered
   pub task-accumulator : (op : OpName) → task.out.accum ≡ Some op → offers op.kind op.domain ≡ true
-  task-accumulator op is =
-      let domain = task.out.c.signature.domain in
-      let passes : accumulates domain op ≡ true = rw is at (accepted-accumulator known_out known task.accepted) in
-      (and_parts (offers op.kind op.domain) (same_domain op.domain domain)
-      (and_parts (offers op.kind op.domain && same_domain op.domain domain) (same_domain (answer_domain op.kind op.domain) domain) passes).0).0
+  task-accumulator op is = accumulator-offered known_out known task.accepted op is
 
   -- what is known of its objects is what was known of its inputs
   pub task-known : renamed_operation signature_of (operation_of task) ≡ known

@@ -3,6 +3,7 @@ pub mod Computed
 pub mod FactorLaws
 pub mod MaskLaws
 pub mod NameLaws
+pub mod OverLaws
 pub mod PieceLaws
 pub mod Spread
 pub mod TakenLaws

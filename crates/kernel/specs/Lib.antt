@@ -2,6 +2,7 @@ pub mod Accepts
 pub mod Blocks
 pub mod Factors
 pub mod Inputs
+pub mod Overs
 pub mod Pieces
 pub mod Spread
 pub mod Takes

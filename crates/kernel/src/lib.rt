@@ -9,10 +9,12 @@ mod input;
 mod moving;
 mod operating;
 mod output;
+mod over;
 mod piece;
 mod product;
 mod task;
 
 pub use block::Block;
 pub use evaluation::evaluate;
+pub use over::computed_over;
 pub use piece::{eval_piece, join, patch_over};

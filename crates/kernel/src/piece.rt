@@ -122,7 +122,11 @@ fn computed_piece(
 }
 
 /// An operation on the stores that take its roles.
-fn taken<'a>(accepted: &'a Accepted, stores: Roles<&'a Store>, unread: &'a Store) -> Task<'a>
+pub(crate) fn taken<'a>(
+    accepted: &'a Accepted,
+    stores: Roles<&'a Store>,
+    unread: &'a Store,
+) -> Task<'a>
     requires straight { IsStraight accepted.now.out.desc }
     requires inputs { AreInputs (known_by_role accepted.now.out accepted.now.operation) stores }
     requires rows { unread.now.rows ≡ rows_of accepted.now.out.c.shape }
