@@ -5,7 +5,7 @@ use Rattle.std.specs.Option.{option_or}
 use Rattle.std.proofs.Math.Seq.{set-append_seam}
 use Rattle.std.proofs.lemmas.Bool.{cases_Bool, cases_eq, cases_lt}
 use Rattle.std.proofs.lemmas.Bool.Decides.{nat_tests}
-use Rattle.std.proofs.lemmas.List.{append-nil, drop_all, drop_at, drop_more, drop-set, get_or_append_left, get_or-append_right, get_or-drop, get_or-take, get_or_default, length-take-le, length-set, take_all, take_at, take-append-le, take-set-le, take-take, drop-take}
+use Rattle.std.proofs.lemmas.List.{append-nil, drop-drop, drop_all, drop_at, drop_more, drop-set, get_or_append_left, get_or-append_right, get_or-drop, get_or-take, get_or_default, length-take-le, length-set, take_all, take_at, take-append-le, take-set-le, take-take, drop-take}
 use Rattle.std.proofs.lemmas.List.Elements.{All-cons, All-nil, All-head, All-tail, All-weaker}
 use Rattle.std.proofs.lemmas.List.Folds.{list_any-append, list_any_at, list_any_none}
 use Rattle.std.proofs.lemmas.List.Sums.{count_by_more_no, count_by_more_yes, length-filter}
@@ -62,6 +62,21 @@ around_moved at left gap xs low high =
     let first : take at xs ≡ take at (take left xs) = sym (take-take at left xs low) in
     let joined : take at xs ++ q ≡ take left xs = rw (first, run) (take-append-drop at (take left xs)) in
     rw (whole, front, behind) (sym (append_assoc (take at xs) q rest) ∙ rw (joined, sum) refl)
+
+-- ..where it is no longer than the gap, and is copied from what is before its new place into what is behind that
+pub around_copied : (from end gap : ℕ) (xs low high run : List ℕ) → from ≤ end → end ≤ from + gap
+    → end + gap ≤ length xs → low ≡ take (from + gap) xs → high ≡ drop (from + gap) xs
+    → run ≡ take (end - from) (drop from low)
+    → around from gap (low ++ (run ++ drop (end - from) high)) ≡ around end gap xs
+around_copied from end gap xs low high run order fits inside low_is high_is run_is =
+    let m = from + gap in
+    let n = end - from in
+    let q = take n (drop from xs) in
+    let cut : drop from low ≡ take gap (drop from xs) = ap (drop from) low_is ∙ drop-take from gap xs in
+    let same : run ≡ q = run_is ∙ ap (take n) cut ∙ take-take n gap (drop from xs) (omega arith) in
+    let rest : drop n high ≡ drop (m + n) xs = ap (drop n) high_is ∙ drop-drop n m xs in
+    ap (around from gap) (rw (low_is, same, rest) (sym (append_assoc (take m xs) q (drop (m + n) xs))))
+    ∙ around_moved from end gap xs order inside
 
 -- a word over that in the first place behind the gap
 around_set : (at gap v : ℕ) (xs : List ℕ) → at + gap < length xs

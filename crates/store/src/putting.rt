@@ -155,6 +155,9 @@ fn put_before(
     }
 }
 
+/// From so many places on a gap is wide enough that what is behind it is moved in parts.
+const WIDE: usize = 16;
+
 /// Moves what stands from a place up to a gap behind the gap. Without a gap nothing is moved.
 fn move_behind(list: &mut [u64], at: usize, left: usize, gap: usize)
     requires low { at ≤ left }
@@ -163,9 +166,42 @@ fn move_behind(list: &mut [u64], at: usize, left: usize, gap: usize)
     ensures around { around at gap list.new ≡ around left gap list.old }
     ensures kept { take at list.new ≡ take at list.old }
 {
-    if gap > 0 {
+    if gap >= WIDE {
+        move_in_parts(list, at, left, gap);
+    } else if gap > 0 {
         list.copy_within(at..left, at + gap);
     }
+}
+
+/// The same from the back, in parts that are no longer than the gap: none lies over its new place, so that all of it
+/// is copied at once.
+fn move_in_parts(list: &mut [u64], at: usize, left: usize, gap: usize)
+    requires low { at ≤ left }
+    requires inside { left + gap ≤ length list.old }
+    requires some { 0 < gap }
+    ensures length { length list.new ≡ length list.old }
+    ensures around { around at gap list.new ≡ around left gap list.old }
+    ensures kept { take at list.new ≡ take at list.old }
+{
+    let mut end = left;
+    while end > at {
+        let from = at.max(end.saturating_sub(gap));
+        move_part(list, from, end, gap);
+        end = from;
+    }
+}
+
+/// Moves what stands from a place up to a gap behind the gap, where it is no longer than that.
+fn move_part(list: &mut [u64], from: usize, end: usize, gap: usize)
+    requires low { from ≤ end }
+    requires fits { end ≤ from + gap }
+    requires inside { end + gap ≤ length list.old }
+    ensures length { length list.new ≡ length list.old }
+    ensures around { around from gap list.new ≡ around end gap list.old }
+    ensures kept { take from list.new ≡ take from list.old }
+{
+    let (low, high) = list.split_at_mut(from + gap);
+    high[..end - from].copy_from_slice(&low[from..end]);
 }
 
 /// Where a row stands among the first `left` ones of a list, or where it would stand. Its time grows with the logarithm
