@@ -119,7 +119,8 @@ fn computed_block(
 ) -> Result<Block, NoMemory>
     requires recipe { recipe.now ≡ Recipe.Computed computation.now }
     requires takes { (role : AnyRole) → Takes (known_by recipe.now role) (stored_for inputs.now role) }
-    ensures piece { IfOk result (IsPieceOf recipe.now (maps_in inputs.entry.now) 0 (rows_of (known_of recipe.now).shape)) }
+    ensures piece { IfOk result
+        (IsPieceOf recipe.now (maps_in inputs.entry.now) 0 (rows_of (known_of recipe.now).shape)) }
     ensures form { IfOk result (HasForm recipe.now) }
 {
     match take_unshared(&mut inputs.old) {

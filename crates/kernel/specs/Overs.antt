@@ -24,4 +24,5 @@ pub record IsUnwritten (out : Out Object) (operation : Operation Object) (first 
   pub first_is : block.first ≡ first
   pub past_is : block.past ≡ past
   pub cols_are : block.cols ≡ cols_of out.c.shape
-  pub words : (i j : ℕ) → first ≤ i → i < past → mask_set out i j ≡ true → block_content block i j ≡ spread out operation i j
+  pub words : (i j : ℕ) → first ≤ i → i < past → mask_set out i j ≡ true
+      → block_content block i j ≡ spread out operation i j

@@ -1,11 +1,12 @@
 //! What lies under the lock.
-ghost use Rattle.std.specs.Prelude.{◌≡◌, ◌+◌, ◌<◌, IfOk, IfSome, None, OnErr, OnOk, [], slice_get, true};
+ghost use Rattle.std.specs.Prelude.{◌≡◌, ◌↔◌, ◌+◌, ◌<◌, IfOk, IfSome, IsTrue, None, OnErr, OnOk, [], slice_get, true};
 ghost use Rattle.std.specs.Arc.{arc_value};
 ghost use Rattle.std.specs.Bool.{OnTrue};
 ghost use Rattle.board.specs.Boards.{view_of};
 ghost use Rattle.board.specs.Events.{empty_view};
 ghost use Rattle.board.specs.Progress.{is_running};
-ghost use Rattle.board.specs.Views.{offered};
+ghost use Rattle.board.specs.Looks.{SeenUnfinished, seen_of};
+ghost use Rattle.board.specs.Views.{offered, state_of};
 ghost use Rattle.desk.specs.Desks.{AreTold, is_on, object_in, told};
 ghost use Rattle.history.specs.Histories.{object_of};
 ghost use Rattle.pool.specs.Crews.{Calls};
@@ -104,8 +105,8 @@ impl<J: Naming, P: Picker + Drop> Locked<J, P> {
         Some(Work { ticket, piece })
     }
 
-    /// What `take` gives the calling thread, which leaves the tasks to workers where so many are awake as can be at work
-    /// at one time.
+    /// What `take` gives the calling thread, which leaves the tasks to workers where so many are awake as can be at
+    /// work at one time.
     pub fn take_beside(&mut self) -> Option<Work<J>>
         ensures none { result ≡ None → self.old.crew.awake < self.old.crew.processors
             → offered (view_of self.new.board).tasks (view_of self.new.board).progress ≡ [] }
@@ -191,7 +192,9 @@ impl<J: Naming, P: Picker + Drop> Locked<J, P> {
     }
 
     /// Whether a slot's store is still to come.
-    pub fn is_to_come(&self, slot: u64) -> bool {
+    pub fn is_to_come(&self, slot: u64) -> bool
+        ensures { IsTrue result ↔ (seen_of (state_of (view_of self.now.board) slot) ≡ SeenUnfinished) }
+    {
         matches!(self.board.look(slot), Look::Unfinished)
     }
 
