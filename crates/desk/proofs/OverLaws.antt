@@ -1,5 +1,5 @@
 -- Operations that take over what their output had, of the stores of a piece.
-use Rattle.std.proofs.Common.{◌≡◌, ◌∙◌, ◌<◌, ◌≤◌, ℕ, Bor, Option, Some, subst, sym, ap}
+use Rattle.std.proofs.Common.{◌≡◌, ◌∙◌, ◌<◌, ℕ, Bor, Option, Some, subst, sym}
 use Rattle.board.specs.Pieces.{maps_in as maps_had}
 use Rattle.board.specs.Stores.{stored_for}
 use Rattle.board.specs.declared.piece.Stores.{Stores}
@@ -9,7 +9,7 @@ use Rattle.calls.specs.declared.recipe.Recipe.TheVariants.{Computed}
 use Rattle.calls.specs.declared.role.Role.{Role}
 use Rattle.calls.specs.declared.role.Role.TheVariants.{Old, Mask, First, Second}
 use Rattle.calls.specs.declared.role.Roles.{Roles}
-use Rattle.calls.specs.Recipes.{known_by, known_by_role, known_of, meaning, meaning_of}
+use Rattle.calls.specs.Recipes.{known_of, meaning, meaning_of}
 use Rattle.kernel.specs.Blocks.{HasRows}
 use Rattle.kernel.specs.Overs.{beside}
 use Rattle.kernel.specs.Takes.{Takes, lent_in, map_in}

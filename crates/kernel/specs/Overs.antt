@@ -8,7 +8,7 @@ use Rattle.kernel.specs.Spread.{spread}
 use Rattle.kernel.specs.Takes.{lent_in}
 use Rattle.model.specs.declared.call.Operation.{Operation}
 use Rattle.model.specs.declared.call.Out.{Out}
-use Rattle.model.specs.Object.{Object, cols_of, rows_of}
+use Rattle.model.specs.Object.{Object, cols_of}
 use Rattle.model.specs.WriteBack.{mask_set}
 use Rattle.store.specs.Stored.{Block, Stored, block_content}
 

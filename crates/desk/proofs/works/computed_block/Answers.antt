@@ -2,14 +2,11 @@
 use Rattle.std.proofs.Common.{◌≡◌, refl, subst, sym}
 use Rattle.std.proofs.lemmas.Result.{IfOk-weaker}
 use Rattle.board.specs.Pieces.{maps_in as maps_had}
-use Rattle.board.specs.Stores.{stored_for}
-use Rattle.calls.specs.declared.recipe.Recipe.{Recipe}
 use Rattle.calls.specs.declared.role.Role.{Role}
-use Rattle.calls.specs.declared.role.Role.TheVariants.{Old, Mask, First, Second}
-use Rattle.calls.specs.Recipes.{known_by, known_by_role, known_of}
+use Rattle.calls.specs.declared.role.Role.TheVariants.{Mask, First, Second}
+use Rattle.calls.specs.Recipes.{known_by_role, known_of}
 use Rattle.kernel.specs.Pieces.{IsPieceOf}
-use Rattle.kernel.specs.Takes.{Takes, lent_in, map_in, maps_in}
-use Rattle.model.specs.declared.shape.Signature.{Signature}
+use Rattle.kernel.specs.Takes.{map_in, maps_in}
 use Rattle.model.specs.Object.{Content, rows_of}
 use Rattle.desk.proofs.OverLaws.{lent-kept, over-rows, same-maps, takes-stores}
 use Rattle.desk.proofs.works.computed_block.Goals as goal

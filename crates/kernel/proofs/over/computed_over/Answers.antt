@@ -1,5 +1,5 @@
 -- What is computed is written back at the positions of the mask, into what was there.
-use Rattle.std.proofs.Common.{◌≡◌, ◌∙◌, refl, sym, arith}
+use Rattle.std.proofs.Common.{◌∙◌, refl, sym, arith}
 use Rattle.calls.specs.declared.role.Role.{Role}
 use Rattle.calls.specs.declared.role.Role.TheVariants.{Old, Mask}
 use Rattle.calls.specs.Recipes.{operation_with, out_with}
