@@ -14,4 +14,4 @@ pub use picker::{Order, Picker};
 pub use places::{notes_of, slot_of};
 pub use placing::place;
 pub use ticket::Ticket;
-pub use works::{look, made_of, take};
+pub use works::{look, made_of, take, work};

@@ -42,3 +42,13 @@ impl Picker for Order {
         }
     }
 }
+
+/// None picks the oldest task.
+impl<P: Picker> Picker for Option<P> {
+    fn pick(&mut self) -> u64 {
+        match self {
+            Some(picker) => picker.pick(),
+            None => 0,
+        }
+    }
+}

@@ -1,5 +1,5 @@
 //! Pieces of work, taken and done, and what came of them.
-ghost use Rattle.std.specs.Prelude.{◌≡◌, ◌≤◌, IfOk, IfSome, None, Some, [], slice_get, true};
+ghost use Rattle.std.specs.Prelude.{◌≡◌, ◌<◌, ◌≤◌, IfOk, IfSome, None, Some, [], slice_get, true};
 ghost use Rattle.std.specs.Arc.{arc_value};
 ghost use Rattle.std.specs.Option.{option_map};
 ghost use Rattle.board.specs.Boards.{view_of};
@@ -76,6 +76,26 @@ pub fn made_of(alloc: Global, piece: &mut Piece) -> Result<Arc<Store>, NoMemory>
     } = piece;
     let block = block_of(alloc, recipe, inputs, rows.start..rows.end)?;
     Ok(Arc::new(alloc, join(recipe, block))?)
+}
+
+/// Does a piece of work that was taken, and hands in what it makes; where there is no memory for it, its slot fails.
+pub fn work<N: Drop>(alloc: Global, board: &mut Board<N>, piece: Piece)
+    requires { IsPieceFor (view_of board.old).tasks piece }
+    ensures tasks { (view_of board.new).tasks ≡ (view_of board.old).tasks }
+    ensures notes { (view_of board.new).notes ≡ (view_of board.old).notes }
+    ensures fewer { is_running (slice_get (view_of board.old).progress piece.number) ≡ true
+        → unfinished (view_of board.new).progress < unfinished (view_of board.old).progress }
+{
+    let number = piece.number;
+    let mut piece = piece;
+    match made_of(alloc, &mut piece) {
+        Ok(store) => {
+            let _ = board.hand_in(number, store);
+        }
+        Err(NoMemory) => {
+            let _ = board.fail(number);
+        }
+    }
 }
 
 /// What a recipe gives of stores. The edits of a patch are done in its store, where nobody shares that, and so what an

@@ -8,11 +8,11 @@ ghost use Rattle.board.specs.Views.{View};
 ghost use Rattle.model.specs.declared.shape.Shape.TheVariants.{Two};
 ghost use Rattle.runner.specs.Tickets.{IsStoreFor};
 
-use crate::work::{work, work_once};
+use crate::work::work_once;
 use algebra::Domain;
 use board::{Answer, Board, Event, Look, Piece, Refusal, Sight, Stores};
 use calls::{Given, Patch, Recipe, Roles, Shape, Signature, Transpose};
-use desk::Order;
+use desk::{Order, work};
 use kernel::Block;
 use std::alloc::{AllocError, Global};
 use std::sync::Arc;

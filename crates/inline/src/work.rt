@@ -1,17 +1,14 @@
 //! Tasks, done on the calling thread.
-ghost use Rattle.std.specs.Prelude.{◌≡◌, ◌<◌, IfOk, slice_get, true};
+ghost use Rattle.std.specs.Prelude.{◌≡◌, ◌<◌, IfOk};
 ghost use Rattle.std.specs.Arc.{arc_value};
 ghost use Rattle.std.specs.Bool.{OnTrue};
 ghost use Rattle.board.specs.Boards.{view_of};
-ghost use Rattle.board.specs.Pieces.{IsPieceFor};
-ghost use Rattle.board.specs.Progress.{is_running};
 ghost use Rattle.board.specs.Tasks.{object_at};
 ghost use Rattle.desk.specs.Ends.{unfinished};
 ghost use Rattle.runner.specs.Tickets.{IsStoreFor};
 
-use board::{Board, Piece};
-use desk::{Picker, look, made_of, take};
-use model::NoMemory;
+use board::Board;
+use desk::{Picker, look, take, work};
 use runner::Failed;
 use std::alloc::Global;
 use std::sync::Arc;
@@ -55,24 +52,4 @@ pub(crate) fn work_once<P: Picker, N: Drop>(
     };
     work(alloc, board, piece);
     true
-}
-
-/// Does a piece of work that was taken, and hands in what it makes; where there is no memory for it, its slot fails.
-pub(crate) fn work<N: Drop>(alloc: Global, board: &mut Board<N>, piece: Piece)
-    requires { IsPieceFor (view_of board.old).tasks piece }
-    ensures tasks { (view_of board.new).tasks ≡ (view_of board.old).tasks }
-    ensures notes { (view_of board.new).notes ≡ (view_of board.old).notes }
-    ensures fewer { is_running (slice_get (view_of board.old).progress piece.number) ≡ true
-        → unfinished (view_of board.new).progress < unfinished (view_of board.old).progress }
-{
-    let number = piece.number;
-    let mut piece = piece;
-    match made_of(alloc, &mut piece) {
-        Ok(store) => {
-            let _ = board.hand_in(number, store);
-        }
-        Err(NoMemory) => {
-            let _ = board.fail(number);
-        }
-    }
 }

@@ -1,2 +1,2 @@
+pub mod Boards
 pub mod Crews
-pub mod Locks

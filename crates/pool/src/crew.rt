@@ -2,12 +2,10 @@
 ghost use Rattle.std.specs.Prelude.{◌≡◌, ◌<◌, ◌↔◌, IsTrue, false, None};
 ghost use Rattle.pool.specs.Crews.{Calls, Rises, Sleeps};
 
+use crate::demand::Demand;
+
 /// How much work a worker is woken for, in entries that are read: about what a thread does while another wakes.
 pub const SHARE: u64 = 4_096;
-
-/// A task is done by another thread only where it is at least such a part of a share: to hand less over, and to have
-/// the store in the cache of another processor, takes longer than to do it.
-const PARTS: u64 = 8;
 
 /// Who of the threads of a pool sleeps.
 #[derive(Clone, Copy, Debug, PartialEq, Eq)]
@@ -47,6 +45,11 @@ impl Crew {
         }
     }
 
+    /// Nobody works beside the calling thread, and nobody comes.
+    pub fn nobody() -> Crew {
+        Crew::new(0, 0)
+    }
+
     /// A worker begins.
     pub fn begin(&mut self)
         ensures sleeping { self.new.sleeping ≡ self.old.sleeping }
@@ -84,13 +87,12 @@ impl Crew {
         self.awake < self.processors
     }
 
-    /// Calls workers that sleep for so many tasks of so much work each, where that is more than for those that are
-    /// awake, but at most one for each part of a task. Says how many are to be woken.
-    pub fn call(&mut self, tasks: u64, work: u64) -> u64
+    /// Calls workers that sleep for what there is to do, where that is more than for those that are awake. Says how many
+    /// are to be woken.
+    pub fn call(&mut self, demand: Demand) -> u64
         ensures { Calls self.old self.new result }
     {
-        let most = work.saturating_mul(tasks.min(PARTS));
-        let wanted = most.checked_div(self.share).unwrap_or(0);
+        let wanted = demand.threads(self.share);
         let count = wanted.saturating_sub(self.awake).min(self.sleeping);
         self.sleeping -= count;
         self.called = self.called.saturating_add(count);

@@ -2,15 +2,16 @@
 #![tactic(auto)]
 
 mod crew;
+mod demand;
+mod fetching;
 mod gate;
-mod locked;
 mod named;
 mod pool;
 mod serving;
 mod shared;
+mod tasks;
 #[cfg(test)]
 mod tests;
-mod weights;
 mod work;
 
 pub use gate::{Gate, Open};

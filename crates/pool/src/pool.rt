@@ -5,12 +5,13 @@ ghost use Rattle.board.specs.Events.{empty_view};
 ghost use Rattle.desk.specs.Desks.{object_in, told};
 
 use crate::crew::{Crew, SHARE};
+use crate::demand::work_of;
+use crate::fetching::{fetch_alone, fetch_beside, hand_over};
 use crate::gate::Gate;
-use crate::locked::Locked;
 use crate::named::Named;
-use crate::serving::{fetch, leave, serve};
+use crate::serving::{leave, serve};
 use crate::shared::Shared;
-use crate::weights::work_of;
+use crate::tasks::Tasks;
 use board::Board;
 use calls::{Recipe, Roles};
 use desk::{Picker, Ticket, notes_of};
@@ -34,6 +35,10 @@ pub struct Pool<J: Naming, R: Wait + Drop, G: Gate + Drop, P: Picker + Drop> {
     named: Arc<Named<J>>,
     shared: Arc<Shared<J, G, P>>,
     workers: Vec<JoinHandle<()>>,
+    /// How much work a worker is woken for; 0 where there is none.
+    share: u64,
+    /// The tasks, while the calling thread has them, since no worker is awake. Else they lie under the lock.
+    own: Tasks<J, P>,
     /// The board of the next epoch, whose lists have the room of one before.
     spare: Board<Note<J>>,
     ghost empty: { view_of spare ≡ empty_view },
@@ -77,13 +82,14 @@ where
         let named = Arc::new(alloc, Named::new(log))?;
         let crew = Crew::new(share, processors(&rt));
         let shared = Shared {
-            locked: Mutex::new(Locked::new(alloc, picker, crew)),
+            locked: Mutex::new(Tasks::new(alloc, None, crew)),
             gate,
             more: Condvar::new(),
             come: Condvar::new(),
         };
         let shared = Arc::new(alloc, shared)?;
         let workers = started(&rt, alloc, &named, &shared, workers);
+        let share = if workers.is_empty() { 0 } else { share };
         Ok(Pool {
             rt,
             alloc,
@@ -91,6 +97,8 @@ where
             named,
             shared,
             workers,
+            share,
+            own: Tasks::new(alloc, Some(picker), Crew::nobody()),
             spare: Board::new(alloc),
         })
     }
@@ -185,11 +193,20 @@ impl<J: Naming, R: Wait + Drop, G: Gate + Drop, P: Picker + Drop> Runner for Poo
         let log = &self.named.log;
         let note = log.note(&self.rt, &recipe, notes_of(&inputs))?;
         let own = work_of(&recipe);
-        let mut guard = self.shared.locked.lock(&self.rt);
-        let locked = &mut *guard;
-        let slot = locked.submit(log, note.again(), recipe, &inputs)?;
-        let called = locked.call_after(slot, own);
-        leave(&self.shared, guard, None, called);
+        let slot = if self.own.are_here() {
+            let slot = self.own.submit(log, note.again(), recipe, &inputs)?;
+            let demand = self.own.demand_after(slot, own);
+            if demand.threads(self.share) > 0 {
+                hand_over(&self.rt, &self.shared, &mut self.own, demand);
+            }
+            slot
+        } else {
+            let mut guard = self.shared.locked.lock(&self.rt);
+            let slot = guard.submit(log, note.again(), recipe, &inputs)?;
+            let called = guard.call_after(slot, own);
+            leave(&self.shared, guard, None, called);
+            slot
+        };
         Ok(Ticket {
             epoch: self.epoch,
             slot,
@@ -201,12 +218,39 @@ impl<J: Naming, R: Wait + Drop, G: Gate + Drop, P: Picker + Drop> Runner for Poo
         if ticket.epoch != self.epoch {
             return Err(Failed);
         }
-        fetch(&self.rt, self.alloc, &self.named, &self.shared, ticket)
+        let mut first = None;
+        if self.own.are_here() {
+            match fetch_alone(
+                &self.rt,
+                self.alloc,
+                &self.named,
+                &self.shared,
+                &mut self.own,
+                self.share,
+                ticket,
+            ) {
+                Ok(found) => return found,
+                Err(finished) => first = Some(finished),
+            }
+        }
+        fetch_beside(
+            &self.rt,
+            self.alloc,
+            &self.named,
+            &self.shared,
+            &mut self.own,
+            first,
+            ticket,
+        )
     }
 
     fn hold(&mut self, ticket: &Ticket<Note<J>>) -> Result<Ticket<Note<J>>, NoMemory> {
-        let mut guard = self.shared.locked.lock(&self.rt);
-        guard.hold(&self.named.log, ticket)?;
+        if self.own.are_here() {
+            self.own.hold(&self.named.log, ticket)?;
+        } else {
+            let mut guard = self.shared.locked.lock(&self.rt);
+            guard.hold(&self.named.log, ticket)?;
+        }
         Ok(Ticket {
             epoch: ticket.epoch,
             slot: ticket.slot,
@@ -215,6 +259,10 @@ impl<J: Naming, R: Wait + Drop, G: Gate + Drop, P: Picker + Drop> Runner for Poo
     }
 
     fn let_go(&mut self, ticket: Ticket<Note<J>>) {
+        if self.own.are_here() {
+            drop(self.own.let_go(&self.named.log, &ticket));
+            return;
+        }
         let mut guard = self.shared.locked.lock(&self.rt);
         let share = guard.let_go(&self.named.log, &ticket);
         drop(guard);
@@ -223,9 +271,12 @@ impl<J: Naming, R: Wait + Drop, G: Gate + Drop, P: Picker + Drop> Runner for Poo
 
     fn renew(&mut self) -> Result<(), NoMemory> {
         let epoch = self.epoch.checked_add(1).ok_or(NoMemory)?;
-        let mut guard = self.shared.locked.lock(&self.rt);
-        guard.renew(&mut self.spare)?;
-        drop(guard);
+        if self.own.are_here() {
+            self.own.renew(&mut self.spare)?;
+        } else {
+            let mut guard = self.shared.locked.lock(&self.rt);
+            guard.renew(&mut self.spare)?;
+        }
         self.spare.clear();
         self.epoch = epoch;
         Ok(())

@@ -1,5 +1,5 @@
 //! What threads share.
-use crate::locked::Locked;
+use crate::tasks::Tasks;
 use desk::Picker;
 use journal::Naming;
 use std::sync::{Condvar, Mutex};
@@ -7,7 +7,7 @@ use std::sync::{Condvar, Mutex};
 /// The lock, the gate, and what threads sleep on: workers on `more`, the calling thread on `come`.
 #[derive(Drop)]
 pub struct Shared<J: Naming, G: Drop, P: Picker + Drop> {
-    pub locked: Mutex<Locked<J, P>>,
+    pub locked: Mutex<Tasks<J, P>>,
     pub gate: G,
     pub more: Condvar,
     pub come: Condvar,

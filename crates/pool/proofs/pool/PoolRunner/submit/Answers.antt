@@ -14,6 +14,11 @@ submit-requires-clause-object g c =
     ap (λ (note : Told). object_of note) c.again.ensures
     ∙ (c.in_ok-note.ensures.object ∙ noted-made told c.args.inputs c.notes_of.result c.notes_of.ensures c.args.recipe)
 
+pub submit-requires-else-are_here-clause-object : goal.submit-requires-else-are_here-clause-object
+submit-requires-else-are_here-clause-object g c =
+    ap (λ (note : Told). object_of note) c.again-else-are_here.ensures
+    ∙ (c.in_ok-note.ensures.object ∙ noted-made told c.args.inputs c.notes_of.result c.notes_of.ensures c.args.recipe)
+
 pub returns-clause-object : goal.returns-clause-object
 returns-clause-object g c =
     c.in_ok-note.ensures.object ∙ noted-made told c.args.inputs c.notes_of.result c.notes_of.ensures c.args.recipe

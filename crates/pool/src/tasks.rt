@@ -1,24 +1,26 @@
-//! What lies under the lock.
+//! The tasks of a pool, which are the calling thread's own, or lie under the lock.
 ghost use Rattle.std.specs.Prelude.{◌≡◌, ◌↔◌, ◌+◌, ◌<◌, IfOk, IfSome, IsTrue, None, OnErr, OnOk, [], slice_get, true};
 ghost use Rattle.std.specs.Arc.{arc_value};
 ghost use Rattle.std.specs.Bool.{OnTrue};
 ghost use Rattle.board.specs.Boards.{view_of};
 ghost use Rattle.board.specs.Events.{empty_view};
+ghost use Rattle.board.specs.Pieces.{IsPieceFor};
 ghost use Rattle.board.specs.Progress.{is_running};
 ghost use Rattle.board.specs.Looks.{SeenUnfinished, seen_of};
 ghost use Rattle.board.specs.Views.{offered, state_of};
 ghost use Rattle.desk.specs.Desks.{AreTold, is_on, object_in, told};
+ghost use Rattle.desk.specs.Ends.{unfinished};
 ghost use Rattle.history.specs.Histories.{object_of};
 ghost use Rattle.pool.specs.Crews.{Calls};
-ghost use Rattle.pool.specs.Locks.{finished_on, held_on};
+ghost use Rattle.pool.specs.Boards.{finished_on, held_on};
 ghost use Rattle.runner.specs.Tickets.{IsStoreFor, made_by};
 
 use crate::crew::Crew;
-use crate::weights::{entries_for, work_in};
+use crate::demand::{Demand, entries_for, work_in};
 use crate::work::{Finished, Work};
 use board::{Board, Look, Piece};
 use calls::{Recipe, Roles};
-use desk::{Picker, Ticket, give_up, look, place, slot_of, take};
+use desk::{Picker, Ticket, give_up, look, place, slot_of, take, work};
 use history::Noted;
 use journal::{Log, Naming, Note};
 use model::NoMemory;
@@ -31,28 +33,48 @@ use store::Store;
 /// A store of fewer entries is dropped in less time than its share is taken and given back by another thread.
 const SOON_DROPPED: u64 = 1_024;
 
-/// A board, its epoch, who picks what is done next, and who sleeps.
+/// A board, its epoch, who picks what is done next, and who does tasks beside the calling thread. There is one picker:
+/// it goes where the tasks go, and where there is none the board is empty.
 #[derive(Drop)]
-pub struct Locked<J: Naming, P: Picker + Drop> {
+pub struct Tasks<J: Naming, P: Picker + Drop> {
     pub board: Board<Note<J>>,
     pub epoch: u64,
-    picker: P,
+    picker: Option<P>,
     pub crew: Crew,
     ghost told: { AreTold told (view_of board) },
 }
 
-impl<J: Naming, P: Picker + Drop> Locked<J, P> {
-    /// An empty board, and who is to work on it.
-    pub fn new(alloc: Global, picker: P, crew: Crew) -> Locked<J, P>
+impl<J: Naming, P: Picker + Drop> Tasks<J, P> {
+    /// An empty board.
+    pub fn new(alloc: Global, picker: Option<P>, crew: Crew) -> Tasks<J, P>
         ensures epoch { result.epoch ≡ 0 }
+        ensures board { view_of result.board ≡ empty_view }
         ensures crew { result.crew ≡ crew }
     {
-        Locked {
+        Tasks {
             board: Board::new(alloc),
             epoch: 0,
             picker,
             crew,
         }
+    }
+
+    /// Whether the tasks are here.
+    pub fn are_here(&self) -> bool {
+        self.picker.is_some()
+    }
+
+    /// The tasks go to where none are, in exchange for these; who does tasks there and here stays.
+    pub fn exchange(&mut self, other: &mut Tasks<J, P>)
+        ensures board { self.new.board ≡ other.old.board }
+        ensures epoch { self.new.epoch ≡ other.old.epoch }
+        ensures other_board { other.new.board ≡ self.old.board }
+        ensures other_epoch { other.new.epoch ≡ self.old.epoch }
+        ensures crew { self.new.crew ≡ self.old.crew }
+        ensures other_crew { other.new.crew ≡ other.old.crew }
+    {
+        mem::swap(self, other);
+        mem::swap(&mut self.crew, &mut other.crew);
     }
 
     /// A slot for what was noted.
@@ -84,16 +106,25 @@ impl<J: Naming, P: Picker + Drop> Locked<J, P> {
     }
 
     /// One of the tasks that can be done; None where none can.
-    pub fn take(&mut self) -> Option<Work<J>>
+    pub fn take(&mut self) -> Option<Piece>
         ensures none { result ≡ None
             → offered (view_of self.new.board).tasks (view_of self.new.board).progress ≡ [] }
-        ensures running { IfSome result (λ work.
-            is_running (slice_get (view_of self.new.board).progress work.ticket.slot) ≡ true) }
-        ensures on { IfSome result (λ work. is_on told self.new.epoch (view_of self.new.board) work.ticket ≡ true) }
+        ensures piece { IfSome result (IsPieceFor (view_of self.new.board).tasks) }
+        ensures running { IfSome result (λ piece.
+            is_running (slice_get (view_of self.new.board).progress piece.number) ≡ true) }
         ensures epoch { self.new.epoch ≡ self.old.epoch }
         ensures crew { self.new.crew ≡ self.old.crew }
     {
-        let piece = take(&mut self.picker, &mut self.board)?;
+        take(&mut self.picker, &mut self.board)
+    }
+
+    /// A task that was taken, to be done by a thread that doesn't have the board.
+    pub fn work_of(&self, piece: Piece) -> Work<J>
+        requires piece { IsPieceFor (view_of self.now.board).tasks piece }
+        requires running { is_running (slice_get (view_of self.now.board).progress piece.number) ≡ true }
+        ensures slot { result.ticket.slot ≡ piece.number }
+        ensures on { is_on told self.now.epoch (view_of self.now.board) result.ticket ≡ true }
+    {
         let Some(note) = self.board.note(piece.number) else {
             unreachable!()
         };
@@ -102,21 +133,34 @@ impl<J: Naming, P: Picker + Drop> Locked<J, P> {
             slot: piece.number,
             note: note.again(),
         };
-        Some(Work { ticket, piece })
+        Work { ticket, piece }
     }
 
-    /// What `take` gives the calling thread, which leaves the tasks to workers where so many are awake as can be at
-    /// work at one time.
-    pub fn take_beside(&mut self) -> Option<Work<J>>
-        ensures none { result ≡ None → self.old.crew.awake < self.old.crew.processors
+    /// One of the tasks that can be done, to be done by a thread that doesn't have the board; None where none can.
+    pub fn take_work(&mut self) -> Option<Work<J>>
+        ensures none { result ≡ None
             → offered (view_of self.new.board).tasks (view_of self.new.board).progress ≡ [] }
+        ensures running { IfSome result (λ work.
+            is_running (slice_get (view_of self.new.board).progress work.ticket.slot) ≡ true) }
+        ensures on { IfSome result (λ work. is_on told self.new.epoch (view_of self.new.board) work.ticket ≡ true) }
         ensures epoch { self.new.epoch ≡ self.old.epoch }
         ensures crew { self.new.crew ≡ self.old.crew }
     {
-        if !self.crew.has_room() {
-            return None;
-        }
-        self.take()
+        let piece = self.take()?;
+        Some(self.work_of(piece))
+    }
+
+    /// Does a task that was taken.
+    pub fn work(&mut self, alloc: Global, piece: Piece)
+        requires { IsPieceFor (view_of self.old.board).tasks piece }
+        ensures tasks { (view_of self.new.board).tasks ≡ (view_of self.old.board).tasks }
+        ensures notes { (view_of self.new.board).notes ≡ (view_of self.old.board).notes }
+        ensures fewer { is_running (slice_get (view_of self.old.board).progress piece.number) ≡ true
+            → unfinished (view_of self.new.board).progress < unfinished (view_of self.old.board).progress }
+        ensures epoch { self.new.epoch ≡ self.old.epoch }
+        ensures crew { self.new.crew ≡ self.old.crew }
+    {
+        work(alloc, &mut self.board, piece);
     }
 
     /// A task was done. What comes of an epoch that is over is thrown away. Gives back what the task was made of.
@@ -198,20 +242,61 @@ impl<J: Naming, P: Picker + Drop> Locked<J, P> {
         matches!(self.board.look(slot), Look::Unfinished)
     }
 
-    /// How many workers are to be woken once a slot was given for a recipe of so much work of its own. One task is left
+    /// What there is to do for others once a slot was given for a recipe of so much work of its own. One task is left
     /// for the calling thread.
+    pub fn demand_after(&self, slot: u64, own: u64) -> Demand {
+        let tasks = self.board.offers().saturating_sub(1);
+        if tasks == 0 {
+            return Demand::none();
+        }
+        match entries_for(&self.board, slot) {
+            Some(entries) => Demand::new(tasks, entries.saturating_add(own)),
+            None => Demand::none(),
+        }
+    }
+
+    /// What there is to do beside a piece that was taken.
+    pub fn demand_beside(&self, piece: &Piece) -> Demand {
+        let tasks = self.board.offers();
+        if tasks == 0 {
+            return Demand::none();
+        }
+        Demand::new(tasks, work_in(piece))
+    }
+
+    /// What there is to do for others once a store was found. One task is left for the calling thread.
+    pub fn demand_after_fetch(&self, found: &Result<Arc<Store>, Failed>) -> Demand {
+        match found {
+            Ok(store) => Demand::new(self.board.offers().saturating_sub(1), store.nvals()),
+            Err(_) => Demand::none(),
+        }
+    }
+
+    /// What the calling thread takes, which leaves the tasks to workers where so many are awake as can be at work at one
+    /// time.
+    pub fn take_beside(&mut self) -> Option<Work<J>>
+        ensures none { result ≡ None → self.old.crew.awake < self.old.crew.processors
+            → offered (view_of self.new.board).tasks (view_of self.new.board).progress ≡ [] }
+        ensures epoch { self.new.epoch ≡ self.old.epoch }
+        ensures crew { self.new.crew ≡ self.old.crew }
+    {
+        if !self.crew.has_room() {
+            return None;
+        }
+        self.take_work()
+    }
+
+    /// How many workers are to be woken once a slot was given for a recipe of so much work of its own.
     pub fn call_after(&mut self, slot: u64, own: u64) -> u64
         ensures board { self.new.board ≡ self.old.board }
         ensures epoch { self.new.epoch ≡ self.old.epoch }
         ensures calls { Calls self.old.crew self.new.crew result }
     {
-        if self.crew.sleeping == 0 || self.board.offers() < 2 {
+        if self.crew.sleeping == 0 {
             return 0;
         }
-        match entries_for(&self.board, slot) {
-            Some(entries) => self.call_for(entries.saturating_add(own), 1),
-            None => 0,
-        }
+        let demand = self.demand_after(slot, own);
+        self.crew.call(demand)
     }
 
     /// How many workers are to be woken by whoever took a piece.
@@ -220,32 +305,21 @@ impl<J: Naming, P: Picker + Drop> Locked<J, P> {
         ensures epoch { self.new.epoch ≡ self.old.epoch }
         ensures calls { Calls self.old.crew self.new.crew result }
     {
-        if self.crew.sleeping == 0 || self.board.offers() == 0 {
+        if self.crew.sleeping == 0 {
             return 0;
         }
-        self.call_for(work_in(piece), 0)
+        let demand = self.demand_beside(piece);
+        self.crew.call(demand)
     }
 
-    /// How many workers are to be woken once a store was found. One task is left for the calling thread.
+    /// How many workers are to be woken once a store was found.
     pub fn call_after_fetch(&mut self, found: &Result<Arc<Store>, Failed>) -> u64
         ensures board { self.new.board ≡ self.old.board }
         ensures epoch { self.new.epoch ≡ self.old.epoch }
         ensures calls { Calls self.old.crew self.new.crew result }
     {
-        match found {
-            Ok(store) => self.call_for(store.nvals(), 1),
-            Err(_) => 0,
-        }
-    }
-
-    /// How many workers are to be woken, where each task that can be done is so much work, but for so many of them.
-    pub fn call_for(&mut self, work: u64, but: u64) -> u64
-        ensures board { self.new.board ≡ self.old.board }
-        ensures epoch { self.new.epoch ≡ self.old.epoch }
-        ensures calls { Calls self.old.crew self.new.crew result }
-    {
-        let tasks = self.board.offers().saturating_sub(but);
-        self.crew.call(tasks, work)
+        let demand = self.demand_after_fetch(found);
+        self.crew.call(demand)
     }
 
     /// Whether the calling thread is to be woken, which sleeps: its store has come, or there is a task that it can do.

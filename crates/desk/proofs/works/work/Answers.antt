@@ -1,7 +1,7 @@
 -- What is handed in is the store of the slot's object; then, or where the slot fails, fewer slots are to come.
 use Rattle.board.specs.Boards.{view_of}
 use Rattle.desk.proofs.EndLaws.{fewer_ended, fewer_handed}
-use Rattle.inline.proofs.work.work.Goals as goal
+use Rattle.desk.proofs.works.work.Goals as goal
 
 pub returns-in-Ok-clause-fewer : goal.returns-in-Ok-clause-fewer
 returns-in-Ok-clause-fewer g c = λ runs.

@@ -1,4 +1,4 @@
--- What becomes of a board under a lock.
+-- What becomes of a board.
 use Rattle.std.specs.Prelude.{ℕ, ◌+◌, Option, Some, None, if◌then◌else◌, slice_get, slice_index}
 use Rattle.board.specs.Events.{failed, may_fail, with_holds, with_progress}
 use Rattle.board.specs.Progress.{Made, is_running}

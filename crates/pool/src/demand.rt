@@ -1,4 +1,5 @@
-//! About how much work tasks are, in entries that are read.
+//! How much there is to do for threads that sleep: so many tasks, each about as much work as the one at hand, in entries
+//! that are read.
 use board::{Board, Look, Piece};
 use calls::Recipe;
 use std::sync::Arc;
@@ -6,6 +7,35 @@ use store::Store;
 
 /// What any task costs.
 const LEAST: u64 = 64;
+
+/// A task is done by another thread only where it is at least such a part of the work for which a worker is woken: to
+/// hand less over, and to have the store in the cache of another processor, takes longer than to do it.
+const PARTS: u64 = 8;
+
+/// So many tasks that can be done, of so much work each.
+#[derive(Clone, Copy, Debug)]
+pub struct Demand {
+    tasks: u64,
+    work: u64,
+}
+
+impl Demand {
+    pub fn new(tasks: u64, work: u64) -> Demand {
+        Demand { tasks, work }
+    }
+
+    /// Nothing to do.
+    pub fn none() -> Demand {
+        Demand::new(0, 0)
+    }
+
+    /// How many threads are worth while, where one is for such a share of work, but at most one for each part of a
+    /// task. A share of 0 is worth nobody's while.
+    pub fn threads(&self, share: u64) -> u64 {
+        let most = self.work.saturating_mul(self.tasks.min(PARTS));
+        most.checked_div(share).unwrap_or(0)
+    }
+}
 
 /// The work of what a recipe has of its own.
 pub fn work_of(recipe: &Recipe) -> u64 {

@@ -1,0 +1,112 @@
+//! The calling thread, which does tasks while it waits for a store.
+ghost use Rattle.std.specs.Prelude.{◌≡◌, IfOk};
+ghost use Rattle.std.specs.Arc.{arc_value};
+ghost use Rattle.desk.specs.Desks.{object_in, told};
+ghost use Rattle.runner.specs.Tickets.{IsStoreFor};
+
+use crate::demand::Demand;
+use crate::gate::Gate;
+use crate::named::Named;
+use crate::serving::{done, leave};
+use crate::shared::Shared;
+use crate::tasks::Tasks;
+use crate::work::Finished;
+use desk::{Picker, Ticket};
+use journal::{Naming, Note};
+use runner::Failed;
+use std::alloc::Global;
+use std::sync::{Arc, Wait};
+use store::Store;
+
+/// Lays the tasks of the calling thread under the lock, and wakes workers for them.
+pub fn hand_over<J: Naming, R: Wait, G: Gate + Drop, P: Picker + Drop>(
+    rt: &R,
+    shared: &Shared<J, G, P>,
+    own: &mut Tasks<J, P>,
+    demand: Demand,
+) {
+    let mut guard = shared.locked.lock(rt);
+    guard.exchange(own);
+    let called = guard.crew.call(demand);
+    leave(shared, guard, None, called);
+}
+
+/// The store of a ticket's object. The calling thread, which has the tasks, does them until it has come. `Err`: there was
+/// so much to do that workers were woken for it, one for each such share; the tasks lie under the lock since, but for
+/// this one, which the calling thread did meanwhile.
+pub fn fetch_alone<J: Naming, R: Wait, G: Gate + Drop, P: Picker + Drop>(
+    rt: &R,
+    alloc: Global,
+    named: &Named<J>,
+    shared: &Shared<J, G, P>,
+    own: &mut Tasks<J, P>,
+    share: u64,
+    ticket: &Ticket<Note<J>>,
+) -> Result<Result<Arc<Store>, Failed>, Finished<J>>
+    ensures { IfOk result (λ found. IfOk found
+        (λ store. IsStoreFor (object_in told ticket.now) (arc_value store))) }
+{
+    for _ in rt.forever() {
+        if let Some(found) = own.look(&named.log, ticket) {
+            return Ok(found);
+        }
+        let Some(piece) = own.take() else {
+            return Ok(Err(Failed));
+        };
+        let demand = own.demand_beside(&piece);
+        if demand.threads(share) > 0 {
+            let work = own.work_of(piece);
+            hand_over(rt, shared, own, demand);
+            return Err(done(alloc, shared, work));
+        }
+        shared.gate.enter(piece.number, piece.piece);
+        own.work(alloc, piece);
+    }
+    unreachable!()
+}
+
+/// The store of a ticket's object. The calling thread does tasks that lie under the lock until it has come, where there
+/// is a processor for it. Where no worker is awake then, it has the tasks from now on.
+pub fn fetch_beside<J: Naming, R: Wait, G: Gate + Drop, P: Picker + Drop>(
+    rt: &R,
+    alloc: Global,
+    named: &Named<J>,
+    shared: &Shared<J, G, P>,
+    own: &mut Tasks<J, P>,
+    first: Option<Finished<J>>,
+    ticket: &Ticket<Note<J>>,
+) -> Result<Arc<Store>, Failed>
+    ensures { IfOk result (λ store. IsStoreFor (object_in told ticket.now) (arc_value store)) }
+{
+    let mut last = first;
+    for _ in rt.forever() {
+        let mut guard = shared.locked.lock(rt);
+        let locked = &mut *guard;
+        locked.crew.awaited = None;
+        let spent = match last.take() {
+            Some(finished) => Some(locked.finish(&named.log, finished)),
+            None => None,
+        };
+        if let Some(found) = locked.look(&named.log, ticket) {
+            let called = locked.call_after_fetch(&found);
+            if locked.crew.awake == 0 {
+                locked.exchange(own);
+            }
+            leave(shared, guard, spent, called);
+            return found;
+        }
+        match locked.take_beside() {
+            Some(work) => {
+                let called = locked.call_beside(&work.piece);
+                leave(shared, guard, spent, called);
+                last = Some(done(alloc, shared, work));
+            }
+            None if spent.is_none() && locked.is_to_come(ticket.slot) => {
+                locked.crew.awaited = Some(ticket.slot);
+                drop(shared.come.wait(rt, guard));
+            }
+            None => leave(shared, guard, spent, 0),
+        }
+    }
+    unreachable!()
+}
