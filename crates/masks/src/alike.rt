@@ -1,20 +1,22 @@
 //! Fibers whose entries stand at the same positions.
-ghost use Rattle.std.specs.Prelude.{◌≡◌, ◌↔◌, ◌≤◌, ◌∷◌, ℕ, length, map, IfOk, IsTrue};
-ghost use Rattle.std.specs.List.{All};
+ghost use Rattle.std.specs.Prelude.{◌≡◌, ◌↔◌, ◌<◌, ◌≤◌, ◌∷◌, ℕ, length, map, true, IfOk, IsTrue};
+ghost use Rattle.std.specs.List.{All, AllPairs};
 ghost use Rattle.lanes.specs.Lists.{zip_with};
 ghost use Rattle.model.specs.Entries.{word_at};
 ghost use Rattle.store.specs.Fibers.{AreFlat, end_back, entries_in};
 ghost use Rattle.store.specs.Stored.{along, block_content};
+ghost use Rattle.store.specs.Walks.{AreLeft};
 ghost use Rattle.masks.specs.Joins.{HaveSamePlaces, beside, both_of, join_word};
 
+use crate::full::is_around;
 use crate::join::Joining;
 use lanes::zip_words;
 use model::NoMemory;
 use std::alloc::Global;
 use store::{FiberEnd, FiberLists, Fibers, FlatFibers, RowBlock};
 
-/// Whether fibers have their entries at the same positions. Where they have, that takes time for the entries;
-/// else it ends at the first position that differs.
+/// Whether fibers have their entries at the same positions. Where they have, that takes time for the entries, but for
+/// one fiber a side without gaps; else it ends at the first position that differs.
 pub fn are_alike(left: &Fibers<'_>, right: &Fibers<'_>) -> bool
     ensures { IsTrue result ↔ HaveSamePlaces left.now.entries right.now.entries }
 {
@@ -25,7 +27,31 @@ pub fn are_alike(left: &Fibers<'_>, right: &Fibers<'_>) -> bool
     if a.inner.is_empty() {
         return true;
     }
-    a.inner == b.inner && have_same_ends(&a, &b)
+    have_same_inner(&a, &b) && have_same_ends(&a, &b)
+}
+
+/// Whether fibers have the same inner indices, one fiber after the other.
+fn have_same_inner(a: &FlatFibers<'_>, b: &FlatFibers<'_>) -> bool
+    requires a { AreLeft a.now.from a.now.head a.now.others.now a.now.inner.now a.now.words.now }
+    requires b { AreLeft b.now.from b.now.head b.now.others.now b.now.inner.now b.now.words.now }
+    requires some { 0 < length a.now.inner.now }
+    requires count { length b.now.inner.now ≡ length a.now.inner.now }
+    ensures { IsTrue result ↔ (a.now.inner.now ≡ b.now.inner.now) }
+{
+    if a.others.is_empty() && b.others.is_empty() && are_same_run(a.inner, b.inner) {
+        return true;
+    }
+    a.inner == b.inner
+}
+
+/// Whether two lists that rise are the same numbers without gaps, as those of full vectors are. It looks at their ends.
+fn are_same_run(a: &[u64], b: &[u64]) -> bool
+    requires a { AllPairs (λ x y. x < y) a.now }
+    requires b { AllPairs (λ x y. x < y) b.now }
+    requires count { length b.now ≡ length a.now }
+    ensures { result ≡ true → a.now ≡ b.now }
+{
+    is_around(a, b) && is_around(b, a)
 }
 
 /// Whether fibers are at the same indices and have as many entries each.

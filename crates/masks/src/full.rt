@@ -43,7 +43,7 @@ pub(crate) fn full_side(pair: Pair<'_>) -> Option<Side>
 }
 
 /// Whether the indices of a fiber have no gaps, and those of another lie between its ends.
-fn is_around(full: &[u64], other: &[u64]) -> bool
+pub(crate) fn is_around(full: &[u64], other: &[u64]) -> bool
     requires full { AllPairs (λ x y. x < y) full.now }
     requires other { AllPairs (λ x y. x < y) other.now }
     ensures yes { result ≡ true → IsAround full.now other.now }

@@ -37,8 +37,8 @@ have_same_ends-requires-clause-b c =
     let some : 0 < length a.inner.now = grind (arith, nat_tests) in
     ends_behind b.from (b.head ∷ b.others.now) b.from (omega arith) (c.flat-b.ensures.left.rises (omega (arith, c.if-a-b.false)))
 
-pub returns-then-eq : goal.returns-then-eq
-returns-then-eq c =
+pub returns-then-have_same_inner : goal.returns-then-have_same_inner
+returns-then-have_same_inner c =
     let a = c.flat-a.result in
     let b = c.flat-b.result in
     let some : 0 < length a.inner.now = grind (arith, nat_tests) in (
@@ -50,8 +50,8 @@ returns-then-eq c =
           c.have_same_ends.ensures.1 told.0,
     )
 
-pub returns-else-eq : goal.returns-else-eq
-returns-else-eq c =
+pub returns-else-have_same_inner : goal.returns-else-have_same_inner
+returns-else-have_same_inner c =
     let a = c.flat-a.result in
     let b = c.flat-b.result in
     let some : 0 < length a.inner.now = grind (arith, nat_tests) in (
