@@ -29,7 +29,7 @@ rise_by xs i (suc n) rises within =
     let next : get_or xs (i + n) 0 < get_or xs (i + suc n) 0 = rises (i + n) (i + suc n) 0 (omega arith) within in
     omega (arith, before, next)
 
-rise_to : (xs : List ℕ) (i j : ℕ) → AllPairs (λ x y. x < y) xs → i ≤ j → j < length xs
+pub rise_to : (xs : List ℕ) (i j : ℕ) → AllPairs (λ x y. x < y) xs → i ≤ j → j < length xs
     → get_or xs i 0 + (j - i) ≤ get_or xs j 0
 rise_to xs i j rises low within = let is : i + (j - i) ≡ j = omega arith in subst (λ k. get_or xs i 0 + (j - i) ≤ get_or xs k 0) is (rise_by xs i (j - i) rises (rw is within))
 

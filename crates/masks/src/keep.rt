@@ -154,7 +154,8 @@ fn pass_over(stored: &[u64], next: usize, inner: &[u64], at: usize, looks_up: bo
     place_from(stored, next, inner[at])
 }
 
-/// The first place from another on at which an inner index isn't below a given one; by a binary search.
+/// The first place from another on at which an inner index isn't below a given one; by a binary search, which is short
+/// where that index isn't far behind the one at the place.
 #[inline(always)]
 pub(crate) fn place_from(inner: &[u64], from: usize, index: u64) -> usize
     requires rising { AllPairs (λ a b. a < b) inner.now }
@@ -164,7 +165,32 @@ pub(crate) fn place_from(inner: &[u64], from: usize, index: u64) -> usize
     ensures passed { All (λ y. y < index) (take from inner.now) → All (λ y. y < index) (take result inner.now) }
     ensures left { All (λ y. index ≤ y) (drop result inner.now) }
 {
-    from + inner[from..].partition_point(|x| *x < index)
+    from + place_in(&inner[from..], index)
+}
+
+/// The first place at which an inner index isn't below a given one.
+#[inline(always)]
+fn place_in(inner: &[u64], index: u64) -> usize
+    requires rising { AllPairs (λ a b. a < b) inner.now }
+    ensures bound { result ≤ length inner.now }
+    ensures before { All (λ y. y < index) (take result inner.now) }
+    ensures left { All (λ y. index ≤ y) (drop result inner.now) }
+{
+    inner[..most_below(inner, index)].partition_point(|x| *x < index)
+}
+
+/// How many inner indices can be below a given one at most: each is greater than the one before.
+#[inline(always)]
+fn most_below(inner: &[u64], index: u64) -> usize
+    requires rising { AllPairs (λ a b. a < b) inner.now }
+    ensures bound { result ≤ length inner.now }
+    ensures left { All (λ y. index ≤ y) (drop result inner.now) }
+{
+    if inner.is_empty() {
+        return 0;
+    }
+    let far = index.saturating_sub(inner[0]) as usize;
+    far.min(inner.len())
 }
 
 /// Whether the mask keeps an index, where `other` is the first in a fiber of its store that isn't below it,
