@@ -1,3 +1,4 @@
+mod AppendLaws
 pub mod BlockLaws
 pub mod FiberMerges
 pub mod FewLaws
@@ -13,4 +14,5 @@ mod Merging
 mod PairLaws
 pub mod SameEnds
 pub mod SamePlaces
+mod SparseLaws
 mod WriteLaws

@@ -1,5 +1,5 @@
 //! Joins of stores: where both have a word what is made of both, and where one has, its word.
-ghost use Rattle.std.specs.Prelude.{◌≡◌, ℕ, ◌<◌, ◌≤◌, ◌==◌, ◌++◌, if◌then◌else◌, length, slice_index, take, true};
+ghost use Rattle.std.specs.Prelude.{◌≡◌, ◌≢◌, ℕ, ◌<◌, ◌≤◌, ◌==◌, ◌++◌, if◌then◌else◌, length, slice_index, take, true};
 ghost use Rattle.std.specs.Prelude.{IfOk, IfSome, OnOk};
 ghost use Rattle.std.specs.List.{All};
 ghost use Rattle.std.specs.Option.{option_map};
@@ -13,9 +13,10 @@ ghost use Rattle.masks.specs.Joins.{AreJoined, HasJoin, alone_of, both_of, joine
 use crate::alike::{are_alike, join_alike};
 use crate::append::append_fibers;
 use crate::few::{has_few, join_few};
-use crate::full::{full_side, join_full};
+use crate::full::{Side, full_side, join_full};
 use crate::merge::{Places, merge_fibers, most_places};
 use crate::pair::pair_of;
+use crate::sparse::{copy_between, few_side};
 use algebra::BinaryOp;
 use lanes::{unite_words, zip_words};
 use model::NoMemory;
@@ -82,8 +83,12 @@ fn join_lists(
         return copy_alone(alloc, right, by, range);
     }
     let room = lefts.len() + rights.len();
-    match join_whole(alloc, lefts, rights, by)? {
-        Some(lists) => Ok(lists),
+    let few = few_side(left, &lefts, &rights, by);
+    if let Some(lists) = join_whole(alloc, lefts, rights, by)? {
+        return Ok(lists);
+    }
+    match few {
+        Some(few) => join_between(alloc, left, right, by, few, range, room),
         None => join_parts(alloc, left, right, by, range, room),
     }
 }
@@ -137,7 +142,7 @@ fn join_whole(
 }
 
 /// Whether the word of an entry that one side has alone stays as it is.
-fn keeps_alone(by: Joining) -> bool
+pub(crate) fn keeps_alone(by: Joining) -> bool
     ensures { result ≡ true → (word : ℕ) → alone_of by word ≡ word }
 {
     match by {
@@ -170,6 +175,36 @@ fn join_parts(
             .min(right.part_end(row..past, PART));
         join_part(&mut lists, &mut places, left, right, by, row..next)?;
         row = next;
+    }
+    lists.shrink_to_fit();
+    Ok(lists)
+}
+
+/// The same as `join_lists`, where one side has few rows: what the other has between them is copied, and only
+/// these are joined. There is room for so many entries from the start.
+fn join_between(
+    alloc: Global,
+    left: &Store,
+    right: &Store,
+    by: Joining,
+    few: Side,
+    range: Range<u64>,
+    room: usize,
+) -> Result<FiberLists, NoMemory>
+    requires cols { left.now.cols ≡ right.now.cols }
+    requires rows { left.now.cols ≢ 1 }
+    requires alone { (word : ℕ) → alone_of by word ≡ word }
+    requires range { range.start ≤ range.end }
+    ensures { IfOk result (λ lists. HasRows (joined by (content_of left.now) (content_of right.now))
+        range.start range.end left.now.cols lists) }
+{
+    let mut lists = FiberLists::with_capacity(alloc, room)?;
+    let mut places = Places::new(alloc);
+    let (mut row, past) = (range.start, range.end);
+    while row < past {
+        let next = copy_between(&mut lists, left, right, by, few, row..past)?;
+        row = next.saturating_add(1).min(past);
+        join_part(&mut lists, &mut places, left, right, by, next..row)?;
     }
     lists.shrink_to_fit();
     Ok(lists)

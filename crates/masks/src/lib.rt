@@ -12,11 +12,12 @@ mod join;
 mod keep;
 mod merge;
 mod pair;
+mod sparse;
 mod view;
 mod write;
 
 pub use alike::{are_alike, join_alike};
-pub use append::append_fibers;
+pub use append::{append_fibers, append_rows};
 pub use in_place::write_into;
 pub use join::{Joining, join_rows};
 pub use keep::keep_fiber;

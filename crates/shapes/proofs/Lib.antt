@@ -7,6 +7,7 @@ pub mod Gathering
 pub mod Going
 pub mod ListLaws
 pub mod Made
+pub mod OutsideLaws
 pub mod PickLaws
 pub mod PlaceLaws
 pub mod RowWords

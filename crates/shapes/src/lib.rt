@@ -9,6 +9,7 @@ mod extracting;
 mod filling;
 mod listing;
 mod members;
+mod outside;
 mod places;
 mod putting;
 mod resizing;

@@ -37,7 +37,7 @@ fn copy_once(alloc: Global, sorted: &[u64]) -> Result<Vec<u64>, NoMemory>
 }
 
 /// The part of a list that rises whose numbers lie in a range; by two binary searches.
-fn part_in(sorted: &[u64], range: Range<u64>) -> &[u64]
+pub(crate) fn part_in(sorted: &[u64], range: Range<u64>) -> &[u64]
     requires { IsNonDecreasing sorted.now }
     ensures rises { IsNonDecreasing result.now }
     ensures part { IsPartIn range.start range.end (has_index sorted.now) result.now }

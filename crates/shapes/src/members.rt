@@ -1,10 +1,12 @@
 //! Which indices a list has, for many looks.
 ghost use Rattle.std.specs.Prelude.{◌≡◌, ◌<◌, ℕ, false, get_or, length, IfOk};
 ghost use Rattle.std.specs.List.Sorted.{IsNonDecreasing};
-ghost use Rattle.shapes.specs.Lists.{has_index};
+ghost use Rattle.shapes.specs.Lists.{IsPartIn, has_index};
 
+use crate::listing::part_in;
 use model::NoMemory;
 use std::alloc::Global;
+use std::ops::Range;
 
 /// A list of indices in rising order, with marks for those up to its greatest one where that is low enough
 /// beside its length and beside the number of looks.
@@ -43,6 +45,14 @@ impl<'a> Members<'a> {
             Some(mark) => *mark,
             None => has(self.sorted, index),
         }
+    }
+
+    /// The indices of the list in a range, in rising order; by two binary searches.
+    pub(crate) fn part(&self, range: Range<u64>) -> &'a [u64]
+        ensures rises { IsNonDecreasing result.now }
+        ensures part { IsPartIn range.start range.end (has_index self.now.sorted.now) result.now }
+    {
+        part_in(self.sorted, range)
     }
 }
 

@@ -10,6 +10,7 @@ ghost use Rattle.shapes.specs.Rows.{HasRow, HasRowOf, IsRowOf};
 ghost use Rattle.shapes.specs.Sides.{HasKept, on_side, one_side};
 
 use crate::members::Members;
+use crate::outside::{few_named, keep_outside};
 use crate::rows::{put_row, walk_rows};
 use masks::{Joining, join_rows};
 use model::{IndexList, NoMemory};
@@ -63,9 +64,9 @@ pub fn put_rows(
 
 /// The members of lists of rows and of columns; None for all of them.
 #[derive(Drop)]
-struct Named<'a> {
-    rows: Option<Members<'a>>,
-    cols: Option<Members<'a>>,
+pub(crate) struct Named<'a> {
+    pub(crate) rows: Option<Members<'a>>,
+    pub(crate) cols: Option<Members<'a>>,
 }
 
 /// The members of a list, for so many looks.
@@ -128,6 +129,9 @@ fn keep_side(
         → block_content block i j ≡ one_side inside size a.now.cols rows cols (content_of a.now) i j) }
 {
     let (first, past) = (range.start, range.end);
+    if !inside && let Some(listed) = few_named(a, named, first..past) {
+        return keep_outside(alloc, a, named, listed, first, past);
+    }
     let count = a.fibers_in(first..past).len();
     let mut lists = FiberLists::with_capacity(alloc, count)?;
     let mut rest = walk_rows(a, range);
@@ -139,7 +143,7 @@ fn keep_side(
 }
 
 /// Puts what a row has on one side behind the rows in the lists.
-fn keep_row(
+pub(crate) fn keep_row(
     lists: &mut FiberLists,
     row: Row<'_>,
     named: &Named<'_>,
