@@ -20,6 +20,8 @@ pub struct Crew {
     pub awake: u64,
     /// The slot for which the calling thread sleeps.
     pub awaited: Option<u64>,
+    /// Workers that the first one is to start once there is work for it.
+    pub others: u64,
     /// How much work a worker is woken for.
     share: u64,
     /// How many threads can be at work at one time.
@@ -27,8 +29,9 @@ pub struct Crew {
 }
 
 impl Crew {
-    /// Nobody has come yet. A worker is woken for so much work, and so many threads can be at work at one time.
-    pub fn new(share: u64, processors: u64) -> Crew
+    /// Nobody has come yet. The first worker is to start so many others; a worker is woken for so much work, and so many
+    /// threads can be at work at one time.
+    pub fn new(others: u64, share: u64, processors: u64) -> Crew
         ensures sleeping { result.sleeping ≡ 0 }
         ensures called { result.called ≡ 0 }
         ensures closing { result.closing ≡ false }
@@ -40,6 +43,7 @@ impl Crew {
             called: 0,
             awake: 0,
             awaited: None,
+            others,
             share,
             processors,
         }
@@ -47,7 +51,7 @@ impl Crew {
 
     /// Nobody works beside the calling thread, and nobody comes.
     pub fn nobody() -> Crew {
-        Crew::new(0, 0)
+        Crew::new(0, 0, 0)
     }
 
     /// A worker begins.

@@ -9,6 +9,7 @@ mod named;
 mod pool;
 mod serving;
 mod shared;
+mod starting;
 mod tasks;
 #[cfg(test)]
 mod tests;

@@ -9,8 +9,9 @@ use crate::demand::work_of;
 use crate::fetching::{fetch_alone, fetch_beside, hand_over};
 use crate::gate::Gate;
 use crate::named::Named;
-use crate::serving::{leave, serve};
+use crate::serving::leave;
 use crate::shared::Shared;
+use crate::starting::start_first;
 use crate::tasks::Tasks;
 use board::Board;
 use calls::{Recipe, Roles};
@@ -34,7 +35,8 @@ pub struct Pool<J: Naming, R: Wait + Drop, G: Gate + Drop, P: Picker + Drop> {
     pub epoch: u64,
     named: Arc<Named<J>>,
     shared: Arc<Shared<J, G, P>>,
-    workers: Vec<JoinHandle<()>>,
+    /// The first worker, which starts and joins the others; none where it couldn't be started.
+    first: Option<JoinHandle<()>>,
     /// How much work a worker is woken for; 0 where there is none.
     share: u64,
     /// The tasks, while the calling thread has them, since no worker is awake. Else they lie under the lock.
@@ -52,6 +54,7 @@ where
     P: Picker + Drop + Send + 'static,
 {
     /// A pool of so many workers over a log that has the name of its type. A worker that can't be started is left out.
+    /// All but the first are started once there is work for them.
     pub fn new(
         rt: R,
         alloc: Global,
@@ -80,7 +83,7 @@ where
         ensures { IfOk result (λ pool. pool.epoch ≡ 0) }
     {
         let named = Arc::new(alloc, Named::new(log))?;
-        let crew = Crew::new(share, processors(&rt));
+        let crew = Crew::new(workers.saturating_sub(1), share, processors(&rt));
         let shared = Shared {
             locked: Mutex::new(Tasks::new(alloc, None, crew)),
             gate,
@@ -88,15 +91,19 @@ where
             come: Condvar::new(),
         };
         let shared = Arc::new(alloc, shared)?;
-        let workers = started(&rt, alloc, &named, &shared, workers);
-        let share = if workers.is_empty() { 0 } else { share };
+        let first = if workers == 0 {
+            None
+        } else {
+            start_first(&rt, alloc, &named, &shared).ok()
+        };
+        let share = if first.is_some() { share } else { 0 };
         Ok(Pool {
             rt,
             alloc,
             epoch: 0,
             named,
             shared,
-            workers,
+            first,
             share,
             own: Tasks::new(alloc, Some(picker), Crew::nobody()),
             spare: Board::new(alloc),
@@ -108,13 +115,13 @@ where
         let Pool {
             rt,
             shared,
-            workers,
+            first,
             ..
         } = self;
         shared.locked.lock(&rt).crew.closing = true;
         shared.more.notify_all();
-        for worker in workers {
-            worker.join(&rt);
+        if let Some(first) = first {
+            first.join(&rt);
         }
     }
 }
@@ -124,55 +131,6 @@ fn processors(rt: &impl Threads) -> u64 {
     match thread::available_parallelism(rt) {
         Ok(count) => count.get() as u64,
         Err(_) => u64::MAX,
-    }
-}
-
-/// As many workers as can be started, at most so many.
-fn started<J, R, G, P>(
-    rt: &R,
-    alloc: Global,
-    named: &Arc<Named<J>>,
-    shared: &Arc<Shared<J, G, P>>,
-    count: u64,
-) -> Vec<JoinHandle<()>>
-where
-    J: Naming + Send + Sync + 'static,
-    R: Wait + Threads + Clone + Drop + Send + 'static,
-    G: Gate + Drop + Send + Sync + 'static,
-    P: Picker + Drop + Send + 'static,
-{
-    let mut workers = Vec::new(alloc);
-    for _ in 0..count {
-        if workers.reserve(1).is_err() {
-            break;
-        }
-        let Ok(worker) = start(rt, alloc, named, shared) else {
-            break;
-        };
-        workers.push_reserved(worker);
-    }
-    workers
-}
-
-/// Starts a worker.
-fn start<J, R, G, P>(
-    rt: &R,
-    alloc: Global,
-    named: &Arc<Named<J>>,
-    shared: &Arc<Shared<J, G, P>>,
-) -> Result<JoinHandle<()>, NoMemory>
-where
-    J: Naming + Send + Sync + 'static,
-    R: Wait + Threads + Clone + Drop + Send + 'static,
-    G: Gate + Drop + Send + Sync + 'static,
-    P: Picker + Drop + Send + 'static,
-{
-    let named = Arc::try_clone(named).map_err(|_| NoMemory)?;
-    let shared = Arc::try_clone(shared).map_err(|_| NoMemory)?;
-    let theirs = rt.clone()?;
-    match thread::spawn(rt, move || serve(&theirs, alloc, &named, &shared)) {
-        Ok(worker) => Ok(worker),
-        Err(_) => Err(NoMemory),
     }
 }
 

@@ -19,14 +19,13 @@ use std::sync::{MutexGuard, Wait};
 // thread once it asks for a store; so workers are called for much work alone, and nothing hangs where none is. What a
 // task was made of is dropped by the thread that did it, once it holds no lock.
 
-/// Does tasks until the pool is closed.
+/// Does tasks until the pool is closed. Who does has begun (`Crew::begin`).
 pub fn serve<J: Naming, R: Wait, G: Gate + Drop, P: Picker + Drop>(
     rt: &R,
     alloc: Global,
     named: &Named<J>,
     shared: &Shared<J, G, P>,
 ) {
-    shared.locked.lock(rt).crew.begin();
     let mut last = None;
     for _ in rt.forever() {
         let mut guard = shared.locked.lock(rt);
