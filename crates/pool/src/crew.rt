@@ -29,8 +29,8 @@ pub struct Crew {
 }
 
 impl Crew {
-    /// Nobody has come yet. The first worker is to start so many others; a worker is woken for so much work, and so many
-    /// threads can be at work at one time.
+    /// Nobody has come yet. The first worker is to start so many others; a worker is woken for so much work, and so
+    /// many threads can be at work at one time.
     pub fn new(others: u64, share: u64, processors: u64) -> Crew
         ensures sleeping { result.sleeping ≡ 0 }
         ensures called { result.called ≡ 0 }
@@ -50,7 +50,10 @@ impl Crew {
     }
 
     /// Nobody works beside the calling thread, and nobody comes.
-    pub fn nobody() -> Crew {
+    pub fn nobody() -> Crew
+        ensures sleeping { result.sleeping ≡ 0 }
+        ensures called { result.called ≡ 0 }
+    {
         Crew::new(0, 0, 0)
     }
 
@@ -91,8 +94,8 @@ impl Crew {
         self.awake < self.processors
     }
 
-    /// Calls workers that sleep for what there is to do, where that is more than for those that are awake. Says how many
-    /// are to be woken.
+    /// Calls workers that sleep for what there is to do, where that is more than for those that are awake. Says how
+    /// many are to be woken.
     pub fn call(&mut self, demand: Demand) -> u64
         ensures { Calls self.old self.new result }
     {

@@ -1,5 +1,7 @@
-//! How much there is to do for threads that sleep: so many tasks, each about as much work as the one at hand, in entries
-//! that are read.
+//! How much there is to do for threads that sleep: so many tasks, each about as much work as the one at hand, in
+//! entries that are read.
+ghost use Rattle.std.specs.Prelude.{◌≡◌};
+
 use board::{Board, Look, Piece};
 use calls::Recipe;
 use std::sync::Arc;
@@ -20,18 +22,26 @@ pub struct Demand {
 }
 
 impl Demand {
-    pub fn new(tasks: u64, work: u64) -> Demand {
+    /// There are so many tasks of so much work each.
+    pub fn new(tasks: u64, work: u64) -> Demand
+        ensures tasks { result.tasks ≡ tasks }
+        ensures work { result.work ≡ work }
+    {
         Demand { tasks, work }
     }
 
     /// Nothing to do.
-    pub fn none() -> Demand {
+    pub fn none() -> Demand
+        ensures { result.tasks ≡ 0 }
+    {
         Demand::new(0, 0)
     }
 
     /// How many threads are worth while, where one is for such a share of work, but at most one for each part of a
     /// task. A share of 0 is worth nobody's while.
-    pub fn threads(&self, share: u64) -> u64 {
+    pub fn threads(&self, share: u64) -> u64
+        ensures none { self.now.tasks ≡ 0 → result ≡ 0 }
+    {
         let most = self.work.saturating_mul(self.tasks.min(PARTS));
         most.checked_div(share).unwrap_or(0)
     }

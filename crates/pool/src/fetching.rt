@@ -31,9 +31,9 @@ pub fn hand_over<J: Naming, R: Wait, G: Gate + Drop, P: Picker + Drop>(
     leave(shared, guard, None, called);
 }
 
-/// The store of a ticket's object. The calling thread, which has the tasks, does them until it has come. `Err`: there was
-/// so much to do that workers were woken for it, one for each such share; the tasks lie under the lock since, but for
-/// this one, which the calling thread did meanwhile.
+/// The store of a ticket's object. The calling thread, which has the tasks, does them until it has come. `Err`: there
+/// was so much to do that workers were woken for it, one for each such share; the tasks lie under the lock since, but
+/// for this one, which the calling thread did meanwhile.
 pub fn fetch_alone<J: Naming, R: Wait, G: Gate + Drop, P: Picker + Drop>(
     rt: &R,
     alloc: Global,

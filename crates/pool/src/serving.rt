@@ -13,11 +13,11 @@ use std::sync::{MutexGuard, Wait};
 // No task is forgotten. While the calling thread has the tasks, it alone does them, and no worker is out with one: it
 // takes them back only where none is awake. Else they lie under the lock. The calling thread sleeps only where its
 // store is still to come, and nothing can be done or so many workers are awake as there are processors: then some
-// worker is at work, which finds on its return that it is awaited, or takes what can be done. A worker sleeps only where
-// it saw, under the lock, that nothing can be done. It counts as one that sleeps until somebody calls it, who wakes one
-// then. Tasks that can be done and for which nobody is called are done by workers that are awake, or by the calling
-// thread once it asks for a store; so workers are called for much work alone, and nothing hangs where none is. What a
-// task was made of is dropped by the thread that did it, once it holds no lock.
+// worker is at work, which finds on its return that it is awaited, or takes what can be done. A worker sleeps only
+// where it saw, under the lock, that nothing can be done. It counts as one that sleeps until somebody calls it, who
+// wakes one then. Tasks that can be done and for which nobody is called are done by workers that are awake, or by the
+// calling thread once it asks for a store; so workers are called for much work alone, and nothing hangs where none is.
+// What a task was made of is dropped by the thread that did it, once it holds no lock.
 
 /// Does tasks until the pool is closed. Who does has begun (`Crew::begin`).
 pub fn serve<J: Naming, R: Wait, G: Gate + Drop, P: Picker + Drop>(

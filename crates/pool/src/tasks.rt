@@ -272,8 +272,8 @@ impl<J: Naming, P: Picker + Drop> Tasks<J, P> {
         }
     }
 
-    /// What the calling thread takes, which leaves the tasks to workers where so many are awake as can be at work at one
-    /// time.
+    /// What the calling thread takes, which leaves the tasks to workers where so many are awake as can be at work at
+    /// one time.
     pub fn take_beside(&mut self) -> Option<Work<J>>
         ensures none { result ≡ None → self.old.crew.awake < self.old.crew.processors
             → offered (view_of self.new.board).tasks (view_of self.new.board).progress ≡ [] }
