@@ -1,3 +1,4 @@
+pub mod BitLaws
 pub mod Folded
 pub mod Kept
 pub mod Lists

@@ -1,15 +1,18 @@
 //! Loops over words that depend on an operator: each is compiled for each operator, which is chosen
-//! once a call. Everything here is total and takes no memory.
+//! once a call. And lists of bits, which say at which places there is a word. Everything here is total
+//! and takes no memory.
 #![tactic(auto)]
 
 mod arms;
 mod binary;
+mod bits;
 mod bound;
 mod casts;
 mod monoid;
 mod unary;
 
 pub use binary::{unite_words, zip_words};
+pub use bits::{clear_bit, full_words, has_bit, packed, set_bit};
 pub use bound::{bind_first, bind_second};
 pub use casts::cast_words;
 pub use monoid::fold_words;

@@ -9,7 +9,8 @@ use Rattle.algebra.specs.Operators.{combines_by, offers}
 use Rattle.algebra.specs.Value.{IsWordOf}
 use Rattle.algebra.specs.declared.monoid.Monoid.{Monoid}
 use Rattle.algebra.specs.declared.semiring.Semiring.{Semiring}
-use Rattle.spgemm.specs.Dense.{AreColumnSums, AreMarkedSums, has_bit}
+use Rattle.lanes.specs.Bits.{has_bit}
+use Rattle.spgemm.specs.Dense.{AreColumnSums, AreMarkedSums}
 use Rattle.model.specs.declared.entry.Entry.{Entry}
 use Rattle.spgemm.specs.Terms.{apply, sum_at, term_at, times_row}
 use Rattle.spgemm.specs.declared.term.Term.{Term}

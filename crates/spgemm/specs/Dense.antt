@@ -4,16 +4,13 @@ use Rattle.std.specs.Prelude.{Option, None, Some, false, slice_index_or}
 use Rattle.std.specs.Int.{bit_at}
 use Rattle.std.specs.Option.{option_map}
 use Rattle.std.specs.List.{filter_map}
+use Rattle.lanes.specs.Bits.{has_bit}
 use Rattle.algebra.specs.Monoids.{identity_of}
 use Rattle.algebra.specs.declared.binary.BinaryOp.{BinaryOp}
 use Rattle.algebra.specs.declared.monoid.Monoid.{Monoid}
 use Rattle.model.specs.Entries.{count_from}
 use Rattle.spgemm.specs.declared.term.Term.{Term}
 use Rattle.spgemm.specs.Terms.{sum_at, term_at}
-
--- whether the bit of a place is set; 64 places have theirs in one word
-abbrev pub has_bit : List ℕ → ℕ → Bool
-has_bit bits at = bit_at (slice_index bits (at / 64)) (at % 64) == 1
 
 -- the word at a place whose bit is set
 abbrev pub word_in : List ℕ → List ℕ → ℕ → Option ℕ

@@ -5,17 +5,18 @@ ghost use Rattle.std.specs.Prelude.{◌++◌, ◌∷◌, [], List, length, map, 
 ghost use Rattle.std.specs.List.{All};
 ghost use Rattle.algebra.specs.declared.binary.BinaryOp.{BinaryOp};
 ghost use Rattle.store.specs.Fibers.{entries_along};
-ghost use Rattle.spgemm.specs.Dense.{AreClear, AreColumnSums, HaveRoom, found, has_bit, word_by, word_in};
+ghost use Rattle.lanes.specs.Bits.{has_bit};
+ghost use Rattle.spgemm.specs.Dense.{AreClear, AreColumnSums, HaveRoom, found, word_by, word_in};
 ghost use Rattle.spgemm.specs.Products.{HasOpenRow};
 ghost use Rattle.spgemm.specs.Terms.{AreFirstTerms, term_at, terms_of_row, times_row};
 ghost use Rattle.spgemm.specs.declared.term.Term.{Term};
 
-use crate::bits::{full_words, has_bit, set_bit};
 use crate::hints::RowHints;
 use crate::span::{Reach, widened_by_row, words_between};
 use crate::sums::push_sum;
 use crate::term::Term;
 use algebra::{BinaryOp, Semiring, with_semiring};
+use lanes::{full_words, has_bit, set_bit};
 use model::NoMemory;
 use std::ops::Range;
 use store::{FiberLists, Row, Store};

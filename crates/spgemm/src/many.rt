@@ -2,16 +2,17 @@
 ghost use Rattle.std.specs.Prelude.{◌≡◌, ℕ, ◌<◌, ◌≤◌, ◌*◌, ◌++◌, [], List, false, length, slice_index_or, OnOk};
 ghost use Rattle.std.specs.List.{All, AllPairs};
 ghost use Rattle.store.specs.Fibers.{entries_along};
-ghost use Rattle.spgemm.specs.Dense.{AreClear, AreMarkedSums, HaveRoom, has_bit};
+ghost use Rattle.lanes.specs.Bits.{has_bit};
+ghost use Rattle.spgemm.specs.Dense.{AreClear, AreMarkedSums, HaveRoom};
 ghost use Rattle.spgemm.specs.Products.{HasOpenRow};
 ghost use Rattle.spgemm.specs.Terms.{terms_of_row, times_row};
 ghost use Rattle.spgemm.specs.declared.term.Term.{Term};
 
 use crate::along::{add_along, are_consecutive};
-use crate::bits::packed;
 use crate::dense::gather;
 use crate::hints::RowHints;
 use algebra::{Semiring, with_semiring};
+use lanes::packed;
 use model::NoMemory;
 use store::{FiberLists, Row, Store};
 

@@ -1,6 +1,7 @@
 use Rattle.std.proofs.Common.{◌≡◌, ◌*◌, ◌/◌, ◌<◌, ◌≤◌, ◌⊎◌, ℕ, get_or, length, take, true}
 use Rattle.store.specs.Fibers.{entries_along}
-use Rattle.spgemm.specs.Dense.{AreColumnSums, has_bit}
+use Rattle.lanes.specs.Bits.{has_bit}
+use Rattle.spgemm.specs.Dense.{AreColumnSums}
 use Rattle.spgemm.specs.Terms.{terms_of_row}
 use Rattle.spgemm.proofs.dense.add_rows_by.Given as goal
 

@@ -4,7 +4,7 @@ use Rattle.std.proofs.lemmas.List.{map-append}
 use Rattle.spgemm.specs.Dense.{found, word_by}
 use Rattle.spgemm.specs.Terms.{term_at}
 use Rattle.spgemm.specs.declared.term.Term.{Term}
-use Rattle.spgemm.proofs.BitLaws.{cleared_less, ones_behind}
+use Rattle.lanes.proofs.BitLaws.{cleared_less, ones_behind}
 use Rattle.spgemm.proofs.DenseLaws.{AreLeft, all_found, all_left, found_zero, next_word}
 use Rattle.spgemm.proofs.dense.gather_word.Goals as goal
 

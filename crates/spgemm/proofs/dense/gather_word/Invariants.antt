@@ -2,7 +2,7 @@ use Rattle.std.proofs.Common.{◌≡◌, ◌+◌, ◌≤◌, ◌++◌, ℕ, map}
 use Rattle.std.specs.Prelude.{count_ones}
 use Rattle.std.specs.Vec.{vec_len, vec_capacity}
 use Rattle.spgemm.specs.Dense.{found, word_by}
-use Rattle.spgemm.proofs.BitLaws.{higher}
+use Rattle.lanes.proofs.BitLaws.{higher}
 use Rattle.spgemm.proofs.DenseLaws.{AreLeft}
 use Rattle.spgemm.proofs.dense.gather_word.Given as goal
 

@@ -1,5 +1,5 @@
 use Rattle.std.proofs.Common.{◌≡◌, ◌*◌, ◌<◌, ℕ, false, get_or, length}
-use Rattle.spgemm.specs.Dense.{has_bit}
+use Rattle.lanes.specs.Bits.{has_bit}
 use Rattle.spgemm.proofs.many.set_marked.Given as goal
 
 abbrev pub invariant-loop-at : goal.invariant-loop-at

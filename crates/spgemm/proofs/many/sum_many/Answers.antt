@@ -1,7 +1,7 @@
 use Rattle.std.proofs.Common.{rules, ◌≡◌, ◌<◌, ◌∙◌, ℕ, arith, false, get_or, length}
 use Rattle.std.proofs.lemmas.List.{with_items_is}
 use Rattle.store.specs.Fibers.{entries_along}
-use Rattle.spgemm.specs.Dense.{has_bit}
+use Rattle.lanes.specs.Bits.{has_bit}
 use Rattle.spgemm.specs.Terms.{terms_of_row}
 use Rattle.spgemm.proofs.DenseLaws.{below_width, dense_open_ok}
 use Rattle.spgemm.proofs.ManyLaws.{marked_sums}

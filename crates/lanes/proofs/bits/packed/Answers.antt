@@ -1,8 +1,8 @@
 use Rattle.std.proofs.Common.{◌<◌, ◌∙◌, ap, arith, eqb, false, get_or, inl, inr}
 use Rattle.std.proofs.lemmas.Bool.{cases_eq}
 use Rattle.std.proofs.lemmas.Nat.Bits.{bit_at-zero}
-use Rattle.spgemm.proofs.BitLaws.{mark_away, mark_here}
-use Rattle.spgemm.proofs.bits.packed.Goals as goal
+use Rattle.lanes.proofs.BitLaws.{mark_away, mark_here}
+use Rattle.lanes.proofs.bits.packed.Goals as goal
 
 pub loop-k-init : goal.loop-k-init
 loop-k-init c = record { done = λ at less. absurd (omega arith); left = λ at low. bit_at-zero at }

@@ -1,15 +1,15 @@
 -- Bits of places in lists of words.
 use lib.Count.{ones_step}
 use mir.Val.{bool_byte}
-use Rattle.std.proofs.Common.{◌≡◌, ◌≢◌, ℕ, zero, suc, ◌+◌, ◌-◌, ◌*◌, ◌/◌, ◌%◌, ◌^◌, ◌<◌, ◌≤◌, ◌||◌, Bool, true, false, eqb, List, length, get_or, set, bit_and, bit_or, w64, refl, ◌∙◌, ap, inl, inr, arith}
+use Rattle.std.proofs.Common.{◌≡◌, ◌≢◌, ℕ, zero, suc, ◌+◌, ◌-◌, ◌*◌, ◌/◌, ◌%◌, ◌^◌, ◌<◌, ◌≤◌, ◌&&◌, ◌||◌, not, Bool, true, false, eqb, List, length, get_or, set, bit_and, bit_or, w64, refl, ◌∙◌, ap, inl, inr, arith}
 use Rattle.std.specs.Int.{bit_at, bit_not, trailing_zeros}
 use Rattle.std.specs.Prelude.{count_ones}
 use Rattle.std.specs.Int.Bits.{or_zero_r}
 use Rattle.std.proofs.lemmas.Bool.{cases_eq, eq-eqb, ne_eqb}
 use Rattle.std.proofs.lemmas.List.{get_or-set_other, get_or-set_same}
 use Rattle.std.proofs.lemmas.Nat.{and_le_l}
-use Rattle.std.proofs.lemmas.Nat.Bits.{bit_at-suc, bit_at-trailing_zeros, bit_at_clear_same, bit_at_lowest, bit_at_set_other, bit_at_set_same}
-use Rattle.spgemm.specs.Dense.{has_bit}
+use Rattle.std.proofs.lemmas.Nat.Bits.{bit_at-suc, bit_at-trailing_zeros, bit_at_clear_other, bit_at_clear_same, bit_at_lowest, bit_at_set_other, bit_at_set_same}
+use Rattle.lanes.specs.Bits.{has_bit}
 
 abbrev with_bit : ℕ → ℕ → ℕ
 with_bit n i = bit_or n (1 * 2 ^ i % 18446744073709551616)
@@ -68,6 +68,32 @@ cleared_less n some fits =
           let there : bit_at (without_bit n place) place ≡ 1 = ap (λ m. bit_at m place) same ∙ low.1 in
           absurd (omega arith)
       | inr other ↦ omega arith
+    ]
+
+pub bit_cleared : (xs : List ℕ) (at k : ℕ) → at < 64 * length xs
+    → has_bit (set xs (at / 64) (without_bit (get_or xs (at / 64) 0) (at % 64))) k ≡ (not (eqb k at) && has_bit xs k)
+bit_cleared xs at k within =
+    let old = get_or xs (at / 64) 0 in
+    let new = without_bit old (at % 64) in
+    let inside : at / 64 < length xs = omega arith in
+    let small : at % 64 < 64 = omega arith in
+    elim (cases_eq (k / 64) (at / 64)) [
+      | inl word ↦
+          let here : get_or (set xs (at / 64) new) (k / 64) 0 ≡ new = ap (λ p. get_or (set xs (at / 64) new) p 0) word ∙ get_or-set_same xs (at / 64) new 0 inside in
+          let was : get_or xs (k / 64) 0 ≡ old = ap (λ p. get_or xs p 0) word in
+          elim (cases_eq (k % 64) (at % 64)) [
+            | inl same ↦
+                let is : k ≡ at = omega arith in
+                let gone : bit_at new (k % 64) ≡ 0 = ap (bit_at new) same ∙ bit_at_clear_same w64 old (at % 64) small in
+                rw (here, gone, eq-eqb k at is) refl
+            | inr other ↦
+                let is : k ≢ at = λ e. other (ap (λ n. n % 64) e) in
+                let stays : bit_at new (k % 64) ≡ bit_at old (k % 64) = bit_at_clear_other w64 old (at % 64) small (k % 64) (omega arith) other in
+                rw (here, stays, was, ne_eqb k at is) refl
+          ]
+      | inr away ↦
+          let is : k ≢ at = λ e. away (ap (λ n. n / 64) e) in
+          rw (get_or-set_other xs (at / 64) (k / 64) new 0 away, ne_eqb k at is) refl
     ]
 
 -- ---- how many bits are set

@@ -1,6 +1,6 @@
 use Rattle.std.proofs.Common.{◌≡◌, ◌-◌, ◌*◌, ◌<◌, ◌≤◌, ℕ, length, true}
-use Rattle.spgemm.specs.Dense.{has_bit}
-use Rattle.spgemm.proofs.bits.full_words.Given as goal
+use Rattle.lanes.specs.Bits.{has_bit}
+use Rattle.lanes.proofs.bits.full_words.Given as goal
 
 abbrev pub invariant-loop-count : goal.invariant-loop-count
 invariant-loop-count l = record {

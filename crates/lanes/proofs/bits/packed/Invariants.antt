@@ -1,6 +1,6 @@
 use Rattle.std.proofs.Common.{◌≡◌, ◌<◌, ◌≤◌, ℕ, eqb, false, get_or}
 use Rattle.std.specs.Int.{bit_at}
-use Rattle.spgemm.proofs.bits.packed.Given as goal
+use Rattle.lanes.proofs.bits.packed.Given as goal
 
 abbrev pub invariant-loop-k : goal.invariant-loop-k
 invariant-loop-k l = record {
