@@ -1,11 +1,12 @@
 -- Bits of places in lists of words.
 use lib.Count.{ones_step}
 use mir.Val.{bool_byte}
-use Rattle.std.proofs.Common.{◌≡◌, ◌≢◌, ℕ, zero, suc, ◌+◌, ◌-◌, ◌*◌, ◌/◌, ◌%◌, ◌^◌, ◌<◌, ◌≤◌, ◌&&◌, ◌||◌, not, Bool, true, false, eqb, List, length, get_or, set, bit_and, bit_or, w64, refl, ◌∙◌, ap, inl, inr, arith}
+use Rattle.std.proofs.Common.{◌≡◌, ◌≢◌, ℕ, zero, suc, ◌+◌, ◌-◌, ◌*◌, ◌/◌, ◌%◌, ◌^◌, ◌<◌, ◌≤◌, ◌&&◌, ◌||◌, not, Bool, true, false, eqb, ltb, List, length, get_or, set, bit_and, bit_or, w64, refl, sym, ◌∙◌, ap, inl, inr, arith}
 use Rattle.std.specs.Int.{bit_at, bit_not, trailing_zeros}
 use Rattle.std.specs.Prelude.{count_ones}
 use Rattle.std.specs.Int.Bits.{or_zero_r}
-use Rattle.std.proofs.lemmas.Bool.{cases_eq, eq-eqb, ne_eqb}
+use Rattle.std.proofs.lemmas.Bool.{cases_Bool, cases_eq, eq-eqb, ne_eqb}
+use Rattle.std.proofs.lemmas.Bool.Decides.{nat_tests}
 use Rattle.std.proofs.lemmas.List.{get_or-set_other, get_or-set_same}
 use Rattle.std.proofs.lemmas.Nat.{and_le_l}
 use Rattle.std.proofs.lemmas.Nat.Bits.{bit_at-suc, bit_at-trailing_zeros, bit_at_clear_other, bit_at_clear_same, bit_at_lowest, bit_at_set_other, bit_at_set_same}
@@ -95,6 +96,43 @@ bit_cleared xs at k within =
           let is : k ≢ at = λ e. away (ap (λ n. n / 64) e) in
           rw (get_or-set_other xs (at / 64) (k / 64) new 0 away, ne_eqb k at is) refl
     ]
+
+-- ---- bits taken from the lowest on
+
+-- bits are left from some place on, and those before it are done
+pub record AreLeft (bits left p : ℕ) : Type 0 where
+  pub p_le : p ≤ 64
+  pub low : (i : ℕ) → i < p → bit_at left i ≡ 0
+  pub high : (i : ℕ) → p ≤ i → i < 64 → bit_at left i ≡ bit_at bits i
+
+pub all_left : (bits : ℕ) → AreLeft bits bits 0
+all_left bits = record { p_le = omega arith; low = λ i less. absurd (omega arith); high = λ i low high. refl }
+
+-- the lowest bit that is left is the next one
+pub next_left : (bits left p : ℕ) → AreLeft bits left p → left ≢ 0 → left < 18446744073709551616
+    → let place = trailing_zeros w64 left in (place < 64) × AreLeft bits (without_bit left place) (place + 1) × (p ≤ place) × (bit_at bits place ≡ 1) × ((i : ℕ) → p ≤ i → i < place → bit_at bits i ≡ 0)
+next_left bits left p here some fits =
+    let first = bit_at-trailing_zeros w64 left (omega arith) fits in
+    let place = trailing_zeros w64 left in
+    let small : place < 64 = first.0 in
+    let not_done : p ≤ place = elim (cases_Bool (ltb place p)) [
+      | inl less ↦ let zero_there = here.low place (grind (arith, nat_tests)) in let one_there = first.1 in absurd (omega arith)
+      | inr behind ↦ grind (arith, nat_tests)
+    ] in (
+      small,
+      record {
+        p_le = omega arith;
+        low = λ i less.
+            elim (cases_eq i place) [
+              | inl same ↦ ap (bit_at (without_bit left place)) same ∙ bit_at_clear_same w64 left place small
+              | inr other ↦ bit_at_clear_other w64 left place small i (omega arith) other ∙ first.2 i (omega arith)
+            ];
+        high = λ i low high. bit_at_clear_other w64 left place small i high (λ e. absurd (omega arith)) ∙ here.high i (omega arith) high;
+      },
+      not_done,
+      sym (here.high place not_done small) ∙ first.1,
+      (λ i low high. sym (here.high i low (omega arith)) ∙ first.2 i high),
+    )
 
 -- ---- how many bits are set
 

@@ -24,7 +24,7 @@ use Rattle.store.proofs.Positions.{filter_whole}
 use Rattle.spgemm.specs.Products.{HasOpenRow, IsSumRow}
 use Rattle.spgemm.proofs.Kept.{terms_inside}
 use Rattle.spgemm.proofs.SlotRows.{all_slots, found_row}
-use Rattle.lanes.proofs.BitLaws.{without_bit}
+use Rattle.lanes.proofs.BitLaws.{AreLeft, next_left, without_bit}
 use Rattle.spgemm.proofs.SlotSums.{more_terms}
 
 -- ---- a product more
@@ -109,15 +109,6 @@ found_up_to f base p q word le none is =
 
 -- ---- the words of 64 places, one bit after another
 
--- bits are left from some place on, and those before it are done
-pub record AreLeft (bits left p : ℕ) : Type 0 where
-  pub p_le : p ≤ 64
-  pub low : (i : ℕ) → i < p → bit_at left i ≡ 0
-  pub high : (i : ℕ) → p ≤ i → i < 64 → bit_at left i ≡ bit_at bits i
-
-pub all_left : (bits : ℕ) → AreLeft bits bits 0
-all_left bits = record { p_le = omega arith; low = λ i less. absurd (omega arith); high = λ i low high. refl }
-
 no_word : (bits base : ℕ) (words : List ℕ) (at : ℕ) → bit_at bits (at - base) ≡ 0 → word_by bits base words at ≡ None
 no_word bits base words at none = rw none refl
 
@@ -129,30 +120,16 @@ a_word bits base words at there = rw there refl
 pub next_word : (bits left p base : ℕ) (words : List ℕ) → AreLeft bits left p → left ≢ 0 → left < 18446744073709551616
     → let place = trailing_zeros w64 left in (place < 64) × AreLeft bits (without_bit left place) (place + 1) × (p ≤ place) × (bit_at bits place ≡ 1) × (found (word_by bits base words) base (place + 1) ≡ found (word_by bits base words) base p ++ term_at (base + place) (get_or words (base + place) 0) ∷ [])
 next_word bits left p base words here some fits =
-    let first = bit_at-trailing_zeros w64 left (omega arith) fits in
+    let next = next_left bits left p here some fits in
     let place = trailing_zeros w64 left in
-    let small : place < 64 = first.0 in
-    let not_done : p ≤ place = elim (cases_Bool (ltb place p)) [
-      | inl less ↦ let zero_there = here.low place (grind (arith, nat_tests)) in let one_there = first.1 in absurd (omega arith)
-      | inr behind ↦ grind (arith, nat_tests)
-    ] in
-    let here_bit : bit_at bits place ≡ 1 = sym (here.high place not_done small) ∙ first.1 in
     let at_place : base + place - base ≡ place = omega arith in (
-      small,
-      record {
-        p_le = omega arith;
-        low = λ i less.
-            elim (cases_eq i place) [
-              | inl same ↦ ap (bit_at (without_bit left place)) same ∙ bit_at_clear_same w64 left place small
-              | inr other ↦ bit_at_clear_other w64 left place small i (omega arith) other ∙ first.2 i (omega arith)
-            ];
-        high = λ i low high. bit_at_clear_other w64 left place small i high (λ e. absurd (omega arith)) ∙ here.high i (omega arith) high;
-      },
-      not_done,
-      here_bit,
-      found_up_to (word_by bits base words) base p place (get_or words (base + place) 0) not_done
-          (λ at low high. no_word bits base words at (sym (here.high (at - base) (omega arith) (omega arith)) ∙ first.2 (at - base) (omega arith)))
-          (a_word bits base words (base + place) (ap (bit_at bits) at_place ∙ here_bit)),
+      next.0,
+      next.1,
+      next.2,
+      next.3,
+      found_up_to (word_by bits base words) base p place (get_or words (base + place) 0) next.2
+          (λ at low high. no_word bits base words at (next.4 (at - base) (omega arith) (omega arith)))
+          (a_word bits base words (base + place) (ap (bit_at bits) at_place ∙ next.3)),
     )
 
 -- where no bit is left, all words were found

@@ -4,8 +4,8 @@ use Rattle.std.proofs.lemmas.List.{map-append}
 use Rattle.spgemm.specs.Dense.{found, word_by}
 use Rattle.spgemm.specs.Terms.{term_at}
 use Rattle.spgemm.specs.declared.term.Term.{Term}
-use Rattle.lanes.proofs.BitLaws.{cleared_less, ones_behind}
-use Rattle.spgemm.proofs.DenseLaws.{AreLeft, all_found, all_left, found_zero, next_word}
+use Rattle.lanes.proofs.BitLaws.{AreLeft, all_left, cleared_less, ones_behind}
+use Rattle.spgemm.proofs.DenseLaws.{all_found, found_zero, next_word}
 use Rattle.spgemm.proofs.dense.gather_word.Goals as goal
 
 pub loop-left-init : goal.loop-left-init

@@ -2,8 +2,7 @@ use Rattle.std.proofs.Common.{◌≡◌, ◌+◌, ◌≤◌, ◌++◌, ℕ, map}
 use Rattle.std.specs.Prelude.{count_ones}
 use Rattle.std.specs.Vec.{vec_len, vec_capacity}
 use Rattle.spgemm.specs.Dense.{found, word_by}
-use Rattle.lanes.proofs.BitLaws.{higher}
-use Rattle.spgemm.proofs.DenseLaws.{AreLeft}
+use Rattle.lanes.proofs.BitLaws.{AreLeft, higher}
 use Rattle.spgemm.proofs.dense.gather_word.Given as goal
 
 abbrev pub invariant-loop-left : goal.invariant-loop-left
