@@ -1,0 +1,196 @@
+//! What a bitmap holds, position by position and column by column.
+ghost use Rattle.std.specs.Prelude.{◌≡◌, ◌<◌, ◌≤◌, ◌*◌, ◌^◌, ℕ, None, IfOk, is_some, length};
+ghost use Rattle.std.specs.List.{All, AllPairs};
+ghost use Rattle.std.specs.Option.{option_or};
+ghost use Rattle.model.specs.Entries.{InOrder, IsInside, word_at};
+ghost use Rattle.model.specs.Object.{with_entry, without_entry};
+ghost use Rattle.bitmap.specs.Bitmaps.{entries_down, place_of};
+
+use crate::column::ColumnLists;
+use lanes::{clear_bit, has_bit, set_bit};
+use model::NoMemory;
+use std::alloc::Global;
+use std::marker::Model;
+
+/// What a matrix of few positions holds: a word for each position, row by row, and a bit that says whether it is
+/// there. A vector is a column: its places are its rows.
+#[derive(Drop)]
+pub struct Bitmap {
+    rows: u64,
+    cols: u64,
+    count: u64,
+    bits: Vec<u64>,
+    words: Vec<u64>,
+}
+
+impl Model for Bitmap {
+    ghost use Rattle.bitmap.specs.Bitmaps.{HasPlaces, Held, stored};
+
+    ghost Value = { Held };
+
+    ghost view = { λ b. stored b.rows b.cols b.bits.items b.words.items };
+
+    ghost invariant = { λ b. HasPlaces b.rows b.cols b.count b.bits.items b.words.items };
+}
+
+impl Bitmap {
+    /// A bitmap of `rows` rows and `cols` columns with no entry.
+    pub fn new(alloc: Global, rows: u64, cols: u64) -> Result<Bitmap, NoMemory>
+        requires { rows * cols ≤ 2 ^ 24 }
+        ensures rows { IfOk result (λ b. b.rows ≡ rows) }
+        ensures cols { IfOk result (λ b. b.cols ≡ cols) }
+        ensures content { IfOk result (λ b. (i j : ℕ) → word_at b.entries i j ≡ None) }
+    {
+        let places = (rows * cols) as usize;
+        let bits = vec![in alloc; 0; places / 64 + 1]?;
+        let words = vec![in alloc; 0; places]?;
+        Ok(Bitmap {
+            rows,
+            cols,
+            count: 0,
+            bits,
+            words,
+        })
+    }
+
+    /// A bitmap with the same entries, in memory of its own.
+    pub fn try_clone(&self) -> Result<Bitmap, NoMemory>
+        ensures { IfOk result (λ b. b ≡ self.now) }
+    {
+        let bits = self.bits.clone()?;
+        let words = self.words.clone()?;
+        Ok(Bitmap {
+            bits,
+            words,
+            ..*self
+        })
+    }
+
+    /// The number of rows.
+    pub fn rows(&self) -> u64
+        ensures rows { result ≡ self.now.rows }
+
+        // What is true of every bitmap, for a caller, who sees no field.
+        ensures order { InOrder self.now.entries }
+        ensures inside { IsInside self.now.rows self.now.cols self.now.entries }
+        ensures small { self.now.rows * self.now.cols ≤ 2 ^ 24 }
+    {
+        self.rows
+    }
+
+    /// The number of columns.
+    pub fn cols(&self) -> u64
+        ensures { result ≡ self.now.cols }
+    {
+        self.cols
+    }
+
+    /// The number of entries, in constant time.
+    pub fn nvals(&self) -> u64
+        ensures { result ≡ length self.now.entries }
+    {
+        self.count
+    }
+
+    /// The word at row `i` and column `j`, where there is one. It takes constant time.
+    #[inline(always)]
+    pub fn get(&self, i: u64, j: u64) -> Option<u64>
+        ensures { result ≡ word_at self.now.entries i j }
+    {
+        if i >= self.rows || j >= self.cols {
+            return None;
+        }
+        let at = place(self.words.len(), self.rows, self.cols, i, j);
+        if has_bit(&self.bits, at) {
+            Some(self.words[at])
+        } else {
+            None
+        }
+    }
+
+    /// Whether there is an entry at row `i` and column `j`. It reads the bit alone.
+    #[inline(always)]
+    pub fn has(&self, i: u64, j: u64) -> bool
+        ensures { result ≡ is_some (word_at self.now.entries i j) }
+    {
+        if i >= self.rows || j >= self.cols {
+            return false;
+        }
+        has_bit(
+            &self.bits,
+            place(self.words.len(), self.rows, self.cols, i, j),
+        )
+    }
+
+    /// Sets the word at row `i` and column `j`. It takes constant time and no memory.
+    #[inline(always)]
+    pub fn set(&mut self, i: u64, j: u64, word: u64)
+        requires row { i < self.old.rows }
+        requires col { j < self.old.cols }
+        ensures content { (p q : ℕ)
+            → word_at self.new.entries p q ≡ with_entry (word_at self.old.entries) i j word p q }
+        ensures rows { self.new.rows ≡ self.old.rows }
+        ensures cols { self.new.cols ≡ self.old.cols }
+    {
+        let at = place(self.words.len(), self.rows, self.cols, i, j);
+        self.count += u64::from(!has_bit(&self.bits, at));
+        set_bit(&mut self.bits, at);
+        self.words[at] = word;
+    }
+
+    /// Removes the entry at row `i` and column `j`, where there is one. It takes constant time.
+    #[inline(always)]
+    pub fn remove(&mut self, i: u64, j: u64)
+        ensures content { (p q : ℕ)
+            → word_at self.new.entries p q ≡ without_entry (word_at self.old.entries) i j p q }
+        ensures rows { self.new.rows ≡ self.old.rows }
+        ensures cols { self.new.cols ≡ self.old.cols }
+    {
+        if i < self.rows && j < self.cols {
+            let at = place(self.words.len(), self.rows, self.cols, i, j);
+            self.count -= u64::from(has_bit(&self.bits, at));
+            clear_bit(&mut self.bits, at);
+        }
+    }
+
+    /// Puts the entries of a column over those that are there. Its time follows these entries alone, and it takes
+    /// no memory.
+    pub fn put_column(&mut self, rows: &[u64], words: &[u64])
+        requires column { self.old.cols ≡ 1 }
+        requires lengths { length words.now ≡ length rows.now }
+        requires rising { AllPairs (λ a b. a < b) rows.now }
+        requires inside { All (λ row. row < self.old.rows) rows.now }
+        ensures content { (p q : ℕ) → word_at self.new.entries p q
+            ≡ option_or (word_at (entries_down rows.now words.now) p q) (word_at self.old.entries p q) }
+        ensures rows { self.new.rows ≡ self.old.rows }
+        ensures cols { self.new.cols ≡ self.old.cols }
+    {
+        for k in 0..rows.len() {
+            self.set(rows[k], 0, words[k]);
+        }
+    }
+
+    /// The rows and the words of the entries of a column, in order, in lists of their own. It reads a bit for each
+    /// row, 64 at once, and a word for each entry.
+    pub fn column(&self, alloc: Global) -> Result<(Vec<u64>, Vec<u64>), NoMemory>
+        requires { self.now.cols ≡ 1 }
+        ensures lengths { IfOk result (λ r. length r.1.items ≡ length r.0.items) }
+        ensures entries { IfOk result (λ r. entries_down r.0.items r.1.items ≡ self.now.entries) }
+    {
+        let mut lists = ColumnLists::with_capacity(alloc, self.count as usize)?;
+        lists.gather(&self.bits, &self.words);
+        Ok(lists.into_lists())
+    }
+}
+
+/// The place of a position.
+#[inline(always)]
+fn place(places: usize, rows: u64, cols: u64, i: u64, j: u64) -> usize
+    requires places { places ≡ rows * cols }
+    requires row { i < rows }
+    requires col { j < cols }
+    ensures is { result ≡ place_of cols i j }
+    ensures inside { result < places }
+{
+    (i * cols + j) as usize
+}

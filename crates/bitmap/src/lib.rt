@@ -1,0 +1,7 @@
+//! Bitmaps: a word for each position of a small shape, and a bit that says whether it is there.
+#![tactic(auto)]
+
+mod bitmap;
+mod column;
+
+pub use bitmap::Bitmap;
