@@ -23,7 +23,8 @@ put_behind : (o : Option Entry) (rest others : List Entry)
 put_behind None rest others = refl
 put_behind (Some e) rest others = refl
 
-pub column_append : (f : ℕ → Option ℕ) (first m n : ℕ) → column_entries f first (m + n) ≡ column_entries f first m ++ column_entries f (first + m) n
+pub column_append : (f : ℕ → Option ℕ) (first m n : ℕ)
+    → column_entries f first (m + n) ≡ column_entries f first m ++ column_entries f (first + m) n
 unfolding count_from
 column_append f first zero n = let same : first + 0 ≡ first = omega arith in let all : 0 + n ≡ n = omega arith in rw (same, all) refl
 column_append f first (suc m) n =
@@ -31,7 +32,8 @@ column_append f first (suc m) n =
     let next : first + suc m ≡ first + 1 + m = omega arith in
     rw (all, next, column_append f (first + 1) m n) (put_behind (option_map (entry_at first 0) (f first)) (column_entries f (first + 1) m) (column_entries f (first + 1 + m) n))
 
-pub column_one : (f : ℕ → Option ℕ) (at : ℕ) → column_entries f at 1 ≡ cons_option (option_map (entry_at at 0) (f at)) []
+pub column_one : (f : ℕ → Option ℕ) (at : ℕ)
+    → column_entries f at 1 ≡ cons_option (option_map (entry_at at 0) (f at)) []
 unfolding count_from
 column_one f at = refl
 
@@ -63,14 +65,15 @@ column_most f first m n le =
 
 -- ---- the 64 places of a word of bits
 
-bit_here : (bits : List ℕ) (at k : ℕ) → 64 * at ≤ k → k < 64 * at + 64 → has_bit bits k ≡ eqb (bit_at (get_or bits at 0) (k - 64 * at)) 1
+bit_here : (bits : List ℕ) (at k : ℕ) → 64 * at ≤ k → k < 64 * at + 64
+    → has_bit bits k ≡ eqb (bit_at (get_or bits at 0) (k - 64 * at)) 1
 bit_here bits at k low high =
     let word : k / 64 ≡ at = omega arith in
     let place : k % 64 ≡ k - 64 * at = omega arith in
     rw (word, place) refl
 
-no_word : (bits words : List ℕ) (at k : ℕ) → 64 * at ≤ k → k < 64 * at + 64 → bit_at (get_or bits at 0) (k - 64 * at) ≡ 0
-    → word_in bits words k ≡ None
+no_word : (bits words : List ℕ) (at k : ℕ) → 64 * at ≤ k → k < 64 * at + 64
+    → bit_at (get_or bits at 0) (k - 64 * at) ≡ 0 → word_in bits words k ≡ None
 no_word bits words at k low high none =
     let bit : has_bit bits k ≡ false = bit_here bits at k low high ∙ ap (λ n. eqb n 1) none in
     rw bit refl
@@ -104,7 +107,8 @@ none_left bits words at p here =
 
 -- ---- all words of bits
 
-pub next_places : (f : ℕ → Option ℕ) (at : ℕ) → column_entries f 0 (64 * (at + 1)) ≡ column_entries f 0 (64 * at) ++ column_entries f (64 * at) 64
+pub next_places : (f : ℕ → Option ℕ) (at : ℕ)
+    → column_entries f 0 (64 * (at + 1)) ≡ column_entries f 0 (64 * at) ++ column_entries f (64 * at) 64
 next_places f at =
     let whole : 64 * (at + 1) ≡ 64 * at + 64 = omega arith in
     let from : 0 + 64 * at ≡ 64 * at = omega arith in

@@ -22,7 +22,8 @@ all_take : {X : Type 0} (P : X → Type 0) (n : ℕ) (xs : List X) → AllWithin
 all_take P n xs h k d within = let below : k < n = omega (arith, simp length-take at within) in rw get_or-take (h k d (omega arith) below)
 
 -- an entry more, at a position where there was none
-word_push : (es : List Entry) (e : Entry) (i j : ℕ) → word_at es e.row e.col ≡ None → word_at (es ++ e ∷ []) i j ≡ cond (eqb i e.row && eqb j e.col) (Some e.word) (word_at es i j)
+word_push : (es : List Entry) (e : Entry) (i j : ℕ) → word_at es e.row e.col ≡ None
+    → word_at (es ++ e ∷ []) i j ≡ cond (eqb i e.row && eqb j e.col) (Some e.word) (word_at es i j)
 unfolding word_at
 word_push es e i j none =
     elim (cases_Bool (eqb i e.row && eqb j e.col)) [
@@ -36,20 +37,23 @@ word_push es e i j none =
           rw away (append_right i j es (e ∷ []) one)
     ]
 
-pub over_more : (old : Content) (es : List Entry) (e : Entry) (i j : ℕ) → word_at es e.row e.col ≡ None → with_entry (over (word_at es) old) e.row e.col e.word i j ≡ over (word_at (es ++ e ∷ [])) old i j
+pub over_more : (old : Content) (es : List Entry) (e : Entry) (i j : ℕ) → word_at es e.row e.col ≡ None
+    → with_entry (over (word_at es) old) e.row e.col e.word i j ≡ over (word_at (es ++ e ∷ [])) old i j
 over_more old es e i j none =
     rw (word_push es e i j none) (elim (eqb i e.row && eqb j e.col) as (λ b. cond b (Some e.word) (option_or (word_at es i j) (old i j)) ≡ option_or (cond b (Some e.word) (word_at es i j)) (old i j)) [
       | true ↦ refl
       | false ↦ refl
     ])
 
-pub down_at : (rows words : List ℕ) (k : ℕ) (d : Entry) → length words ≡ length rows → k < length rows → get_or (entries_down rows words) k d ≡ entry_at (get_or rows k 0) 0 (get_or words k 0)
+pub down_at : (rows words : List ℕ) (k : ℕ) (d : Entry) → length words ≡ length rows → k < length rows
+    → get_or (entries_down rows words) k d ≡ entry_at (get_or rows k 0) 0 (get_or words k 0)
 down_at rows words k d same within =
     let long = length-zip rows words in
     get_or-map (λ at. entry_at at.0 0 at.1) (zip rows words) k (0, 0) d (omega arith) ∙ ap (λ (p : ℕ × ℕ). entry_at p.0 0 p.1) (get_or-zip rows words k (0, 0) within (omega arith))
 
 -- rows rise, so that the next row isn't one of those before
-pub next_absent : (rows words : List ℕ) (k : ℕ) → length words ≡ length rows → AllPairs (λ a b. a < b) rows → k < length rows → word_at (take k (entries_down rows words)) (get_or rows k 0) 0 ≡ None
+pub next_absent : (rows words : List ℕ) (k : ℕ) → length words ≡ length rows → AllPairs (λ a b. a < b) rows
+    → k < length rows → word_at (take k (entries_down rows words)) (get_or rows k 0) 0 ≡ None
 next_absent rows words k same rising within =
     word_at-none (get_or rows k 0) 0 (take k (entries_down rows words))
     (all_take (λ e. (eqb (get_or rows k 0) e.row && eqb 0 e.col) ≡ false) k (entries_down rows words)
@@ -59,7 +63,8 @@ next_absent rows words k same rising within =
     let row : (get_or (entries_down rows words) n d).row ≡ get_or rows n 0 = ap (λ (e : Entry). e.row) is in
     grind (arith, nat_tests)))
 
-pub next_over : (old : Content) (rows words : List ℕ) (k i j : ℕ) → length words ≡ length rows → AllPairs (λ a b. a < b) rows → k < length rows
+pub next_over : (old : Content) (rows words : List ℕ) (k i j : ℕ) → length words ≡ length rows
+    → AllPairs (λ a b. a < b) rows → k < length rows
     → with_entry (over (word_at (take k (entries_down rows words))) old) (get_or rows k 0) 0 (get_or words k 0) i j ≡ over (word_at (take (k + 1) (entries_down rows words))) old i j
 next_over old rows words k i j same rising within =
     let e = entry_at (get_or rows k 0) 0 (get_or words k 0) in

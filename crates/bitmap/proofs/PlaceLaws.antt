@@ -31,7 +31,8 @@ place_inside rows cols i j i_in j_in =
     omega arith
 
 -- whether a place is that of a position is whether both indices are
-pub is_place : (cols i j p q : ℕ) → j < cols → q < cols → eqb (place_of cols p q) (place_of cols i j) ≡ (eqb p i && eqb q j)
+pub is_place : (cols i j p q : ℕ) → j < cols → q < cols
+    → eqb (place_of cols p q) (place_of cols i j) ≡ (eqb p i && eqb q j)
 is_place cols i j p q j_in q_in =
     elim (cases_eq (place_of cols p q) (place_of cols i j)) [
       | inl same ↦
@@ -54,15 +55,19 @@ zero_at n at =
 
 -- ---- one entry
 
-pub held_is : (rows cols : ℕ) (bits words : List ℕ) (i j : ℕ) → i < rows → j < cols → map_of rows cols bits words i j ≡ word_in bits words (place_of cols i j)
+pub held_is : (rows cols : ℕ) (bits words : List ℕ) (i j : ℕ) → i < rows → j < cols
+    → map_of rows cols bits words i j ≡ word_in bits words (place_of cols i j)
 held_is rows cols bits words i j i_in j_in = let inside : (ltb i rows && ltb j cols) ≡ true = grind (arith, nat_tests) in entries_word rows cols (held cols bits words) i j ∙ ap (λ b. cond b (held cols bits words i j) None) inside
 
-pub none_outside : (rows cols : ℕ) (bits words : List ℕ) (i j : ℕ) → (ltb i rows && ltb j cols) ≡ false → map_of rows cols bits words i j ≡ None
+pub none_outside : (rows cols : ℕ) (bits words : List ℕ) (i j : ℕ) → (ltb i rows && ltb j cols) ≡ false
+    → map_of rows cols bits words i j ≡ None
 none_outside rows cols bits words i j out = entries_word rows cols (held cols bits words) i j ∙ ap (λ b. cond b (held cols bits words i j) None) out
 
 -- where the words of places change, so does the map
-pub changed : (rows cols : ℕ) (bits' words' : List ℕ) (f : ℕ → ℕ → Option ℕ) → ((p q : ℕ) → p < rows → q < cols → word_in bits' words' (place_of cols p q) ≡ f p q)
-    → ((p q : ℕ) → (ltb p rows && ltb q cols) ≡ false → f p q ≡ None) → (p q : ℕ) → map_of rows cols bits' words' p q ≡ f p q
+pub changed : (rows cols : ℕ) (bits' words' : List ℕ) (f : ℕ → ℕ → Option ℕ)
+    → ((p q : ℕ) → p < rows → q < cols → word_in bits' words' (place_of cols p q) ≡ f p q)
+    → ((p q : ℕ) → (ltb p rows && ltb q cols) ≡ false → f p q ≡ None) → (p q : ℕ)
+    → map_of rows cols bits' words' p q ≡ f p q
 changed rows cols bits' words' f inside outside p q =
     elim (cases_Bool (ltb p rows && ltb q cols)) [
       | inl in_it ↦ let p_in : p < rows = grind (arith, nat_tests) in let q_in : q < cols = grind (arith, nat_tests) in held_is rows cols bits' words' p q p_in q_in ∙ inside p q p_in q_in
@@ -88,21 +93,24 @@ pub record IsSet (at word : ℕ) (bits words bits' words' : List ℕ) : Type 0 w
   pub bits_are : (k : ℕ) → has_bit bits' k ≡ (eqb k at || has_bit bits k)
   pub words_are : words' ≡ set words at word
 
-pub set_written : (at word place : ℕ) (bits words now new bits' : List ℕ) → place ≡ at → at < length words → now ≡ bits
-    → ((k : ℕ) → has_bit new k ≡ (eqb k place || has_bit now k)) → bits' ≡ new → IsSet at word bits words bits' (set words place word)
+pub set_written : (at word place : ℕ) (bits words now new bits' : List ℕ) → place ≡ at → at < length words
+    → now ≡ bits → ((k : ℕ) → has_bit new k ≡ (eqb k place || has_bit now k)) → bits' ≡ new
+    → IsSet at word bits words bits' (set words place word)
 set_written at word place bits words now new bits' is inside same put back = record {
   within = inside;
   bits_are = λ k. ap (λ bs. has_bit bs k) back ∙ put k ∙ ap (λ n. eqb k n || has_bit now k) is ∙ ap (λ bs. eqb k at || has_bit bs k) same;
   words_are = ap (λ n. set words n word) is;
 }
 
-there_set : (at word : ℕ) (bits words bits' words' : List ℕ) → IsSet at word bits words bits' words' → word_in bits' words' at ≡ Some word
+there_set : (at word : ℕ) (bits words bits' words' : List ℕ) → IsSet at word bits words bits' words'
+    → word_in bits' words' at ≡ Some word
 there_set at word bits words bits' words' h =
     let there : has_bit bits' at ≡ true = h.bits_are at ∙ ap (λ b. b || has_bit bits at) (eq-eqb at at refl) in
     let word_is : get_or words' at 0 ≡ word = ap (λ ws. get_or ws at 0) h.words_are ∙ get_or-set_same words at word 0 h.within in
     rw (there, word_is) refl
 
-pub others_set : (rows cols i j word : ℕ) (bits words bits' words' : List ℕ) → j < cols → IsSet (place_of cols i j) word bits words bits' words'
+pub others_set : (rows cols i j word : ℕ) (bits words bits' words' : List ℕ) → j < cols
+    → IsSet (place_of cols i j) word bits words bits' words'
     → AgreeBut rows cols i j (held cols bits' words') (held cols bits words)
 others_set rows cols i j word bits words bits' words' j_in h p q p_in q_in away =
     let k = place_of cols p q in
@@ -113,11 +121,13 @@ others_set rows cols i j word bits words bits' words' j_in h p q p_in q_in away 
     let word_is : get_or words' k 0 ≡ get_or words k 0 = ap (λ ws. get_or ws k 0) h.words_are ∙ get_or-set_other words at k word 0 other in
     rw (bit, word_is) refl
 
-pub here_set : (cols i j word : ℕ) (bits words bits' words' : List ℕ) → IsSet (place_of cols i j) word bits words bits' words' → held cols bits' words' i j ≡ Some word
+pub here_set : (cols i j word : ℕ) (bits words bits' words' : List ℕ)
+    → IsSet (place_of cols i j) word bits words bits' words' → held cols bits' words' i j ≡ Some word
 here_set cols i j word bits words bits' words' h = there_set (place_of cols i j) word bits words bits' words' h
 
-pub set_is : (rows cols i j word : ℕ) (bits words bits' words' : List ℕ) → j < cols → IsSet (place_of cols i j) word bits words bits' words'
-    → i < rows → (p q : ℕ) → map_of rows cols bits' words' p q ≡ with_entry (map_of rows cols bits words) i j word p q
+pub set_is : (rows cols i j word : ℕ) (bits words bits' words' : List ℕ) → j < cols
+    → IsSet (place_of cols i j) word bits words bits' words' → i < rows → (p q : ℕ)
+    → map_of rows cols bits' words' p q ≡ with_entry (map_of rows cols bits words) i j word p q
 set_is rows cols i j word bits words bits' words' j_in h i_in =
     changed rows cols bits' words' (with_entry (map_of rows cols bits words) i j word)
     (λ p q p_in q_in. elim (cases_Bool (eqb p i && eqb q j)) [
@@ -142,14 +152,15 @@ pub cleared : (at place : ℕ) (bits now new bits' : List ℕ) → place ≡ at 
 cleared at place bits now new bits' is same put back k =
     ap (λ bs. has_bit bs k) back ∙ put k ∙ ap (λ n. not (eqb k n) && has_bit now k) is ∙ ap (λ bs. not (eqb k at) && has_bit bs k) same
 
-pub others_removed : (rows cols i j : ℕ) (bits words bits' : List ℕ) → j < cols → IsCleared (place_of cols i j) bits bits'
-    → AgreeBut rows cols i j (held cols bits' words) (held cols bits words)
+pub others_removed : (rows cols i j : ℕ) (bits words bits' : List ℕ) → j < cols
+    → IsCleared (place_of cols i j) bits bits' → AgreeBut rows cols i j (held cols bits' words) (held cols bits words)
 others_removed rows cols i j bits words bits' j_in h p q p_in q_in away =
     let k = place_of cols p q in
     let bit : has_bit bits' k ≡ has_bit bits k = h k ∙ ap (λ b. not b && has_bit bits k) (is_place cols i j p q j_in q_in ∙ away) in
     rw bit refl
 
-pub here_removed : (cols i j : ℕ) (bits words bits' : List ℕ) → IsCleared (place_of cols i j) bits bits' → held cols bits' words i j ≡ None
+pub here_removed : (cols i j : ℕ) (bits words bits' : List ℕ) → IsCleared (place_of cols i j) bits bits'
+    → held cols bits' words i j ≡ None
 here_removed cols i j bits words bits' h =
     let at = place_of cols i j in
     let gone : has_bit bits' at ≡ false = h at ∙ ap (λ b. not b && has_bit bits at) (eq-eqb at at refl) in
@@ -168,7 +179,8 @@ removed_is rows cols i j bits words bits' j_in h i_in =
     ])
     (λ p q out. let away : (eqb p i && eqb q j) ≡ false = grind (arith, nat_tests) in rw away (none_outside rows cols bits words p q out))
 
-pub removed_outside : (rows cols i j : ℕ) (bits words : List ℕ) → (ltb i rows && ltb j cols) ≡ false → (p q : ℕ) → map_of rows cols bits words p q ≡ without_entry (map_of rows cols bits words) i j p q
+pub removed_outside : (rows cols i j : ℕ) (bits words : List ℕ) → (ltb i rows && ltb j cols) ≡ false → (p q : ℕ)
+    → map_of rows cols bits words p q ≡ without_entry (map_of rows cols bits words) i j p q
 removed_outside rows cols i j bits words out p q =
     elim (cases_Bool (eqb p i && eqb q j)) [
       | inl here ↦ let out_too : (ltb p rows && ltb q cols) ≡ false = grind (arith, nat_tests) in rw here (none_outside rows cols bits words p q out_too)

@@ -50,7 +50,8 @@ append_left i j (x ∷ xs) ys none =
 abbrev pub row_part : Content → ℕ → ℕ → ℕ → List Entry
 row_part c r lo n = filter_map (λ k. option_map (entry_at r k) (c r k)) (count_from lo n)
 
-row_word : (c : Content) (r i j lo n : ℕ) → word_at (row_part c r lo n) i j ≡ cond (eqb i r && (leb lo j && ltb j (lo + n))) (c r j) None
+row_word : (c : Content) (r i j lo n : ℕ)
+    → word_at (row_part c r lo n) i j ≡ cond (eqb i r && (leb lo j && ltb j (lo + n))) (c r j) None
 unfolding count_from word_at
 row_word c r i j lo zero = let out : (eqb i r && (leb lo j && ltb j (lo + 0))) ≡ false = grind (arith, nat_tests) in rw out refl
 row_word c r i j lo (suc n) =
@@ -76,7 +77,8 @@ row_word c r i j lo (suc n) =
           skipped ∙ rest ∙ ap (λ b. cond b (c r j) None) same
     ]
 
-rows_word : (c : Content) (cols i j lo n : ℕ) → word_at (flat_map (row_entries cols c) (count_from lo n)) i j ≡ cond ((leb lo i && ltb i (lo + n)) && ltb j cols) (c i j) None
+rows_word : (c : Content) (cols i j lo n : ℕ)
+    → word_at (flat_map (row_entries cols c) (count_from lo n)) i j ≡ cond ((leb lo i && ltb i (lo + n)) && ltb j cols) (c i j) None
 unfolding count_from word_at
 rows_word c cols i j lo zero = let out : ((leb lo i && ltb i (lo + 0)) && ltb j cols) ≡ false = grind (arith, nat_tests) in rw out refl
 rows_word c cols i j lo (suc n) =
@@ -97,7 +99,8 @@ rows_word c cols i j lo (suc n) =
     ]
 
 -- the entries of a map inside a shape stand for the map there, and for nothing elsewhere
-pub entries_word : (rows cols : ℕ) (c : Content) (i j : ℕ) → word_at (entries_of rows cols c) i j ≡ cond (ltb i rows && ltb j cols) (c i j) None
+pub entries_word : (rows cols : ℕ) (c : Content) (i j : ℕ)
+    → word_at (entries_of rows cols c) i j ≡ cond (ltb i rows && ltb j cols) (c i j) None
 unfolding entries_of
 entries_word rows cols c i j =
     let same : ((leb 0 i && ltb i (0 + rows)) && ltb j cols) ≡ (ltb i rows && ltb j cols) = grind (arith, nat_tests) in

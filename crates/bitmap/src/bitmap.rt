@@ -100,7 +100,7 @@ impl Bitmap {
         if i >= self.rows || j >= self.cols {
             return None;
         }
-        let at = place(self.words.len(), self.rows, self.cols, i, j);
+        let at = self.place(i, j);
         if has_bit(&self.bits, at) {
             Some(self.words[at])
         } else {
@@ -116,10 +116,7 @@ impl Bitmap {
         if i >= self.rows || j >= self.cols {
             return false;
         }
-        has_bit(
-            &self.bits,
-            place(self.words.len(), self.rows, self.cols, i, j),
-        )
+        has_bit(&self.bits, self.place(i, j))
     }
 
     /// Sets the word at row `i` and column `j`. It takes constant time and no memory.
@@ -132,7 +129,7 @@ impl Bitmap {
         ensures rows { self.new.rows ≡ self.old.rows }
         ensures cols { self.new.cols ≡ self.old.cols }
     {
-        let at = place(self.words.len(), self.rows, self.cols, i, j);
+        let at = self.place(i, j);
         self.count += u64::from(!has_bit(&self.bits, at));
         set_bit(&mut self.bits, at);
         self.words[at] = word;
@@ -147,7 +144,7 @@ impl Bitmap {
         ensures cols { self.new.cols ≡ self.old.cols }
     {
         if i < self.rows && j < self.cols {
-            let at = place(self.words.len(), self.rows, self.cols, i, j);
+            let at = self.place(i, j);
             self.count -= u64::from(has_bit(&self.bits, at));
             clear_bit(&mut self.bits, at);
         }
@@ -181,16 +178,15 @@ impl Bitmap {
         lists.gather(&self.bits, &self.words);
         Ok(lists.into_lists())
     }
-}
 
-/// The place of a position.
-#[inline(always)]
-fn place(places: usize, rows: u64, cols: u64, i: u64, j: u64) -> usize
-    requires places { places ≡ rows * cols }
-    requires row { i < rows }
-    requires col { j < cols }
-    ensures is { result ≡ place_of cols i j }
-    ensures inside { result < places }
-{
-    (i * cols + j) as usize
+    /// The place of a position.
+    #[inline(always)]
+    fn place(&self, i: u64, j: u64) -> usize
+        requires row { i < self.now.rows }
+        requires col { j < self.now.cols }
+        ensures is { result ≡ place_of self.now.cols i j }
+        ensures inside { result < self.now.rows * self.now.cols }
+    {
+        (i * self.cols + j) as usize
+    }
 }

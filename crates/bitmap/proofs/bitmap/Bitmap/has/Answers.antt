@@ -20,6 +20,7 @@ returns c =
     let bits = s.bits.items in
     let words = s.words.items in
     let at = place_of s.cols c.args.i c.args.j in
-    let bit : c.has_bit.result ≡ has_bit bits at = c.has_bit.ensures ∙ ap (λ bs. has_bit bs c.place.result) c.deref.ensures.value ∙ ap (has_bit bits) c.place.ensures.is in
+    let place_is : c.place.result ≡ place_of s.cols c.args.i c.args.j = rw (← c.self.view_is) at c.place.ensures.is in
+    let bit : c.has_bit.result ≡ has_bit bits at = c.has_bit.ensures ∙ ap (λ bs. has_bit bs c.place.result) c.deref.ensures.value ∙ ap (has_bit bits) place_is in
     let is = held_is s.rows s.cols bits words c.args.i c.args.j (omega (arith, c.if-i-self.false)) (omega (arith, c.if-j-self.false)) in
     rw (← c.self.view_is) (bit ∙ sym (ap is_some is ∙ bit_is_some bits words at))
