@@ -3,13 +3,13 @@ use Rattle.std.proofs.Common.{◌≡◌, ◌≢◌, ℕ, zero, suc, ◌+◌, ◌
 use Rattle.std.specs.Int.{bit_at, trailing_zeros}
 use Rattle.std.specs.Option.{option_map}
 use Rattle.std.specs.List.{All, cons_option}
-use Rattle.std.proofs.lemmas.Bool.{cases_Bool, cases_eq}
+use Rattle.std.proofs.lemmas.Bool.{cases_Bool}
 use Rattle.std.proofs.lemmas.Bool.Decides.{nat_tests}
 use Rattle.std.proofs.lemmas.List.{append-nil, get_or-replicate, get_or_past, length-replicate}
 use Rattle.algebra.specs.declared.binary.BinaryOp.{BinaryOp}
 use Rattle.model.specs.declared.entry.Entry.{Entry}
 use Rattle.std.proofs.lemmas.List.Elements.{All-nil, All-cons, All-head, All-tail, All-weaker}
-use Rattle.std.proofs.lemmas.Nat.Bits.{bit_at-zero, bit_at-trailing_zeros, bit_at_clear_other, bit_at_clear_same}
+use Rattle.std.proofs.lemmas.Nat.Bits.{bit_at-zero}
 use Rattle.store.specs.Fibers.{entries_along}
 use Rattle.store.specs.Stored.{Stored, content_of}
 use Rattle.store.proofs.RowEntries.{row_entries-inside}

@@ -1,5 +1,5 @@
 -- Sums of a row that have a place for each column, and bits that say where there is one.
-use Rattle.std.specs.Prelude.{ℕ, ◌≡◌, ◌<◌, ◌-◌, ◌*◌, ◌/◌, ◌%◌, ◌==◌, if◌then◌else◌, Bool, List, length, slice_index}
+use Rattle.std.specs.Prelude.{ℕ, ◌≡◌, ◌<◌, ◌-◌, ◌*◌, ◌==◌, if◌then◌else◌, Bool, List, length, slice_index}
 use Rattle.std.specs.Prelude.{Option, None, Some, false, slice_index_or}
 use Rattle.std.specs.Int.{bit_at}
 use Rattle.std.specs.Option.{option_map}
