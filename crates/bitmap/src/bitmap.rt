@@ -87,7 +87,9 @@ impl Bitmap {
 
     /// The number of entries, in constant time.
     pub fn nvals(&self) -> u64
-        ensures { result ≡ length self.now.entries }
+        ensures number { result ≡ length self.now.entries }
+        ensures order { InOrder self.now.entries }
+        ensures inside { IsInside self.now.rows self.now.cols self.now.entries }
     {
         self.count
     }

@@ -9,13 +9,13 @@ use Rattle.calls.specs.declared.recipe.Recipe.TheVariants.{Computed}
 use Rattle.calls.specs.declared.role.Role.{Role}
 use Rattle.calls.specs.declared.role.Role.TheVariants.{Old, Mask, First, Second}
 use Rattle.calls.specs.declared.role.Roles.{Roles}
-use Rattle.calls.specs.Recipes.{known_of, meaning, meaning_of}
-use Rattle.kernel.specs.Blocks.{HasRows}
+use Rattle.calls.specs.Recipes.{meaning}
 use Rattle.kernel.specs.Overs.{beside}
+use Rattle.kernel.specs.Pieces.{IsResultOf}
 use Rattle.kernel.specs.Takes.{Takes, lent_in, map_in}
 use Rattle.model.specs.declared.shape.Signature.{Signature}
 use Rattle.model.specs.Object.{Content, cols_of, rows_of}
-use Rattle.store.specs.Stored.{Block, Stored, block_content, content_of}
+use Rattle.store.specs.Stored.{Stored, content_of}
 
 -- the old store that was taken out, and the others that are lent, are those that were there
 module _ (old : Stored) (lent : Roles (Bor Stored)) (had : Stores) (taken : stored_for had Old ≡ Some old)
@@ -35,25 +35,22 @@ module _ (old : Stored) (lent : Roles (Bor Stored)) (had : Stores) (taken : stor
   pub same-maps : (λ role. map_in (beside old lent role)) ≡ maps_had had
   same-maps = λ x role. map_in (same-stores role x)
 
--- a store that has what an operation leaves gives all rows of what its recipe makes
-pub over-rows : (recipe : Recipe) (computation : Computation) → recipe ≡ Computed computation
-    → (maps had : Role → Content) → maps ≡ had → (store : Stored) (block : Block)
+-- a store that has what an operation leaves is what its recipe makes
+pub over-result : (recipe : Recipe) (computation : Computation) → recipe ≡ Computed computation
+    → (maps had : Role → Content) → maps ≡ had → (store : Stored)
     → store.rows ≡ rows_of computation.accepted.value.out.c.shape
     → store.cols ≡ cols_of computation.accepted.value.out.c.shape
-    → ((i j : ℕ) → i < rows_of computation.accepted.value.out.c.shape → content_of store i j
+    → ((i j : ℕ) → content_of store i j
     ≡ meaning computation.accepted.value.out computation.accepted.value.operation maps i j)
-    → block.first ≡ 0 → block.past ≡ store.rows → block.cols ≡ store.cols
-    → ((i j : ℕ) → block_content block i j ≡ content_of store i j)
-    → HasRows 0 (rows_of (known_of recipe).shape) (cols_of (known_of recipe).shape) (meaning_of recipe had) block
-over-rows recipe computation is maps had same store block rows cols content first past columns words =
+    → IsResultOf recipe had store
+over-result recipe computation is maps had same store rows cols content =
     let accepted = computation.accepted.value in
-    let here : HasRows 0 (rows_of accepted.out.c.shape) (cols_of accepted.out.c.shape) (meaning accepted.out accepted.operation had) block = record {
-      first_is = first;
-      past_is = past ∙ rows;
-      cols_are = columns ∙ cols;
-      words = λ i j low high. words i j ∙ content i j high ∙ (λ x. meaning accepted.out accepted.operation (same x) i j);
+    let here : IsResultOf (Computed computation) had store = record {
+      rows = rows;
+      cols = cols;
+      content = λ i j. content i j ∙ (λ x. meaning accepted.out accepted.operation (same x) i j);
     } in
-    subst (λ (r : Recipe). HasRows 0 (rows_of (known_of r).shape) (cols_of (known_of r).shape) (meaning_of r had) block) (sym is) here
+    subst (λ (r : Recipe). IsResultOf r had store) (sym is) here
 
 -- stores that are lent, where the old one is as it was
 pub lent-kept : (lent : Roles (Bor Stored)) (had kept : Stores)

@@ -12,7 +12,7 @@ ghost use Rattle.calls.specs.declared.role.Role.{Role as AnyRole};
 ghost use Rattle.calls.specs.Recipes.{known_by, known_of};
 ghost use Rattle.desk.specs.Ends.{unfinished};
 ghost use Rattle.desk.specs.Works.{IsWork, object_by};
-ghost use Rattle.kernel.specs.Pieces.{HasForm, IsPieceOf};
+ghost use Rattle.kernel.specs.Pieces.{IsPieceOf};
 ghost use Rattle.kernel.specs.Takes.{Takes};
 ghost use Rattle.model.specs.Object.{rows_of};
 ghost use Rattle.runner.specs.Tickets.{IsStoreFor};
@@ -109,8 +109,7 @@ fn block_of(
     requires takes { (role : AnyRole) → Takes (known_by recipe.now role) (stored_for inputs.now role) }
     requires range { rows.start ≤ rows.end }
     requires rows { rows.end ≤ rows_of (known_of recipe.now).shape }
-    ensures piece { IfOk result (IsPieceOf recipe.now (maps_in inputs.entry.now) rows.start rows.end) }
-    ensures form { IfOk result (HasForm recipe.now) }
+    ensures { IfOk result (IsPieceOf recipe.now (maps_in inputs.entry.now) rows.start rows.end) }
 {
     match recipe {
         Recipe::Patch(patch) => {
@@ -139,14 +138,13 @@ fn computed_block(
 ) -> Result<Block, NoMemory>
     requires recipe { recipe.now ≡ Recipe.Computed computation.now }
     requires takes { (role : AnyRole) → Takes (known_by recipe.now role) (stored_for inputs.now role) }
-    ensures piece { IfOk result
+    ensures { IfOk result
         (IsPieceOf recipe.now (maps_in inputs.entry.now) 0 (rows_of (known_of recipe.now).shape)) }
-    ensures form { IfOk result (HasForm recipe.now) }
 {
     match take_unshared(&mut inputs.old) {
         Some(old) => {
             let store = computed_over(alloc, &computation.accepted, old, &inputs.lent())?;
-            Ok(Block::Rows(store.into_block()))
+            Ok(Block::Whole(store))
         }
         None => {
             let rows = recipe.signature().shape.rows();

@@ -12,12 +12,12 @@ use algebra::Function;
 use model::NoMemory;
 use std::alloc::Global;
 use std::ops::Range;
-use store::{FiberLists, Fibers, RowBlock, Store};
+use store::{FiberLists, Fibers, RowBlock, Sparse};
 
 /// The rows in a range of what a function gives for each entry of a store (`GrB_apply`).
 pub fn apply_rows(
     alloc: Global,
-    a: &Store,
+    a: &Sparse,
     function: Function,
     range: Range<u64>,
 ) -> Result<RowBlock, NoMemory>

@@ -17,7 +17,7 @@ use masks::{Joining, append_fibers, are_alike, join_alike};
 use model::NoMemory;
 use std::alloc::Global;
 use std::ops::Range;
-use store::{FiberLists, Fibers, RowBlock, Store};
+use store::{FiberLists, Fibers, RowBlock, Sparse};
 
 // About how many entries of each side are looked at together. What that takes stays in the cache.
 const PART: usize = 1024;
@@ -27,8 +27,8 @@ const PART: usize = 1024;
 /// beside the result memory for a part of some rows, or for the longest row.
 pub fn intersect_rows(
     alloc: Global,
-    a: &Store,
-    b: &Store,
+    a: &Sparse,
+    b: &Sparse,
     op: BinaryOp,
     range: Range<u64>,
 ) -> Result<RowBlock, NoMemory>
@@ -48,8 +48,8 @@ pub fn intersect_rows(
 /// The lists of the intersection of the rows in a range.
 fn intersect_lists(
     alloc: Global,
-    a: &Store,
-    b: &Store,
+    a: &Sparse,
+    b: &Sparse,
     op: BinaryOp,
     range: Range<u64>,
 ) -> Result<FiberLists, NoMemory>
@@ -76,8 +76,8 @@ fn intersect_lists(
 /// is let go.
 fn intersect_parts(
     alloc: Global,
-    a: &Store,
-    b: &Store,
+    a: &Sparse,
+    b: &Sparse,
     op: BinaryOp,
     range: Range<u64>,
     room: usize,
@@ -103,8 +103,8 @@ fn intersect_parts(
 fn intersect_part(
     lists: &mut FiberLists,
     pairs: &mut Pairs,
-    a: &Store,
-    b: &Store,
+    a: &Sparse,
+    b: &Sparse,
     op: BinaryOp,
     range: Range<u64>,
 ) -> Result<(), NoMemory>

@@ -15,13 +15,13 @@ use lanes::{fold_words, with_monoid};
 use model::NoMemory;
 use std::alloc::Global;
 use std::ops::Range;
-use store::{FiberEnd, FiberLists, Fibers, FlatFibers, RowBlock, Store};
+use store::{FiberEnd, FiberLists, Fibers, FlatFibers, RowBlock, Sparse};
 
 /// The rows in a range of the column of the sums of a store's rows by a monoid (`GrB_reduce` to a
 /// vector): each row that has an entry has a sum.
 pub fn reduce_rows(
     alloc: Global,
-    a: &Store,
+    a: &Sparse,
     monoid: Monoid,
     range: Range<u64>,
 ) -> Result<RowBlock, NoMemory>
@@ -124,7 +124,7 @@ fn sum_row(monoid: Monoid, words: &[u64]) -> u64
 
 /// The sum of all entries of a store by a monoid, the identity where there is none (`GrB_reduce` to a
 /// scalar). It takes no memory.
-pub fn reduce_all(a: &Store, monoid: Monoid) -> u64
+pub fn reduce_all(a: &Sparse, monoid: Monoid) -> u64
     ensures { result ≡ fold_of monoid.kind monoid.op.domain
         (all_words a.now.rows a.now.cols (content_of a.now)) }
 {

@@ -9,13 +9,13 @@ use algebra::IndexOp;
 use model::NoMemory;
 use std::alloc::Global;
 use std::ops::Range;
-use store::{RowBlock, Store};
+use store::{RowBlock, Sparse};
 
 /// The rows in a range of the entries of a store for which an index operator's answer, with the word `s`
 /// as its scalar, is true when it is cast to BOOL (`GrB_select`).
 pub fn select_rows(
     alloc: Global,
-    a: &Store,
+    a: &Sparse,
     op: IndexOp,
     s: u64,
     range: Range<u64>,

@@ -10,15 +10,15 @@ use masks::{Joining, join_rows};
 use model::NoMemory;
 use std::alloc::Global;
 use std::ops::Range;
-use store::{RowBlock, Store};
+use store::{RowBlock, Sparse};
 
 /// The rows in a range of the union of two stores of as many columns (`GrB_eWiseAdd`): at each position
 /// that both have, what the operator gives; at one that one has, its word, cast from the operator's
 /// domain to that of its answer. It takes time and memory for the entries of both in these rows.
 pub fn union_rows(
     alloc: Global,
-    a: &Store,
-    b: &Store,
+    a: &Sparse,
+    b: &Sparse,
     op: BinaryOp,
     range: Range<u64>,
 ) -> Result<RowBlock, NoMemory>

@@ -35,7 +35,7 @@ abbrev pub AreObjects : (Role → Option Signature) → (Role → Content) → T
 AreObjects known maps = (role : Role) → MatchOption (known role) (maps role ≡ no_content)
     (λ signature. IsObject (object_with signature (maps role)))
 
-map-taken : (known : Option Signature) (stored : Option Stored) → Takes known stored
+pub map-taken : (known : Option Signature) (stored : Option Stored) → Takes known stored
     → MatchOption known (map_in stored ≡ no_content) (λ signature. IsObject (object_with signature (map_in stored)))
 map-taken (Some known) stored takes = takes-object known stored takes
 map-taken None None takes = refl

@@ -89,9 +89,10 @@ fn over_old(
         then block_content block i j
         else content_of old.now i j)) }
 {
+    let old = old.as_sparse(alloc)?;
     match region {
-        Region::One(rows) => put_rows(alloc, old, block, rows, &IndexList::all()),
-        Region::Two(rows, cols) => put_rows(alloc, old, block, rows, cols),
+        Region::One(rows) => put_rows(alloc, old.get(), block, rows, &IndexList::all()),
+        Region::Two(rows, cols) => put_rows(alloc, old.get(), block, rows, cols),
     }
 }
 

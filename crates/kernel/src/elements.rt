@@ -37,7 +37,8 @@ pub(crate) fn applied_rows(
     let Some(function) = function.resolve() else {
         unreachable!();
     };
-    apply_rows(alloc, a.store, function, range)
+    let a = a.store.as_sparse(alloc)?;
+    apply_rows(alloc, a.get(), function, range)
 }
 
 /// The rows in a range of the entries for which an index operator's answer is true.
@@ -58,7 +59,8 @@ pub(crate) fn selected_rows(
         unreachable!();
     };
     let s = op.scalar().wrapped(scalar);
-    select_rows(alloc, a.store, op, s, range)
+    let a = a.store.as_sparse(alloc)?;
+    select_rows(alloc, a.get(), op, s, range)
 }
 
 /// The sums of the rows in a range.
@@ -77,7 +79,8 @@ pub(crate) fn summed_rows(
     let Some(monoid) = monoid.resolve() else {
         unreachable!();
     };
-    reduce_rows(alloc, a.store, monoid, range)
+    let a = a.store.as_sparse(alloc)?;
+    reduce_rows(alloc, a.get(), monoid, range)
 }
 
 /// The rows in a range of an operator's answers for two inputs, at the positions that either or both have.
@@ -100,8 +103,10 @@ pub(crate) fn combined_rows(
     let Some(op) = op.resolve() else {
         unreachable!();
     };
+    let a = a.store.as_sparse(alloc)?;
+    let b = b.store.as_sparse(alloc)?;
     match positions {
-        Positions::Union => union_rows(alloc, a.store, b.store, op, range),
-        Positions::Intersection => intersect_rows(alloc, a.store, b.store, op, range),
+        Positions::Union => union_rows(alloc, a.get(), b.get(), op, range),
+        Positions::Intersection => intersect_rows(alloc, a.get(), b.get(), op, range),
     }
 }

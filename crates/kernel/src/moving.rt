@@ -3,15 +3,37 @@ ghost use Rattle.std.specs.Prelude.{◌≡◌, ◌<◌, ◌≤◌, ℕ, IfOk, tr
 ghost use Rattle.kernel.specs.Blocks.{HasRows};
 ghost use Rattle.model.specs.Indices.{are_below, are_distinct, count_of};
 ghost use Rattle.model.specs.Object.{cols_of, rows_of, transposed_content};
-ghost use Rattle.model.specs.Regions.{cols_in, extracted, filled, placed, rows_in};
+ghost use Rattle.model.specs.Regions.{cols_in, cut_to, extracted, filled, placed, rows_in};
 ghost use Rattle.store.specs.Stored.{content_of};
 
 use calls::{IndexList, Region, Shape};
 use model::NoMemory;
-use shapes::{assign_const_rows, assign_rows, extract_rows, transpose};
+use shapes::{assign_const_rows, assign_rows, extract_rows, resize, transpose};
 use std::alloc::Global;
 use std::ops::Range;
 use store::{RowBlock, Store};
+
+/// A store in another shape.
+pub(crate) fn resized(alloc: Global, old: &Store, rows: u64, cols: u64) -> Result<Store, NoMemory>
+    ensures rows { IfOk result (λ store. store.rows ≡ rows) }
+    ensures cols { IfOk result (λ store. store.cols ≡ cols) }
+    ensures content { IfOk result (λ store. (i j : ℕ) → content_of store i j
+        ≡ cut_to rows cols (content_of old.now) i j) }
+{
+    let old = old.as_sparse(alloc)?;
+    Ok(Store::from_sparse(resize(alloc, old.get(), rows, cols)?))
+}
+
+/// The transpose of a store.
+pub(crate) fn transposed(alloc: Global, a: &Store) -> Result<Store, NoMemory>
+    ensures rows { IfOk result (λ store. store.rows ≡ a.now.cols) }
+    ensures cols { IfOk result (λ store. store.cols ≡ a.now.rows) }
+    ensures content { IfOk result (λ store. (i j : ℕ) → content_of store i j
+        ≡ transposed_content (content_of a.now) i j) }
+{
+    let a = a.as_sparse(alloc)?;
+    Ok(Store::from_sparse(transpose(alloc, a.get())?))
+}
 
 /// The rows in a range of the transpose of a store.
 pub(crate) fn transposed_rows(
@@ -23,7 +45,7 @@ pub(crate) fn transposed_rows(
     requires rows { range.end ≤ a.now.cols }
     ensures { IfOk result (HasRows range.start range.end a.now.rows (transposed_content (content_of a.now))) }
 {
-    let t = transpose(alloc, a)?;
+    let t = transpose(alloc, a.as_sparse(alloc)?.get())?;
     if range.start == 0 && range.end == t.rows() {
         return Ok(t.into_block());
     }
@@ -44,9 +66,10 @@ pub(crate) fn extracted_rows(
     ensures { IfOk result (HasRows range.start range.end (count_of a.now.cols (cols_in region.now))
         (extracted a.now.rows a.now.cols (rows_in region.now) (cols_in region.now) (content_of a.now))) }
 {
+    let a = a.as_sparse(alloc)?;
     match region {
-        Region::One(rows) => extract_rows(alloc, a, rows, &IndexList::all(), range),
-        Region::Two(rows, cols) => extract_rows(alloc, a, rows, cols, range),
+        Region::One(rows) => extract_rows(alloc, a.get(), rows, &IndexList::all(), range),
+        Region::Two(rows, cols) => extract_rows(alloc, a.get(), rows, cols, range),
     }
 }
 
@@ -70,9 +93,10 @@ pub(crate) fn placed_rows(
         (placed (rows_of shape) (cols_of shape) (rows_in region.now) (cols_in region.now) (content_of a.now))) }
 {
     let shape = (shape.rows(), shape.cols());
+    let a = a.as_sparse(alloc)?;
     match region {
-        Region::One(rows) => assign_rows(alloc, shape, a, rows, &IndexList::all(), range),
-        Region::Two(rows, cols) => assign_rows(alloc, shape, a, rows, cols, range),
+        Region::One(rows) => assign_rows(alloc, shape, a.get(), rows, &IndexList::all(), range),
+        Region::Two(rows, cols) => assign_rows(alloc, shape, a.get(), rows, cols, range),
     }
 }
 

@@ -37,7 +37,7 @@ pub fn computed_over(
         (beside old stores.now role) }
     ensures rows { IfOk result (λ store. store.rows ≡ rows_of accepted.now.out.c.shape) }
     ensures cols { IfOk result (λ store. store.cols ≡ cols_of accepted.now.out.c.shape) }
-    ensures content { IfOk result (λ store. (i j : ℕ) → i < rows_of accepted.now.out.c.shape → content_of store i j
+    ensures content { IfOk result (λ store. (i j : ℕ) → content_of store i j
         ≡ meaning accepted.now.out accepted.now.operation (λ role. map_in (beside old stores.now role)) i j) }
 {
     let mut old = old;
@@ -45,6 +45,7 @@ pub fn computed_over(
     let mask = mask_in(accepted, stores.mask);
     let accum = accumulator_in(accepted);
     write_into(alloc, &mut old, t, mask, accum, accepted.out.desc.replace)?;
+    prove_eq!(old.rows(), accepted.out.c.shape.rows());
     Ok(old)
 }
 

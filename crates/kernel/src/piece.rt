@@ -16,11 +16,11 @@ ghost use Rattle.store.specs.Stored.{block_content, content_of};
 
 use crate::block::Block;
 use crate::input::Input;
+use crate::moving::{resized, transposed};
 use crate::task::{Task, task_rows};
 use calls::{Accepted, Operation, Out, Patch, Recipe, Roles, Signature};
 use model::{Lent, NoMemory};
 use patch::apply_edits;
-use shapes::{resize, transpose};
 use std::alloc::Global;
 use std::ops::Range;
 use std::sync::Arc;
@@ -50,9 +50,9 @@ pub fn eval_piece(
         Recipe::Patch(patch) => { edited(alloc, patch, taking(patch.of, stores.old).try_clone()?)? }
         Recipe::Resized(change) => {
             let old = taking(change.of, stores.old);
-            resize(alloc, old, change.shape.rows(), change.shape.cols())?
+            resized(alloc, old, change.shape.rows(), change.shape.cols())?
         }
-        Recipe::Transposed(turn) => transpose(alloc, taking(turn.of, stores.first))?,
+        Recipe::Transposed(turn) => transposed(alloc, taking(turn.of, stores.first))?,
     };
     Ok(Block::Whole(store))
 }

@@ -48,5 +48,13 @@ pub(crate) fn task_rows(
     let mask = mask_of(task);
     let t = computed_rows(alloc, task, mask, range)?;
     let Out { c, desc, .. } = task.out;
-    write_back(alloc, c.store, t, mask, accumulator_of(task), desc.replace)
+    let old = c.store.as_sparse(alloc)?;
+    write_back(
+        alloc,
+        old.get(),
+        t,
+        mask,
+        accumulator_of(task),
+        desc.replace,
+    )
 }

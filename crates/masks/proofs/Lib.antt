@@ -9,6 +9,7 @@ pub mod Joins
 mod Keeping
 pub mod Keeps
 mod KeptFiber
+pub mod MarkedLaws
 mod Merges
 mod Merging
 mod PairLaws

@@ -9,7 +9,7 @@ ghost use Rattle.store.specs.declared.lists.FiberEnd.{FiberEnd as End};
 
 use model::NoMemory;
 use std::ops::Range;
-use store::{FiberEnd, FiberLists, Fibers, FlatFibers, Store};
+use store::{FiberEnd, FiberLists, Fibers, FlatFibers, Sparse};
 
 /// Puts fibers, which lie flat in lists of their own, behind those in the lists. Where the first of them is at
 /// the outer index of the last one, that one goes on.
@@ -34,7 +34,11 @@ pub fn append_fibers(
 
 /// Puts the rows of a store in a range behind those in the lists, as they lie. The range may be empty or reach
 /// beyond the rows.
-pub fn append_rows(lists: &mut FiberLists, store: &Store, range: Range<u64>) -> Result<(), NoMemory>
+pub fn append_rows(
+    lists: &mut FiberLists,
+    store: &Sparse,
+    range: Range<u64>,
+) -> Result<(), NoMemory>
     requires flat { AreFlat lists.old.ends.items lists.old.inner.items lists.old.words.items }
     requires front { AreIn 0 range.start store.now.cols (along store.now.cols (entries_in lists.old)) }
     ensures { OnOk result

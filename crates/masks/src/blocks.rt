@@ -5,13 +5,14 @@ ghost use Rattle.masks.specs.Joins.{alone_of, joined};
 ghost use Rattle.masks.specs.Masks.{lets_word};
 
 use crate::keep::keep_entries;
-use crate::{Joining, StoredMask, join_rows};
+use crate::marked::keep_marked;
+use crate::{Joining, MaskTest, StoredMask, join_rows};
 use model::NoMemory;
 use std::alloc::Global;
-use store::{RowBlock, Store};
+use store::{Form, RowBlock, Sparse};
 
-/// What a mask keeps of a block, in its memory.
-pub(crate) fn keep_block(block: RowBlock, mask: StoredMask<'_>) -> RowBlock
+/// What a mask keeps of a block, in its memory. A bitmap is asked at the block's entries alone.
+pub fn keep_block(block: RowBlock, mask: StoredMask<'_>) -> RowBlock
     requires { block.cols ≡ mask.store.now.cols }
     ensures first { result.first ≡ block.first }
     ensures past { result.past ≡ block.past }
@@ -19,12 +20,23 @@ pub(crate) fn keep_block(block: RowBlock, mask: StoredMask<'_>) -> RowBlock
     ensures words { (i j : ℕ) → block.first ≤ i → i < block.past → block_content result i j
         ≡ (if lets_word mask.entry.test (content_of mask.entry.store.now i j) then block_content block i j else None) }
 {
+    match mask.store.form() {
+        Form::Sparse(sparse) => keep_listed(block, mask.test, sparse),
+        Form::Bitmap(bitmap) => keep_marked(block, mask.test, bitmap),
+    }
+}
+
+/// What a mask keeps of a block, by the lists of its store.
+fn keep_listed(block: RowBlock, test: MaskTest, stored: &Sparse) -> RowBlock
+    requires { block.cols ≡ stored.now.cols }
+    ensures first { result.first ≡ block.first }
+    ensures past { result.past ≡ block.past }
+    ensures cols { result.cols ≡ block.cols }
+    ensures words { (i j : ℕ) → block.first ≤ i → i < block.past → block_content result i j
+        ≡ (if lets_word test (content_of stored.now i j) then block_content block i j else None) }
+{
     let (first, past, cols) = (block.first(), block.past(), block.cols());
-    let lists = keep_entries(
-        block.into_lists(),
-        mask.test,
-        mask.store.fibers_in(first..past),
-    );
+    let lists = keep_entries(block.into_lists(), test, stored.fibers_in(first..past));
     RowBlock::of_fibers(first, past, cols, lists)
 }
 
@@ -52,7 +64,7 @@ pub(crate) fn join_blocks(
         return Ok(right);
     }
     let (first, past) = (right.first(), right.past());
-    let left = Store::from_block(past, left);
-    let right = Store::from_block(past, right);
+    let left = Sparse::from_block(past, left);
+    let right = Sparse::from_block(past, right);
     join_rows(alloc, &left, &right, by, first..past)
 }

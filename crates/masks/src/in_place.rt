@@ -15,7 +15,7 @@ use crate::{Mask, StoredMask, are_alike, write_back};
 use algebra::BinaryOp;
 use model::NoMemory;
 use std::alloc::Global;
-use store::{FiberLists, RowBlock, Store};
+use store::{FiberLists, Form, RowBlock, Store};
 
 /// Writes what a call leaves in its output into that store itself: what `write_back` gives for all rows. Where the
 /// store has one column, nothing is replaced and few entries are written beside those that are there, they are put
@@ -45,7 +45,7 @@ pub fn write_into(
         }
         (Mask::By(mask), None, false) => write_inside(alloc, old, keep_block(t, mask), mask),
         (mask, accum, replace) => {
-            let block = write_back(alloc, old, t, mask, accum, replace)?;
+            let block = write_back(alloc, old.as_sparse(alloc)?.get(), t, mask, accum, replace)?;
             renew(old, block);
             Ok(())
         }
@@ -69,10 +69,11 @@ fn accumulate_into(
     ensures refused { OnErr result (old.new ≡ old.old) }
 {
     if is_put_into(&t, old) {
+        old.settle(alloc);
         let sums = accumulate_words(old, t, op);
         return old.put_block(&sums);
     }
-    let block = accumulate(alloc, old, t, op)?;
+    let block = accumulate(alloc, old.as_sparse(alloc)?.get(), t, op)?;
     renew(old, block);
     Ok(())
 }
@@ -99,9 +100,10 @@ fn write_inside(
     ensures refused { OnErr result (old.new ≡ old.old) }
 {
     if is_put_into(&inside, old) && is_all(&inside, mask) {
+        old.settle(alloc);
         return old.put_block(&inside);
     }
-    let block = write_over(alloc, old, inside, mask)?;
+    let block = write_over(alloc, old.as_sparse(alloc)?.get(), inside, mask)?;
     renew(old, block);
     Ok(())
 }
@@ -110,14 +112,21 @@ fn write_inside(
 /// behind the first new one takes less than to write all anew.
 const MUCH_MORE: u64 = 16;
 
-/// Whether a block's entries are put into a store: where this has one column, and they are few beside its entries.
+/// Whether a block's entries are put into a store: into a bitmap, and into lists that are one column, where they are
+/// few beside its entries.
 fn is_put_into(block: &RowBlock, store: &Store) -> bool
     ensures { IsTrue result → store.now.cols ≡ 1 }
 {
-    store.cols() == 1 && block.fibers().len() as u64 <= store.nvals() / MUCH_MORE
+    match store.form() {
+        Form::Bitmap(_) => true,
+        Form::Sparse(lists) => {
+            lists.cols() == 1 && block.fibers().len() as u64 <= lists.nvals() / MUCH_MORE
+        }
+    }
 }
 
-/// Whether a mask lets the positions of its store through, and a block has an entry at each.
+/// Whether a mask lets the positions of its store through, and a block has an entry at each. A bitmap isn't looked
+/// through for it.
 fn is_all(block: &RowBlock, mask: StoredMask<'_>) -> bool
     requires first { block.now.first ≡ 0 }
     requires cols { block.now.cols ≡ mask.store.now.cols }
@@ -125,7 +134,10 @@ fn is_all(block: &RowBlock, mask: StoredMask<'_>) -> bool
         → IsTrue (lets_word mask.entry.test (content_of mask.entry.store.now i j))
         → IsSome (block_content block.now i j) }
 {
-    !mask.test.complement && are_alike(&mask.store.fibers_in(0..block.past()), &block.fibers())
+    let Form::Sparse(stored) = mask.store.form() else {
+        return false;
+    };
+    !mask.test.complement && are_alike(&stored.fibers_in(0..block.past()), &block.fibers())
 }
 
 /// Puts a block of all its rows in a store's place.

@@ -22,7 +22,7 @@ use lanes::{unite_words, zip_words};
 use model::NoMemory;
 use std::alloc::Global;
 use std::ops::Range;
-use store::{FiberLists, Fibers, RowBlock, Store};
+use store::{FiberLists, Fibers, RowBlock, Sparse};
 
 /// How the words of two stores at a position are joined.
 #[derive(Clone, Copy)]
@@ -43,8 +43,8 @@ const PART: usize = 1024;
 /// these rows, and beside the result memory for a part of some rows, or for the longest row.
 pub fn join_rows(
     alloc: Global,
-    left: &Store,
-    right: &Store,
+    left: &Sparse,
+    right: &Sparse,
     by: Joining,
     range: Range<u64>,
 ) -> Result<RowBlock, NoMemory>
@@ -64,8 +64,8 @@ pub fn join_rows(
 /// The lists of the join of the rows in a range.
 fn join_lists(
     alloc: Global,
-    left: &Store,
-    right: &Store,
+    left: &Sparse,
+    right: &Sparse,
     by: Joining,
     range: Range<u64>,
 ) -> Result<FiberLists, NoMemory>
@@ -96,7 +96,7 @@ fn join_lists(
 /// The lists of the rows in a range of one side that has entries alone.
 fn copy_alone(
     alloc: Global,
-    side: &Store,
+    side: &Sparse,
     by: Joining,
     range: Range<u64>,
 ) -> Result<FiberLists, NoMemory>
@@ -155,8 +155,8 @@ pub(crate) fn keeps_alone(by: Joining) -> bool
 /// start, so that none is moved; what isn't used is let go.
 fn join_parts(
     alloc: Global,
-    left: &Store,
-    right: &Store,
+    left: &Sparse,
+    right: &Sparse,
     by: Joining,
     range: Range<u64>,
     room: usize,
@@ -184,8 +184,8 @@ fn join_parts(
 /// these are joined. There is room for so many entries from the start.
 fn join_between(
     alloc: Global,
-    left: &Store,
-    right: &Store,
+    left: &Sparse,
+    right: &Sparse,
     by: Joining,
     few: Side,
     range: Range<u64>,
@@ -214,8 +214,8 @@ fn join_between(
 fn join_part(
     lists: &mut FiberLists,
     places: &mut Places,
-    left: &Store,
-    right: &Store,
+    left: &Sparse,
+    right: &Sparse,
     by: Joining,
     range: Range<u64>,
 ) -> Result<(), NoMemory>

@@ -10,6 +10,7 @@ mod full;
 mod in_place;
 mod join;
 mod keep;
+mod marked;
 mod merge;
 mod pair;
 mod sparse;
@@ -18,8 +19,9 @@ mod write;
 
 pub use alike::{are_alike, join_alike};
 pub use append::{append_fibers, append_rows};
+pub use blocks::keep_block;
 pub use in_place::write_into;
 pub use join::{Joining, join_rows};
 pub use keep::keep_fiber;
-pub use view::{Mask, MaskTest, StoredMask};
+pub use view::{Mask, MaskTest, SparseMask, StoredMask};
 pub use write::write_back;

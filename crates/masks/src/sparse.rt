@@ -10,7 +10,7 @@ use crate::full::Side;
 use crate::join::{Joining, keeps_alone};
 use model::NoMemory;
 use std::ops::Range;
-use store::{FiberLists, Fibers, Store};
+use store::{FiberLists, Fibers, Sparse};
 
 // A row that both may have takes eight binary searches, by estimate as long as to merge some hundred entries. With so
 // many rows of the other side for each of them, as many are copied and not merged, even where rows are short.
@@ -19,7 +19,7 @@ const MANY_MORE: usize = 16;
 /// The side that has so few rows beside the other that it pays to copy those between them; of stores with rows of
 /// more than one column, where the words of one side alone stay as they are.
 pub(crate) fn few_side(
-    left: &Store,
+    left: &Sparse,
     lefts: &Fibers<'_>,
     rights: &Fibers<'_>,
     by: Joining,
@@ -49,8 +49,8 @@ fn count_fibers(fibers: &Fibers<'_>) -> usize {
 /// in the lists. It answers that row, or the range's end.
 pub(crate) fn copy_between(
     lists: &mut FiberLists,
-    left: &Store,
-    right: &Store,
+    left: &Sparse,
+    right: &Sparse,
     by: Joining,
     few: Side,
     range: Range<u64>,
@@ -76,8 +76,8 @@ pub(crate) fn copy_between(
 /// lists. It answers that row, or the range's end.
 fn copy_up_to(
     lists: &mut FiberLists,
-    many: &Store,
-    few: &Store,
+    many: &Sparse,
+    few: &Sparse,
     range: Range<u64>,
 ) -> Result<u64, NoMemory>
     requires rows { few.now.cols ≢ 1 }
@@ -98,7 +98,7 @@ fn copy_up_to(
 }
 
 /// The first row from a row on, up to before another, in which a store has entries, or that other.
-fn next_row(store: &Store, first: u64, past: u64) -> u64
+fn next_row(store: &Sparse, first: u64, past: u64) -> u64
     requires rows { store.now.cols ≢ 1 }
     requires range { first ≤ past }
     ensures low { first ≤ result }

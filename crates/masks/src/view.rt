@@ -1,8 +1,11 @@
 //! Masks as they are read.
-ghost use Rattle.std.specs.Prelude.{◌≡◌, not};
+ghost use Rattle.std.specs.Prelude.{◌≡◌, IfOk, IfSome, not};
 ghost use Rattle.masks.specs.Masks.{counts};
+ghost use Rattle.store.specs.Forms.{sparse_of};
 
-use store::Store;
+use model::NoMemory;
+use std::alloc::Global;
+use store::{AsSparse, Form, Sparse, Store};
 
 /// The positions that a call writes.
 #[derive(Clone, Copy)]
@@ -22,6 +25,13 @@ pub struct StoredMask<'a> {
     pub test: MaskTest,
 }
 
+/// The same, of a store whose entries are lists, for whoever goes along these.
+#[derive(Clone, Copy)]
+pub struct SparseMask<'a> {
+    pub store: &'a Sparse,
+    pub test: MaskTest,
+}
+
 /// Which positions a mask's store lets through, by the word that stands there, if any.
 #[derive(Clone, Copy)]
 pub struct MaskTest {
@@ -34,6 +44,17 @@ pub struct MaskTest {
 }
 
 impl<'a> StoredMask<'a> {
+    /// Its store's entries as lists, where whoever goes by the mask should go along these: not where it lets the other
+    /// positions than those of a bitmap through, of which to ask for each takes less than to make lists.
+    pub fn lists(self, alloc: Global) -> Result<Option<AsSparse<'a>>, NoMemory>
+        ensures { IfOk result (λ found. IfSome found (λ lists. sparse_of lists ≡ self.entry.store.now)) }
+    {
+        match self.store.form() {
+            Form::Bitmap(_) if self.test.complement => Ok(None),
+            _ => Ok(Some(self.store.as_sparse(alloc)?)),
+        }
+    }
+
     /// The mask that lets the other positions through.
     pub(crate) fn complement(self) -> StoredMask<'a>
         ensures store { result.store ≡ self.entry.store }

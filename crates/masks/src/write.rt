@@ -14,7 +14,7 @@ use crate::{Joining, Mask, StoredMask, are_alike, join_rows};
 use algebra::BinaryOp;
 use model::NoMemory;
 use std::alloc::Global;
-use store::{RowBlock, Store};
+use store::{RowBlock, Sparse};
 
 /// The rows of `t` of what a call leaves in its output: in the mask set what it computed, `t`, accumulated
 /// by an operator into what was there, `old`, or in its place; and outside it what was there, or nothing
@@ -25,7 +25,7 @@ use store::{RowBlock, Store};
 #[inline(always)]
 pub fn write_back(
     alloc: Global,
-    old: &Store,
+    old: &Sparse,
     t: RowBlock,
     mask: Mask<'_>,
     accum: Option<BinaryOp>,
@@ -50,7 +50,7 @@ pub fn write_back(
 #[inline(always)]
 fn write_all(
     alloc: Global,
-    old: &Store,
+    old: &Sparse,
     t: RowBlock,
     accum: Option<BinaryOp>,
 ) -> Result<RowBlock, NoMemory>
@@ -71,7 +71,7 @@ fn write_all(
 /// No position is written: what was there stays, or goes where the call replaces.
 fn write_nowhere(
     alloc: Global,
-    old: &Store,
+    old: &Sparse,
     t: RowBlock,
     replace: bool,
 ) -> Result<RowBlock, NoMemory>
@@ -93,7 +93,7 @@ fn write_nowhere(
 /// The positions are written that a store lets through.
 fn write_under(
     alloc: Global,
-    old: &Store,
+    old: &Sparse,
     t: RowBlock,
     mask: StoredMask<'_>,
     accum: Option<BinaryOp>,
@@ -124,7 +124,7 @@ fn write_under(
 /// What was computed at the positions that a mask lets through, beside what was there at the others.
 pub(crate) fn write_over(
     alloc: Global,
-    old: &Store,
+    old: &Sparse,
     inside: RowBlock,
     mask: StoredMask<'_>,
 ) -> Result<RowBlock, NoMemory>
@@ -146,7 +146,7 @@ pub(crate) fn write_over(
 /// What a mask keeps of what was there in the rows of a block.
 fn old_rows(
     alloc: Global,
-    old: &Store,
+    old: &Sparse,
     block: &RowBlock,
     mask: StoredMask<'_>,
 ) -> Result<RowBlock, NoMemory>
@@ -164,7 +164,7 @@ fn old_rows(
 /// Accumulates what was computed into what was there, at every position.
 pub(crate) fn accumulate(
     alloc: Global,
-    old: &Store,
+    old: &Sparse,
     t: RowBlock,
     op: BinaryOp,
 ) -> Result<RowBlock, NoMemory>
@@ -186,6 +186,6 @@ pub(crate) fn accumulate(
     if are_alike(&olds, &t.fibers()) {
         return join_over(alloc, &olds, t, Joining::Accumulate(op));
     }
-    let t = Store::from_block(past, t);
+    let t = Sparse::from_block(past, t);
     join_rows(alloc, old, &t, Joining::Accumulate(op), first..past)
 }

@@ -12,7 +12,7 @@ use crate::texts::{LONGEST, put_line};
 use algebra::Domain;
 use model::{NoMemory, Shape};
 use std::alloc::AllocError;
-use store::{Row, Rows, Store};
+use store::{Row, Rows, Sparse, Store};
 
 /// The first line of a canonical text (NIST Matrix Market, coordinate format).
 const BANNER: &[u8] = b"%%MatrixMarket matrix coordinate integer general\n";
@@ -27,8 +27,9 @@ pub fn write(store: &Store, shape: Shape, domain: Domain, out: &mut Vec<u8>) -> 
         (record { domain = domain; shape = shape; content = content_of store.now }))) }
     ensures err { OnErr result (out.new.items ≡ out.old.items) }
 {
+    let lists = store.as_sparse(*out.allocator())?;
     let length = out.len();
-    if write_lines(store, shape, domain, out).is_err() {
+    if write_lines(lists.get(), shape, domain, out).is_err() {
         out.truncate(length);
         return Err(NoMemory);
     }
@@ -37,7 +38,7 @@ pub fn write(store: &Store, shape: Shape, domain: Domain, out: &mut Vec<u8>) -> 
 
 /// Appends the lines of a canonical text. After an error some of them are there.
 fn write_lines(
-    store: &Store,
+    store: &Sparse,
     shape: Shape,
     domain: Domain,
     out: &mut Vec<u8>,

@@ -4,7 +4,7 @@ ghost use Rattle.std.specs.List.{All};
 ghost use Rattle.patch.specs.Edits.{IsInside, edited, edited_once};
 ghost use Rattle.store.specs.Stored.{content_of};
 
-use crate::merging::merge;
+use crate::merging::merge_into;
 use model::NoMemory;
 use std::alloc::Global;
 use store::Store;
@@ -58,7 +58,7 @@ pub fn apply_edits(alloc: Global, store: &mut Store, edits: &mut Vec<Edit>) -> R
     } else {
         // The order of edits matters only among those of one position, which a stable sort keeps.
         edits.sort_by_key(|edit| edit.place())?;
-        *store = merge(alloc, store, edits)?;
+        merge_into(alloc, store, edits)?;
     }
     edits.clear();
     Ok(())

@@ -1,5 +1,5 @@
 //! Many edits of a store at once.
-ghost use Rattle.std.specs.Prelude.{◌≡◌, ℕ, IfOk, map};
+ghost use Rattle.std.specs.Prelude.{◌≡◌, ℕ, IfOk, OnErr, OnOk, map};
 ghost use Rattle.std.specs.List.{All, AllPairs};
 ghost use Rattle.store.specs.Stored.{content_of};
 ghost use Rattle.patch.specs.Edits.{IsInside, edited, removal_entry, set_entry};
@@ -10,10 +10,25 @@ use crate::runs::block_of_sorted;
 use masks::{Mask, MaskTest, StoredMask, write_back};
 use model::{Entry, NoMemory};
 use std::alloc::Global;
-use store::Store;
+use store::{Sparse, Store};
 
-/// A store after edits, which come row by row. It writes all entries anew.
-pub(crate) fn merge(alloc: Global, store: &Store, edits: &[Edit]) -> Result<Store, NoMemory>
+/// Does edits, which come row by row, and writes all entries of their store anew.
+pub(crate) fn merge_into(alloc: Global, store: &mut Store, edits: &[Edit]) -> Result<(), NoMemory>
+    requires inside { All (IsInside store.old.rows store.old.cols) edits.now }
+    requires order { AllPairs IsNotBehind (map set_entry edits.now) }
+    ensures rows { store.new.rows ≡ store.old.rows }
+    ensures cols { store.new.cols ≡ store.old.cols }
+    ensures content { OnOk result ((i j : ℕ)
+        → content_of store.new i j ≡ edited edits.now (content_of store.old) i j) }
+    ensures refused { OnErr result (store.new ≡ store.old) }
+{
+    let merged = merge(alloc, store.as_sparse(alloc)?.get(), edits)?;
+    *store = merged;
+    Ok(())
+}
+
+/// A store after edits, which come row by row.
+fn merge(alloc: Global, store: &Sparse, edits: &[Edit]) -> Result<Store, NoMemory>
     requires inside { All (IsInside store.now.rows store.now.cols) edits.now }
     requires order { AllPairs IsNotBehind (map set_entry edits.now) }
     ensures rows { IfOk result (λ merged. merged.rows ≡ store.now.rows) }

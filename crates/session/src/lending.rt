@@ -56,7 +56,8 @@ impl<R: Runner + Drop> Session<R> {
     {
         self.complete(object)?;
         let domain = self.known(object).domain;
-        let tuples = listed(self.alloc, domain, store(&self.table, object))?;
+        let lists = store(&self.table, object).as_sparse(self.alloc)?;
+        let tuples = listed(self.alloc, domain, lists.get())?;
         Ok(tuples)
     }
 

@@ -8,13 +8,13 @@ ghost use Rattle.store.specs.Stored.{content_of};
 use algebra::Domain;
 use model::NoMemory;
 use std::alloc::{AllocError, Global};
-use store::{Row, Store};
+use store::{Row, Sparse};
 
 /// Row, column and value of each entry of a store, row by row.
 pub(crate) fn listed(
     alloc: Global,
     domain: Domain,
-    store: &Store,
+    store: &Sparse,
 ) -> Result<Vec<(u64, u64, i128)>, NoMemory>
     ensures { IfOk result (λ tuples. tuples.items
         ≡ map (tuple_of domain) (entries_of store.now.rows store.now.cols (content_of store.now))) }

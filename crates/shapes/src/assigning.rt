@@ -13,7 +13,7 @@ use model::{Entry, IndexList, NoMemory};
 use patch::gather;
 use std::alloc::Global;
 use std::ops::Range;
-use store::{Row, RowBlock, Store};
+use store::{Row, RowBlock, Sparse};
 
 /// The rows in a range of a store's entries, put into a shape at lists of rows and of columns, of which
 /// none is repeated (`GrB_assign`). `:` is never written out. It takes time for the entries that are put; where
@@ -22,7 +22,7 @@ use store::{Row, RowBlock, Store};
 pub fn assign_rows(
     alloc: Global,
     shape: (u64, u64),
-    a: &Store,
+    a: &Sparse,
     rows: &IndexList,
     cols: &IndexList,
     range: Range<u64>,
@@ -50,7 +50,7 @@ pub fn assign_rows(
 /// The entries of a store at lists of rows and of columns, those in a range of rows.
 fn place_entries(
     alloc: Global,
-    a: &Store,
+    a: &Sparse,
     rows: &IndexList,
     cols: &IndexList,
     range: &Range<u64>,
@@ -75,7 +75,7 @@ fn place_entries(
 /// walks along the rows at places side by side that lead there.
 fn place_listed(
     alloc: Global,
-    a: &Store,
+    a: &Sparse,
     rows: &IndexList,
     cols: &IndexList,
     range: &Range<u64>,
@@ -110,7 +110,7 @@ fn leads_into(indices: &IndexList, at: u64, range: &Range<u64>) -> bool
 /// Puts the entries of a part of a store's rows, at lists of rows and of columns, behind the entries.
 fn place_part(
     entries: &mut Vec<Entry>,
-    a: &Store,
+    a: &Sparse,
     rows: &IndexList,
     cols: &IndexList,
     part: Range<u64>,

@@ -13,13 +13,13 @@ use model::{Entry, NoMemory};
 use patch::gather;
 use std::alloc::Global;
 use std::ops::Range;
-use store::{RowBlock, Store};
+use store::{RowBlock, Sparse};
 
 /// The rows in a range of a store at a list of columns. Its time follows the list, the entries of these
 /// rows, each with a search in the list, and what is found.
 pub(crate) fn collect_all(
     alloc: Global,
-    a: &Store,
+    a: &Sparse,
     cols: &[u64],
     range: Range<u64>,
 ) -> Result<RowBlock, NoMemory>
@@ -45,7 +45,7 @@ pub(crate) fn collect_all(
 /// The rows at a range of a list of rows, at a list of columns.
 pub(crate) fn collect_listed(
     alloc: Global,
-    a: &Store,
+    a: &Sparse,
     rows: &[u64],
     cols: &[u64],
     range: Range<u64>,

@@ -16,7 +16,7 @@ use crate::rows::{find_row, put_row, walk_rows};
 use model::{IndexList, NoMemory};
 use std::alloc::Global;
 use std::ops::Range;
-use store::{FiberLists, RowBlock, Store};
+use store::{FiberLists, RowBlock, Sparse};
 
 // Up to so many columns are each looked up in a row; of more, those that a row has.
 const FEW: usize = 16;
@@ -26,7 +26,7 @@ const FEW: usize = 16;
 /// rows, each with a search in the list of columns, and what is found.
 pub fn extract_rows(
     alloc: Global,
-    a: &Store,
+    a: &Sparse,
     rows: &IndexList,
     cols: &IndexList,
     range: Range<u64>,
@@ -50,7 +50,7 @@ pub fn extract_rows(
 /// The rows in a range at a list of columns.
 fn extract_all(
     alloc: Global,
-    a: &Store,
+    a: &Sparse,
     cols: &IndexList,
     range: Range<u64>,
 ) -> Result<RowBlock, NoMemory>
@@ -80,7 +80,7 @@ fn extract_all(
 }
 
 /// The rows in a range as they are.
-fn extract_whole(alloc: Global, a: &Store, range: Range<u64>) -> Result<RowBlock, NoMemory>
+fn extract_whole(alloc: Global, a: &Sparse, range: Range<u64>) -> Result<RowBlock, NoMemory>
     requires { range.end ≤ a.now.rows }
     ensures first { IfOk result (λ block. block.first ≡ range.start) }
     ensures past { IfOk result (λ block. block.past ≡ range.end) }
@@ -96,7 +96,7 @@ fn extract_whole(alloc: Global, a: &Store, range: Range<u64>) -> Result<RowBlock
 /// The rows at a range of a list of rows, at a list of columns.
 fn extract_listed(
     alloc: Global,
-    a: &Store,
+    a: &Sparse,
     rows: &[u64],
     cols: &IndexList,
     range: Range<u64>,

@@ -15,14 +15,14 @@ use masks::append_rows;
 use model::NoMemory;
 use std::alloc::Global;
 use std::ops::Range;
-use store::{FiberLists, Row, RowBlock, Store};
+use store::{FiberLists, Row, RowBlock, Sparse};
 
 // A row that is named takes four binary searches, by estimate as long as to look up and put some ten short rows.
 const MANY_MORE: usize = 16;
 
 /// The rows in a range that lists name, in rising order, where these are so few beside a store's that it pays to
 /// copy those between them. Rows of one column lie as one fiber, and aren't told apart.
-pub(crate) fn few_named<'a>(a: &Store, named: &Named<'a>, range: Range<u64>) -> Option<&'a [u64]>
+pub(crate) fn few_named<'a>(a: &Sparse, named: &Named<'a>, range: Range<u64>) -> Option<&'a [u64]>
     ensures columns { IfSome result (λ listed. a.now.cols ≢ 1) }
     ensures rises { IfSome result (λ listed. IsNonDecreasing listed.now) }
     ensures part { IfSome result (λ listed. (rows cols : Indices) (size : ℕ) → IsNamed rows cols named.now
@@ -43,7 +43,7 @@ pub(crate) fn few_named<'a>(a: &Store, named: &Named<'a>, range: Range<u64>) -> 
 /// that they name there.
 pub(crate) fn keep_outside(
     alloc: Global,
-    a: &Store,
+    a: &Sparse,
     named: &Named<'_>,
     listed: &[u64],
     first: u64,
@@ -80,7 +80,7 @@ pub(crate) fn keep_outside(
 /// them has outside.
 fn keep_up_to(
     lists: &mut FiberLists,
-    a: &Store,
+    a: &Sparse,
     named: &Named<'_>,
     range: Range<u64>,
 ) -> Result<(), NoMemory>

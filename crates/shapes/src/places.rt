@@ -8,14 +8,14 @@ ghost use Rattle.shapes.specs.Collects.{index_content};
 use model::{Entry, NoMemory};
 use patch::gather;
 use std::alloc::Global;
-use store::Store;
+use store::Sparse;
 
 /// The places of columns in a list, with marks by which most columns that aren't listed are told at once: a
 /// column has the mark of its last bits.
 #[derive(Drop)]
 pub(crate) struct Places {
     /// In the row of each column a 0 at each of its places.
-    pub store: Store,
+    pub store: Sparse,
     marks: Vec<bool>,
     mask: u64,
     ghost exact: { (col : ℕ) → get_or marks.items (bit_and col mask) true ≡ false
@@ -54,7 +54,7 @@ impl Places {
 }
 
 /// The places of a list's columns as a store, in the row of each column.
-fn place_columns(alloc: Global, size: u64, cols: &[u64]) -> Result<Store, NoMemory>
+fn place_columns(alloc: Global, size: u64, cols: &[u64]) -> Result<Sparse, NoMemory>
     requires { are_below size (These cols.now) ≡ true }
     ensures cols { IfOk result (λ places. places.cols ≡ length cols.now) }
     ensures content { IfOk result (λ places. (i j : ℕ) → content_of places i j ≡ index_content cols.now i j) }
@@ -68,7 +68,7 @@ fn place_columns(alloc: Global, size: u64, cols: &[u64]) -> Result<Store, NoMemo
         })?;
     }
     let block = gather(alloc, entries, None, 0..size, cols.len() as u64)?;
-    Ok(Store::from_block(size, block))
+    Ok(Sparse::from_block(size, block))
 }
 
 /// For each number that bits under a mask make, whether a column of the list has them.

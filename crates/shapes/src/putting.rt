@@ -16,14 +16,14 @@ use masks::{Joining, join_rows};
 use model::{IndexList, NoMemory};
 use std::alloc::Global;
 use std::ops::Range;
-use store::{FiberLists, Row, RowBlock, Store};
+use store::{FiberLists, Row, RowBlock, Sparse};
 
 /// The rows of a block at the positions that lists of rows and of columns name, and at the others those
 /// of a store. `:` is never written out, and in both lists costs nothing. Else its time is that of the
 /// entries of both in these rows, each with a search in both lists at the most.
 pub fn put_rows(
     alloc: Global,
-    old: &Store,
+    old: &Sparse,
     new: RowBlock,
     rows: &IndexList,
     cols: &IndexList,
@@ -53,12 +53,12 @@ pub fn put_rows(
     };
     // The block goes before there are other lists, which so lie where it lay.
     let inside = {
-        let new = Store::from_block(past, new);
+        let new = Sparse::from_block(past, new);
         keep_side(alloc, &new, &named, true, first..past)?
     };
     let outside = keep_side(alloc, old, &named, false, first..past)?;
-    let outside = Store::from_block(past, outside);
-    let inside = Store::from_block(past, inside);
+    let outside = Sparse::from_block(past, outside);
+    let inside = Sparse::from_block(past, inside);
     join_rows(alloc, &outside, &inside, Joining::Right, first..past)
 }
 
@@ -84,7 +84,7 @@ fn members_of<'a>(
 }
 
 /// The rows of a block at all positions.
-fn put_all(old: &Store, new: RowBlock) -> RowBlock
+fn put_all(old: &Sparse, new: RowBlock) -> RowBlock
     requires end { new.past ≤ old.now.rows }
     requires columns { new.cols ≡ old.now.cols }
     ensures first { result.first ≡ new.first }
@@ -114,7 +114,7 @@ fn is_all(indices: &IndexList) -> bool
 /// The rows in a range of a store's entries inside the positions that lists name, or outside of them.
 fn keep_side(
     alloc: Global,
-    a: &Store,
+    a: &Sparse,
     named: &Named<'_>,
     inside: bool,
     range: Range<u64>,

@@ -11,12 +11,12 @@ ghost use Rattle.shapes.specs.Rows.{HasRowOf};
 use crate::rows::{put_row, walk_rows};
 use model::NoMemory;
 use std::alloc::Global;
-use store::{FiberLists, Row, RowBlock, Store};
+use store::{FiberLists, Row, RowBlock, Sparse};
 
 /// A store of so many rows and columns with the entries that fit them (`GrB_Matrix_resize`,
 /// `GrB_Vector_resize`). It takes time for the entries of its rows; where the columns stay, they are copied
 /// as they lie.
-pub fn resize(alloc: Global, a: &Store, rows: u64, cols: u64) -> Result<Store, NoMemory>
+pub fn resize(alloc: Global, a: &Sparse, rows: u64, cols: u64) -> Result<Sparse, NoMemory>
     ensures rows { IfOk result (λ store. store.rows ≡ rows) }
     ensures cols { IfOk result (λ store. store.cols ≡ cols) }
     ensures content { IfOk result (λ store. (i j : ℕ) → content_of store i j
@@ -27,11 +27,11 @@ pub fn resize(alloc: Global, a: &Store, rows: u64, cols: u64) -> Result<Store, N
     } else {
         cut_rows(alloc, a, rows, cols)?
     };
-    Ok(Store::from_block(rows, block))
+    Ok(Sparse::from_block(rows, block))
 }
 
 /// The first rows of a store, each cut to so many columns.
-fn cut_rows(alloc: Global, a: &Store, rows: u64, cols: u64) -> Result<RowBlock, NoMemory>
+fn cut_rows(alloc: Global, a: &Sparse, rows: u64, cols: u64) -> Result<RowBlock, NoMemory>
     ensures first { IfOk result (λ block. block.first ≡ 0) }
     ensures past { IfOk result (λ block. block.past ≡ rows) }
     ensures cols { IfOk result (λ block. block.cols ≡ cols) }

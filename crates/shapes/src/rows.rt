@@ -5,10 +5,10 @@ ghost use Rattle.shapes.specs.Rows.{HasRow, IsRowOf, IsWalk};
 
 use model::NoMemory;
 use std::ops::Range;
-use store::{FiberLists, Rows, Store};
+use store::{FiberLists, Rows, Sparse};
 
 /// The rows of a store in a range, to walk along.
-pub(crate) fn walk_rows(a: &Store, range: Range<u64>) -> Rows<'_>
+pub(crate) fn walk_rows(a: &Sparse, range: Range<u64>) -> Rows<'_>
     ensures { IsWalk (content_of a.now) range.start range.end a.now.cols result.entries }
 {
     // It is said there that a store has no entry outside its shape.
@@ -17,7 +17,7 @@ pub(crate) fn walk_rows(a: &Store, range: Range<u64>) -> Rows<'_>
 }
 
 /// The columns and the words of a row of a store.
-pub(crate) fn find_row(a: &Store, row: u64) -> (&[u64], &[u64])
+pub(crate) fn find_row(a: &Sparse, row: u64) -> (&[u64], &[u64])
     ensures { IsRowOf (content_of a.now) row a.now.cols result.0.now result.1.now }
 {
     let _rows = a.rows();

@@ -5,7 +5,7 @@ use Rattle.std.proofs.lemmas.Bool.Decides.{nat_tests}
 use Rattle.std.proofs.lemmas.List.Elements.{All-weaker, filter_agree}
 use Rattle.algebra.specs.declared.binary.BinaryOp.{BinaryOp}
 use Rattle.masks.specs.declared.view.MaskTest.{MaskTest}
-use Rattle.masks.specs.declared.view.StoredMask.{StoredMask}
+use Rattle.masks.specs.declared.view.SparseMask.{SparseMask}
 use Rattle.masks.specs.Masks.{lets_word}
 use Rattle.model.specs.declared.entry.Entry.{Entry}
 use Rattle.model.specs.declared.memory.NoMemory.{NoMemory}
@@ -76,7 +76,7 @@ column_word c first past index i entries zero_is low high is =
     ap (λ es. word_at es index i) is ∙ ap (λ index. word_at (entries_of_column c first past) index i) zero_is ∙ found ∙ rw (from, to) refl
 
 -- the part of a row that a mask keeps, by the entries of its column, is the one that the mask lets through
-pub part_kept : (r : Result (Unit {0}) NoMemory) (mask : StoredMask) (op : BinaryOp) (index first past : ℕ)
+pub part_kept : (r : Result (Unit {0}) NoMemory) (mask : SparseMask) (op : BinaryOp) (index first past : ℕ)
     (entries : List Entry) (terms : List Term) (old new : FiberLists) → index ≡ 0
     → entries ≡ entries_of_column (content_of mask.store.now) first past
     → OnOk r (HasRow op index (kept_terms (keeps_among mask.test first past entries index) terms) old new)

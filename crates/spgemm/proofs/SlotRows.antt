@@ -9,7 +9,7 @@ use Rattle.std.proofs.lemmas.List.Elements.{All-nil, All-cons, All-contains, All
 use Rattle.std.proofs.lemmas.List.Folds.{list_any_none}
 use Rattle.algebra.specs.declared.binary.BinaryOp.{BinaryOp}
 use Rattle.masks.specs.declared.view.MaskTest.{MaskTest}
-use Rattle.masks.specs.declared.view.StoredMask.{StoredMask}
+use Rattle.masks.specs.declared.view.SparseMask.{SparseMask}
 use Rattle.masks.specs.Masks.{counts, has_word}
 use Rattle.model.specs.declared.entry.Entry.{Entry}
 use Rattle.model.specs.Entries.{InOrder, below, count_from, entry_at, row_entries, word_at}
@@ -411,7 +411,7 @@ row_all (Err e) op row terms old new here = tt
 row_all (Ok u) op row terms old new here = subst (λ ts. HasRow op row ts old new) (sym (kept_all terms)) here
 
 -- the row at the columns that a mask keeps, by the entries of its store's row, is the one that the mask lets through
-pub row_kept : (r : Result (Unit {0}) NoMemory) (mask : StoredMask) (i width : ℕ) (op : BinaryOp) (terms : List Term)
+pub row_kept : (r : Result (Unit {0}) NoMemory) (mask : SparseMask) (i width : ℕ) (op : BinaryOp) (terms : List Term)
     (old new : FiberLists) (entries : List Entry) → mask.store.now.cols ≡ width → All (λ t. t.col < width) terms
     → entries ≡ row_entries mask.store.now.cols (content_of mask.store.now) i
     → OnOk r (HasRow op i (kept_terms (keeps_among mask.test 0 width entries i) terms) old new)

@@ -7,7 +7,7 @@ ghost use Rattle.spgemm.specs.Terms.{AreConsecutive, terms_of_row};
 
 use crate::many::add_products;
 use algebra::{Semiring, with_semiring};
-use store::{Row, Store};
+use store::{Row, Sparse};
 
 /// Whether columns that rise have no gaps, where there are some and a column may come behind them.
 pub(crate) fn are_consecutive(cols: &[u64]) -> bool
@@ -33,7 +33,7 @@ pub(crate) fn add_along(
     marks: &mut [bool],
     sums: &mut [u64],
     row: Row<'_>,
-    b: &Store,
+    b: &Sparse,
     semiring: Semiring,
 )
     requires marks { length marks.old ≡ length sums.old }
@@ -53,7 +53,7 @@ pub(crate) fn add_along(
 
 /// What `add_along` does, by one semiring of its arms.
 #[inline(always)]
-fn add_along_by(marks: &mut [bool], sums: &mut [u64], row: Row<'_>, b: &Store, semiring: Semiring)
+fn add_along_by(marks: &mut [bool], sums: &mut [u64], row: Row<'_>, b: &Sparse, semiring: Semiring)
     requires marks { length marks.old ≡ length sums.old }
     requires lengths { length row.words.now ≡ length row.cols.now }
     requires some { 0 < length row.cols.now }

@@ -19,7 +19,7 @@ use algebra::{BinaryOp, Semiring, with_semiring};
 use lanes::{full_words, has_bit, set_bit};
 use model::NoMemory;
 use std::ops::Range;
-use store::{FiberLists, Row, Store};
+use store::{FiberLists, Row, Sparse};
 
 /// Adds a word to the sum at a column. Whether the column was met before can't be foreseen, so there is no branch:
 /// what stands at one that wasn't met is no sum. Where `met` is given, most columns were met, as all below it
@@ -142,7 +142,7 @@ fn add_rows(
     sums: &mut [u64],
     row: Row<'_>,
     from: usize,
-    b: &Store,
+    b: &Sparse,
     hints: &RowHints,
     semiring: Semiring,
 ) -> Reach
@@ -174,7 +174,7 @@ fn add_rows_by(
     sums: &mut [u64],
     row: Row<'_>,
     from: usize,
-    b: &Store,
+    b: &Sparse,
     hints: &RowHints,
     semiring: Semiring,
 ) -> Reach
@@ -301,7 +301,7 @@ pub(crate) fn sum_densely(
     terms: &[Term],
     row: Row<'_>,
     done: usize,
-    b: &Store,
+    b: &Sparse,
     hints: &RowHints,
     semiring: Semiring,
 ) -> Result<(), NoMemory>
@@ -352,7 +352,7 @@ pub(crate) fn sum_at_once(
     bits: &mut [u64],
     sums: &mut [u64],
     row: Row<'_>,
-    b: &Store,
+    b: &Sparse,
     hints: &RowHints,
     semiring: Semiring,
 ) -> Result<Reach, NoMemory>

@@ -1,9 +1,9 @@
 //! Hints where the rows of a store lie.
 use model::NoMemory;
 use std::alloc::Global;
-use store::{Fibers, Store};
+use store::{Fibers, Sparse};
 
-/// For each row how many rows before it have entries, as hints for `Store::row_near`; or nothing.
+/// For each row how many rows before it have entries, as hints for `Sparse::row_near`; or nothing.
 #[derive(Drop)]
 pub(crate) struct RowHints {
     before: Vec<u32>,
@@ -14,7 +14,7 @@ impl RowHints {
     /// follow the rows.
     pub(crate) fn for_lookups(
         alloc: Global,
-        store: &Store,
+        store: &Sparse,
         lookups: usize,
         walks: u64,
     ) -> Result<RowHints, NoMemory> {
@@ -42,7 +42,7 @@ const ROWS_A_SEARCH: u64 = 16;
 
 /// Whether hints pay: the rows are few beside the lookups, a walk passes rows over, so that what the row before
 /// gave is no hint, and there are so many rows without entries that a search is long.
-fn pays(store: &Store, fibers: &Fibers<'_>, lookups: u64, walks: u64) -> bool {
+fn pays(store: &Sparse, fibers: &Fibers<'_>, lookups: u64, walks: u64) -> bool {
     let rows = store.rows();
     let filled = fibers.flat().others.len() as u64 + 1;
     store.cols() > 1

@@ -14,11 +14,11 @@ use crate::hints::RowHints;
 use algebra::{Semiring, with_semiring};
 use lanes::packed;
 use model::NoMemory;
-use store::{FiberLists, Row, Store};
+use store::{FiberLists, Row, Sparse};
 
 /// Whether so many entries of a row of A have more products with B than there are columns, if the rows of B that
 /// they meet are as long as its rows are on average.
-pub(crate) fn exceeds_columns(entries: usize, b: &Store) -> bool {
+pub(crate) fn exceeds_columns(entries: usize, b: &Sparse) -> bool {
     let average = b.nvals() / b.rows().max(1);
     average.saturating_mul(entries as u64) > b.cols()
 }
@@ -55,7 +55,7 @@ fn add_rows(
     marks: &mut [bool],
     sums: &mut [u64],
     row: Row<'_>,
-    b: &Store,
+    b: &Sparse,
     hints: &RowHints,
     semiring: Semiring,
 )
@@ -77,7 +77,7 @@ fn add_rows_by(
     marks: &mut [bool],
     sums: &mut [u64],
     row: Row<'_>,
-    b: &Store,
+    b: &Sparse,
     hints: &RowHints,
     semiring: Semiring,
 )
@@ -103,7 +103,7 @@ fn add_row(
     marks: &mut [bool],
     sums: &mut [u64],
     row: Row<'_>,
-    b: &Store,
+    b: &Sparse,
     hints: &RowHints,
     semiring: Semiring,
 )
@@ -132,7 +132,7 @@ pub(crate) fn sum_many(
     sums: &mut [u64],
     marks: &mut Vec<bool>,
     row: Row<'_>,
-    b: &Store,
+    b: &Sparse,
     hints: &RowHints,
     semiring: Semiring,
 ) -> Result<(), NoMemory>

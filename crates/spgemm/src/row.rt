@@ -16,7 +16,7 @@ use crate::term::Term;
 use algebra::Semiring;
 use model::NoMemory;
 use std::alloc::Global;
-use store::{FiberLists, Row, Store};
+use store::{FiberLists, Row, Sparse};
 
 /// Memory that serves one row after another: terms, and sums with a place for each column, each with a bit, and
 /// where there are many products with a mark, that says whether there is one; hints where the rows of B lie; and how
@@ -75,7 +75,7 @@ pub(crate) fn multiply_whole_row(
     lists: &mut FiberLists,
     scratch: &mut Scratch,
     row: Row<'_>,
-    b: &Store,
+    b: &Sparse,
     semiring: Semiring,
 ) -> Result<(), NoMemory>
     requires lengths { length row.words.now ≡ length row.cols.now }
@@ -98,7 +98,7 @@ pub(crate) fn sum_row(
     lists: &mut FiberLists,
     scratch: &mut Scratch,
     row: Row<'_>,
-    b: &Store,
+    b: &Sparse,
     semiring: Semiring,
 ) -> Result<(), NoMemory>
     requires lengths { length row.words.now ≡ length row.cols.now }
@@ -136,7 +136,7 @@ fn sum_collected(
     lists: &mut FiberLists,
     scratch: &mut Scratch,
     row: Row<'_>,
-    b: &Store,
+    b: &Sparse,
     semiring: Semiring,
 ) -> Result<(), NoMemory>
     requires lengths { length row.words.now ≡ length row.cols.now }

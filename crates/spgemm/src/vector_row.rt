@@ -12,10 +12,10 @@ use crate::column::column_in;
 use crate::masked_row::{Room, multiply_row_kept, multiply_row_under};
 use crate::row::multiply_whole_row;
 use algebra::Semiring;
-use masks::{MaskTest, StoredMask};
+use masks::{MaskTest, SparseMask};
 use model::NoMemory;
 use std::ops::Range;
-use store::{FiberLists, Row, Store};
+use store::{FiberLists, Row, Sparse};
 
 /// Puts a part of the row of the product with A that a row gives, at the columns that are kept, behind the rows in
 /// the lists.
@@ -23,8 +23,8 @@ pub(crate) fn multiply_part(
     lists: &mut FiberLists,
     room: &mut Room,
     row: Row<'_>,
-    a: &Store,
-    mask: Option<StoredMask<'_>>,
+    a: &Sparse,
+    mask: Option<SparseMask<'_>>,
     semiring: Semiring,
     range: &Range<u64>,
 ) -> Result<(), NoMemory>

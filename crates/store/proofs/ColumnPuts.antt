@@ -20,7 +20,7 @@ use Rattle.store.proofs.Places.{length_placed, long_outers}
 use Rattle.store.proofs.Walks.{one_fiber_is}
 
 -- rows that rise are one fiber
-column_held : (rows cols : ℕ) (ends : List FiberEnd) (inner words : List ℕ) → eqb cols 1 ≡ true
+pub column_held : (rows cols : ℕ) (ends : List FiberEnd) (inner words : List ℕ) → eqb cols 1 ≡ true
     → length words ≡ length inner → 0 < length inner → ends ≡ end_at 0 (length inner) ∷ []
     → InOrder (entries_down inner words) → IsInside rows cols (entries_down inner words)
     → AreHeld 0 rows cols ends inner words × (along cols (entries_from 0 ends inner words) ≡ entries_down inner words)

@@ -1,44 +1,81 @@
-//! Stores: what an object holds.
-ghost use Rattle.std.specs.Prelude.{◌≡◌, ℕ, ◌<◌, ◌≤◌, None, length, OnOk, OnErr, IfOk};
+//! Stores: what an object holds, in one of two forms.
+ghost use Rattle.std.specs.Prelude.{◌≡◌, ℕ, ◌<◌, ◌≤◌, ◌^◌, IsTrue, None, length, OnOk, OnErr, IfOk};
 ghost use Rattle.std.specs.Option.{option_or};
-ghost use Rattle.model.specs.Entries.{InOrder, IsInside, entries_between, entries_of, row_entries, word_at};
+ghost use Rattle.model.specs.Entries.{entries_of};
 ghost use Rattle.model.specs.Object.{with_entry, without_entry, IsWithin};
-ghost use Rattle.model.specs.Reductions.{all_words};
 
-use crate::edits::{put, take_out};
-use crate::finding::{NO_HINT, fiber, find, row_of_column};
-use crate::putting::put_column;
-use crate::ranges::{column_between, fibers_between, outer_past, row_past};
-use crate::{FiberLists, Fibers, RowBlock, Rows};
+use crate::forms::{bitmap_of, put_into, sparse_of};
+use crate::{RowBlock, Sparse};
+use bitmap::Bitmap;
 use model::NoMemory;
 use std::alloc::Global;
 use std::marker::Model;
-use std::ops::Range;
 
-/// What a matrix holds (`GrB_Matrix` of GraphBLAS C API 2.0): its number of rows and of columns, and
-/// its entries, at most one at a position. They lie row by row, and where there is one column as one
-/// fiber; no caller sees which.
+/// What a matrix holds (`GrB_Matrix` of GraphBLAS C API 2.0): its number of rows and of columns, and its entries, at
+/// most one at a position. They are kept in lists or, of a column in which many positions have an entry, as a bitmap.
+/// What a store holds is the same in either form.
 #[derive(Drop)]
 pub struct Store {
-    rows: u64,
-    cols: u64,
-    lists: FiberLists,
+    kept: Kept,
+}
+
+/// The forms of a store.
+#[derive(Drop)]
+enum Kept {
+    Sparse(Sparse),
+    Bitmap(Bitmap),
+}
+
+/// A store as it is kept, for whoever has a way of its own for a form.
+#[derive(Clone, Copy)]
+pub enum Form<'a> {
+    Sparse(&'a Sparse),
+    Bitmap(&'a Bitmap),
+}
+
+/// A store's entries as lists: those that it has, or such as were made of a bitmap.
+#[derive(Drop)]
+pub enum AsSparse<'a> {
+    Lent(&'a Sparse),
+    Made(Sparse),
+}
+
+impl AsSparse<'_> {
+    ghost use Rattle.store.specs.Forms.{sparse_of};
+
+    /// The lists.
+    pub fn get(&self) -> &Sparse
+        ensures { result.now ≡ sparse_of self.now }
+    {
+        match self {
+            AsSparse::Lent(sparse) => sparse,
+            AsSparse::Made(sparse) => sparse,
+        }
+    }
 }
 
 impl Model for Store {
-    ghost use Rattle.store.specs.Fibers.{entries_in};
-    ghost use Rattle.store.specs.Stored.{AreHeld, Stored, along};
+    ghost use Rattle.store.specs.Forms.{IsKept, kept_in};
+    ghost use Rattle.store.specs.Stored.{Stored};
 
     ghost Value = { Stored };
 
-    ghost view = { λ s. record { rows = s.rows; cols = s.cols; entries = along s.cols (entries_in s.lists) } };
+    ghost view = { λ s. kept_in s.kept };
 
-    ghost invariant = { λ s. AreHeld 0 s.rows s.cols s.lists.ends.items s.lists.inner.items s.lists.words.items };
+    ghost invariant = { λ s. IsKept s.kept };
 }
 
+/// How many positions a column must have at least and at most to be kept as a bitmap, and at most how many times as
+/// many as it has entries.
+const LEAST: u64 = 64;
+
+const MOST: u64 = 1 << 24;
+
+const TIMES: u64 = 8;
+
 impl Store {
-    ghost use Rattle.store.specs.Fibers.{entries_along};
-    ghost use Rattle.store.specs.Stored.{along, block_content, content_of};
+    ghost use Rattle.store.specs.Forms.{IfBitmap, lent_in, sparse_of};
+    ghost use Rattle.store.specs.Stored.{block_content, content_of};
 
     /// A store of `rows` rows and `cols` columns with no entry. It takes no memory.
     pub fn new(alloc: Global, rows: u64, cols: u64) -> Store
@@ -46,10 +83,15 @@ impl Store {
         ensures cols { result.cols ≡ cols }
         ensures content { (i j : ℕ) → content_of result i j ≡ None }
     {
+        Store::from_sparse(Sparse::new(alloc, rows, cols))
+    }
+
+    /// The store that lists are.
+    pub fn from_sparse(sparse: Sparse) -> Store
+        ensures { result ≡ sparse }
+    {
         Store {
-            rows,
-            cols,
-            lists: FiberLists::new(alloc),
+            kept: Kept::Sparse(sparse),
         }
     }
 
@@ -61,26 +103,51 @@ impl Store {
         ensures content { (i j : ℕ) → content_of result i j ≡ block_content block i j }
         ensures within { IsWithin result.rows result.cols (content_of result) }
     {
-        let RowBlock { cols, lists, .. } = block;
-        Store { rows, cols, lists }
-    }
-
-    /// All rows as a block, which takes the lists over without a copy.
-    pub fn into_block(self) -> RowBlock
-        ensures first { result.first ≡ 0 }
-        ensures past { result.past ≡ self.rows }
-        ensures cols { result.cols ≡ self.cols }
-        ensures content { (i j : ℕ) → block_content result i j ≡ content_of self i j }
-    {
-        RowBlock::of_fibers(0, self.rows, self.cols, self.lists)
+        Store::from_sparse(Sparse::from_block(rows, block))
     }
 
     /// A store with the same shape and entries, in memory of its own.
     pub fn try_clone(&self) -> Result<Store, NoMemory>
         ensures { IfOk result (λ store. store ≡ self.now) }
     {
-        let lists = self.lists.try_clone()?;
-        Ok(Store { lists, ..*self })
+        let kept = match &self.kept {
+            Kept::Sparse(sparse) => Kept::Sparse(sparse.try_clone()?),
+            Kept::Bitmap(bitmap) => Kept::Bitmap(bitmap.try_clone()?),
+        };
+        Ok(Store { kept })
+    }
+
+    /// The store in the form in which it is kept.
+    #[inline(always)]
+    pub fn form(&self) -> Form<'_>
+        ensures store { lent_in result ≡ self.now }
+        ensures column { IfBitmap result (λ b. b.cols ≡ 1) }
+    {
+        match &self.kept {
+            Kept::Sparse(sparse) => Form::Sparse(sparse),
+            Kept::Bitmap(bitmap) => Form::Bitmap(bitmap),
+        }
+    }
+
+    /// Its entries as lists, for whoever goes along these. Lists that are made of a bitmap take time and memory for
+    /// all entries.
+    pub fn as_sparse(&self, alloc: Global) -> Result<AsSparse<'_>, NoMemory>
+        ensures { IfOk result (λ lists. sparse_of lists ≡ self.now) }
+    {
+        match &self.kept {
+            Kept::Sparse(sparse) => Ok(AsSparse::Lent(sparse)),
+            Kept::Bitmap(bitmap) => Ok(AsSparse::Made(sparse_of(alloc, bitmap)?)),
+        }
+    }
+
+    /// The same, of a store that is given up: lists that are there are handed on.
+    pub fn into_sparse(self, alloc: Global) -> Result<Sparse, NoMemory>
+        ensures { IfOk result (λ sparse. sparse ≡ self) }
+    {
+        match self.kept {
+            Kept::Sparse(sparse) => Ok(sparse),
+            Kept::Bitmap(bitmap) => sparse_of(alloc, &bitmap),
+        }
     }
 
     /// The number of rows.
@@ -90,175 +157,46 @@ impl Store {
         // What is true of every store, for a caller, who sees no field.
         ensures within { IsWithin self.now.rows self.now.cols (content_of self.now) }
     {
-        self.rows
+        match &self.kept {
+            Kept::Sparse(sparse) => sparse.rows(),
+            Kept::Bitmap(bitmap) => bitmap.rows(),
+        }
     }
 
     /// The number of columns.
     pub fn cols(&self) -> u64
         ensures { result ≡ self.now.cols }
     {
-        self.cols
+        match &self.kept {
+            Kept::Sparse(sparse) => sparse.cols(),
+            Kept::Bitmap(bitmap) => bitmap.cols(),
+        }
     }
 
     /// The number of entries (`GrB_Matrix_nvals`).
     pub fn nvals(&self) -> u64
         ensures { result ≡ length (entries_of self.now.rows self.now.cols (content_of self.now)) }
     {
-        self.lists.inner.len() as u64
+        match &self.kept {
+            Kept::Sparse(sparse) => sparse.nvals(),
+            Kept::Bitmap(bitmap) => bitmap.nvals(),
+        }
     }
 
-    /// All words, row by row.
-    pub fn words(&self) -> &[u64]
-        ensures { result.now ≡ all_words self.now.rows self.now.cols (content_of self.now) }
-    {
-        &self.lists.words
-    }
-
-    /// The word at row `i` and column `j`, where there is one. Its time grows with the logarithm of
-    /// the number of entries.
+    /// The word at row `i` and column `j`, where there is one. Its time is constant in a bitmap, and else grows with
+    /// the logarithm of the number of entries.
+    #[inline(always)]
     pub fn get(&self, i: u64, j: u64) -> Option<u64>
         ensures { result ≡ content_of self.now i j }
     {
-        let FiberLists { ends, inner, words } = &self.lists;
-        if self.cols == 1 {
-            find(ends, inner, words, j, i)
-        } else {
-            find(ends, inner, words, i, j)
+        match &self.kept {
+            Kept::Sparse(sparse) => sparse.get(i, j),
+            Kept::Bitmap(bitmap) => bitmap.get(i, j),
         }
     }
 
-    /// The columns and the words of row `i`, in order, as they lie in the store. Its time grows with
-    /// the logarithm of the number of entries.
-    pub fn row(&self, i: u64) -> (&[u64], &[u64])
-        ensures lengths { length result.1.now ≡ length result.0.now }
-        ensures entries { entries_along i result.0.now result.1.now
-            ≡ row_entries self.now.cols (content_of self.now) i }
-    {
-        let (cols, words, _) = self.row_near(i, NO_HINT);
-        (cols, words)
-    }
-
-    /// The columns and the words of row `i` as `row` gives them, and a hint for a row behind it. Whoever goes
-    /// along rising rows hands on the hint that the row before gave, at first 0: a row takes no search where no
-    /// row between the two has entries. Any hint serves.
-    #[inline(always)]
-    pub fn row_near(&self, i: u64, hint: usize) -> (&[u64], &[u64], usize)
-        ensures lengths { length result.1.now ≡ length result.0.now }
-        ensures entries { entries_along i result.0.now result.1.now
-            ≡ row_entries self.now.cols (content_of self.now) i }
-    {
-        let FiberLists { ends, inner, words } = &self.lists;
-        if self.cols == 1 {
-            let (cols, words) = row_of_column(ends, inner, words, i);
-            (cols, words, hint)
-        } else {
-            let (cols, words, fiber) = fiber(ends, inner, words, i, hint);
-            (
-                cols,
-                words,
-                fiber.saturating_add(usize::from(!cols.is_empty())),
-            )
-        }
-    }
-
-    /// The fibers of the rows in a range: these rows, or the part of the one column that lies in them.
-    /// The range may be empty or reach beyond the rows. Its time grows with the logarithm of the number
-    /// of entries; that of all rows takes no search.
-    #[inline(always)]
-    pub fn fibers_in(&self, range: Range<u64>) -> Fibers<'_>
-        ensures entries { along self.now.cols result.entries
-            ≡ entries_between range.start range.end self.now.cols (content_of self.now) }
-        ensures order { InOrder (along self.now.cols result.entries) }
-        ensures inside { IsInside self.now.rows self.now.cols (along self.now.cols result.entries) }
-        ensures words { (i j : ℕ) → range.start ≤ i → i < range.end
-            → word_at (along self.now.cols result.entries) i j ≡ content_of self.now i j }
-    {
-        if range.start == 0 && self.rows <= range.end {
-            let FiberLists { ends, inner, words } = &self.lists;
-            return Fibers::of_lists(ends, inner, words);
-        }
-        self.fibers_found(range)
-    }
-
-    /// What `fibers_in` gives, found by binary searches.
-    fn fibers_found(&self, range: Range<u64>) -> Fibers<'_>
-        ensures entries { along self.now.cols result.entries
-            ≡ entries_between range.start range.end self.now.cols (content_of self.now) }
-        ensures order { InOrder (along self.now.cols result.entries) }
-        ensures inside { IsInside self.now.rows self.now.cols (along self.now.cols result.entries) }
-        ensures words { (i j : ℕ) → range.start ≤ i → i < range.end
-            → word_at (along self.now.cols result.entries) i j ≡ content_of self.now i j }
-    {
-        let FiberLists { ends, inner, words } = &self.lists;
-        if self.cols == 1 {
-            let (inner, words) = column_between(inner, words, range.start, range.end);
-            Fibers::of_column(inner, words)
-        } else {
-            fibers_between(ends, inner, words, range.start, range.end)
-        }
-    }
-
-    /// The rows in a range as a block, in memory of their own. The range may be empty or reach beyond the
-    /// rows.
-    pub fn copy_rows(&self, alloc: Global, range: Range<u64>) -> Result<RowBlock, NoMemory>
-        ensures first { IfOk result (λ block. block.first ≡ range.start) }
-        ensures past { IfOk result (λ block. block.past ≡ range.end) }
-        ensures cols { IfOk result (λ block. block.cols ≡ self.now.cols) }
-        ensures words { IfOk result (λ block. (i j : ℕ) → range.start ≤ i → i < range.end
-            → block_content block i j ≡ content_of self.now i j) }
-    {
-        let (first, past) = (range.start, range.end);
-        let lists = self.fibers_in(first..past).try_copy(alloc)?;
-        Ok(RowBlock::of_fibers(first, past, self.cols, lists))
-    }
-
-    /// A row up to which, from the range's first on, there are about so many entries, or that is behind the
-    /// first where this alone has more. It serves to cut work into parts. Its time grows with the logarithm
-    /// of the number of entries.
-    pub fn part_end(&self, range: Range<u64>, entries: usize) -> u64
-        requires { range.start < range.end }
-        ensures low { range.start < result }
-        ensures high { result ≤ range.end }
-    {
-        let past = if self.cols == 1 {
-            row_past(&self.lists.inner, range.start, entries)
-        } else {
-            outer_past(&self.lists.ends, range.start, entries)
-        };
-        match past {
-            Some(row) => row.max(range.start + 1).min(range.end),
-            None => range.end,
-        }
-    }
-
-    /// The rows in a range. The range may be empty or reach beyond the rows. Its time grows with the
-    /// logarithm of the number of entries.
-    pub fn rows_in(&self, range: Range<u64>) -> Rows<'_>
-        ensures entries { result.entries ≡ entries_between range.start range.end self.now.cols (content_of self.now) }
-        ensures order { InOrder result.entries }
-        ensures inside { IsInside self.now.rows self.now.cols result.entries }
-    {
-        if self.cols == 1 {
-            let FiberLists { inner, words, .. } = &self.lists;
-            let (column, words) = column_between(inner, words, range.start, range.end);
-            let fibers = Fibers::none();
-            Rows {
-                column,
-                words,
-                fibers,
-            }
-        } else {
-            let fibers = self.fibers_in(range);
-            Rows {
-                column: &[],
-                words: &[],
-                fibers,
-            }
-        }
-    }
-
-    /// Sets the word at row `i` and column `j`. A new entry behind all others takes logarithmic time,
-    /// and one in between also moves those behind it. Where there is an entry, no memory is taken.
+    /// Sets the word at row `i` and column `j`: in a bitmap in constant time, and in lists as `Sparse::set` does.
+    /// Where there is an entry, no memory is taken.
     pub fn set(&mut self, i: u64, j: u64, word: u64) -> Result<(), NoMemory>
         requires row { i < self.old.rows }
         requires col { j < self.old.cols }
@@ -271,17 +209,17 @@ impl Store {
         // Only a new entry may be refused.
         ensures absent { OnErr result (content_of self.old i j ≡ None) }
     {
-        if self.cols == 1 {
-            put(&mut self.lists, j, i, word)
-        } else {
-            put(&mut self.lists, i, j, word)
+        match &mut self.kept {
+            Kept::Sparse(sparse) => sparse.set(i, j, word),
+            Kept::Bitmap(bitmap) => {
+                bitmap.set(i, j, word);
+                Ok(())
+            }
         }
     }
 
-    /// Puts the entries of a block into a store with one column, each over the one at its position or as a new one.
-    /// The entries behind the first new one are moved once, and each entry of the block takes two searches, which are
-    /// short where these lie close. Where there is an entry at each position of the block, none is moved and no
-    /// memory is taken.
+    /// Puts the entries of a block into a store with one column, each over the one at its position or as a new one:
+    /// into a bitmap in the time of these entries and without memory, and into lists as `Sparse::put_block` does.
     pub fn put_block(&mut self, block: &RowBlock) -> Result<(), NoMemory>
         requires column { self.old.cols ≡ 1 }
         requires cols { block.now.cols ≡ 1 }
@@ -292,23 +230,47 @@ impl Store {
         ensures cols { self.new.cols ≡ self.old.cols }
         ensures refused { OnErr result (self.new ≡ self.old) }
     {
-        if block.is_empty() {
-            return Ok(());
+        match &mut self.kept {
+            Kept::Sparse(sparse) => sparse.put_block(block),
+            Kept::Bitmap(bitmap) => {
+                put_into(bitmap, block);
+                Ok(())
+            }
         }
-        put_column(&mut self.lists, &block.lists)
     }
 
-    /// Removes the entry at row `i` and column `j`, where there is one. It moves those behind it, and
-    /// takes no memory.
+    /// Removes the entry at row `i` and column `j`, where there is one, and takes no memory. In lists it moves those
+    /// behind it.
     pub fn remove(&mut self, i: u64, j: u64)
         ensures content { (p q : ℕ) → content_of self.new p q ≡ without_entry (content_of self.old) i j p q }
         ensures rows { self.new.rows ≡ self.old.rows }
         ensures cols { self.new.cols ≡ self.old.cols }
     {
-        if self.cols == 1 {
-            take_out(&mut self.lists, j, i)
-        } else {
-            take_out(&mut self.lists, i, j)
+        match &mut self.kept {
+            Kept::Sparse(sparse) => sparse.remove(i, j),
+            Kept::Bitmap(bitmap) => bitmap.remove(i, j),
         }
     }
+
+    /// Keeps a column that is written in place as a bitmap from now on, where it has entries at many of its positions
+    /// and there is memory for it.
+    pub fn settle(&mut self, alloc: Global)
+        ensures { self.new ≡ self.old }
+    {
+        if let Kept::Sparse(sparse) = &self.kept
+            && is_bitmap_better(sparse)
+            && let Ok(bitmap) = bitmap_of(alloc, sparse)
+        {
+            self.kept = Kept::Bitmap(bitmap);
+        }
+    }
+}
+
+/// Whether many positions of a column have an entry.
+fn is_bitmap_better(sparse: &Sparse) -> bool
+    ensures column { IsTrue result → sparse.now.cols ≡ 1 }
+    ensures small { IsTrue result → sparse.now.rows ≤ 2 ^ 24 }
+{
+    let rows = sparse.rows();
+    sparse.cols() == 1 && (LEAST..=MOST).contains(&rows) && rows / TIMES <= sparse.nvals()
 }

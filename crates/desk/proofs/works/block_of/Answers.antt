@@ -18,7 +18,4 @@ patch_over-requires c = rw c.deref.ensures (rw (c.in-Patch.is, sym c.take.ensure
 pub returns-in_default : goal.returns-in_default
 returns-in_default c =
     let maps : maps_in c.lent-in_default.result ≡ maps_had c.args.inputs.now = λ x role. map_in (c.lent-in_default.ensures role x) in
-    record {
-      piece = IfOk-weaker c.eval_piece-in_default.result _ _ (λ block is. subst (λ (m : Role → Content). IsPieceOf c.args.recipe.now m c.args.rows.start c.args.rows.end block) maps is) c.eval_piece-in_default.ensures.piece;
-      form = c.eval_piece-in_default.ensures.form;
-    }
+    IfOk-weaker c.eval_piece-in_default.result _ _ (λ block is. subst (λ (m : Role → Content). IsPieceOf c.args.recipe.now m c.args.rows.start c.args.rows.end block) maps is) c.eval_piece-in_default.ensures.piece

@@ -8,7 +8,7 @@ use Rattle.calls.specs.Recipes.{known_by_role, known_of}
 use Rattle.kernel.specs.Pieces.{IsPieceOf}
 use Rattle.kernel.specs.Takes.{map_in, maps_in}
 use Rattle.model.specs.Object.{Content, rows_of}
-use Rattle.desk.proofs.OverLaws.{lent-kept, over-rows, same-maps, takes-stores}
+use Rattle.desk.proofs.OverLaws.{lent-kept, over-result, same-maps, takes-stores}
 use Rattle.desk.proofs.works.computed_block.Goals as goal
 
 pub computed_over-requires-clause-inputs : goal.computed_over-requires-clause-inputs
@@ -18,17 +18,16 @@ computed_over-requires-clause-inputs c =
     (known_by_role c.deref.result.now.out c.deref.result.now.operation)
     (rw (c.requires.recipe, sym c.deref.ensures) at c.requires.takes)
 
-pub returns-in_ok-store-in-Some-clause-piece : goal.returns-in_ok-store-in-Some-clause-piece
-returns-in_ok-store-in-Some-clause-piece c =
+pub returns-in_ok-store-in-Some : goal.returns-in_ok-store-in-Some
+returns-in_ok-store-in-Some c =
     let had = c.args.inputs.now in
     let made = rw c.deref.ensures at c.in_ok-store-in-Some.ensures in
-    over-rows c.args.recipe.now c.args.computation.now c.requires.recipe _ _
+    over-result c.args.recipe.now c.args.computation.now c.requires.recipe _ _
     (same-maps c.in-Some.old c.lent.result had c.in-Some.ensures.taken (c.lent.ensures Mask) (c.lent.ensures First) (c.lent.ensures Second))
-    c.in_ok-store-in-Some.store c.into_block.result made.rows made.cols made.content
-    c.into_block.ensures.first c.into_block.ensures.past c.into_block.ensures.cols c.into_block.ensures.content
+    c.in_ok-store-in-Some.store made.rows made.cols made.content
 
-pub returns-in-None-clause-piece : goal.returns-in-None-clause-piece
-returns-in-None-clause-piece c =
+pub returns-in-None : goal.returns-in-None
+returns-in-None c =
     let recipe = c.args.recipe.now in
     let had = c.args.inputs.now in
     let same = lent-kept c.lent-in-None.result had (record had { old = c.take_unshared.new.place }) c.lent-in-None.ensures (c.in-None.ensures.kept refl) refl refl refl in

@@ -2,16 +2,17 @@
 use Rattle.std.proofs.Common.{◌∙◌, refl, sym, arith}
 use Rattle.calls.specs.declared.role.Role.{Role}
 use Rattle.calls.specs.declared.role.Role.TheVariants.{Old, Mask}
-use Rattle.calls.specs.Recipes.{operation_with, out_with}
+use Rattle.calls.specs.Recipes.{known_by_role, meaning, operation_with, out_with}
 use Rattle.kernel.specs.Overs.{beside}
 use Rattle.kernel.specs.Spread.{computed_in, spread}
 use Rattle.kernel.specs.Takes.{map_in}
 use Rattle.kernel.proofs.Accepted.{straight-means}
 use Rattle.kernel.proofs.MaskLaws.{landed-spread, written-masked}
 use Rattle.kernel.proofs.OverLaws.{mask-cols, old-taken}
+use Rattle.kernel.proofs.TakenLaws.{map-taken, meaning-is_object, whole-store}
 use Rattle.model.specs.Object.{Content}
 use Rattle.model.specs.Operations.{is_written_by}
-use Rattle.store.specs.Stored.{block_content}
+use Rattle.store.specs.Stored.{Block, block_content}
 use Rattle.kernel.proofs.over.computed_over.Goals as goal
 
 pub mask_in-mask-requires : goal.mask_in-mask-requires
@@ -33,6 +34,11 @@ write_into-requires-clause-mask c =
     let old = old-taken out c.args.accepted.now.operation c.args.old (c.requires.inputs Old) in
     mask-cols c.mask_in-mask.result _ _ c.args.old.cols c.mask_in-mask.ensures.shape (sym old.cols)
 
+pub prove_eq-unreachable-requires : goal.prove_eq-unreachable-requires
+prove_eq-unreachable-requires c =
+    let old = old-taken c.args.accepted.now.out c.args.accepted.now.operation c.args.old (c.requires.inputs Old) in
+    c.if-prove_eq.true (c.rows.ensures.rows ∙ c.write_into.ensures.rows ∙ old.rows ∙ sym c.rows-2.ensures)
+
 pub returns-clause-rows : goal.returns-clause-rows
 returns-clause-rows c =
     c.write_into.ensures.rows ∙ (old-taken c.args.accepted.now.out c.args.accepted.now.operation c.args.old (c.requires.inputs Old)).rows
@@ -52,8 +58,13 @@ returns-clause-content c =
     let is = c.in_ok-t.ensures in
     let written = rw c.accumulator_in-accum.ensures at c.in_ok-write_into.ensures.content in
     let mask = c.mask_in-mask.result in
-    λ i j low.
+    let store = c.write_into.new.old in
+    let object = meaning-is_object accepted.out accepted.operation maps accepted.accepted
+    (λ role. map-taken (known_by_role accepted.out accepted.operation role) (beside c.args.old c.args.stores.now role) (c.requires.inputs role)) in
+    let whole : Block = record { first = 0; past = store.rows; cols = store.cols; entries = store.entries } in
+    whole-store accepted.out.c (meaning accepted.out accepted.operation maps) whole store object (c.write_into.ensures.rows ∙ old.rows) c.rows.ensures.within (λ i j. refl)
+    (λ i j first low.
     let same = c.mask_in-mask.ensures.set maps refl i j in
     written i j (rw old.rows low)
     ∙ written-masked mask out (block_content t) (spread out op) i j same (λ inside. is.words i j (omega arith) low (same ∙ inside))
-    ∙ sym (straight-means out op c.requires.straight i j ∙ landed-spread out (is_written_by out.c.shape op) (computed_in out op) i j)
+    ∙ sym (straight-means out op c.requires.straight i j ∙ landed-spread out (is_written_by out.c.shape op) (computed_in out op) i j))

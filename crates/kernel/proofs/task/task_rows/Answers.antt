@@ -16,7 +16,8 @@ returns-clause-words c =
     let op = operation_of task in
     let t = c.in_ok-t.t in
     let rows = c.in_ok-t.ensures in
-    let given = rw (c.accumulator_of.ensures, rows.first_is, rows.past_is) at c.write_back.ensures.words in
+    let lent = c.get.ensures ∙ c.in_ok-old.ensures in
+    let given = rw (lent, c.accumulator_of.ensures, rows.first_is, rows.past_is) at c.write_back.ensures.words in
     IfOk-weaker c.write_back.result _ _
     (λ block words i j low high. words i j low high
     ∙ written-masked c.mask_of-mask.result out (block_content t) (spread out op) i j (c.mask_of-mask.ensures.set i j) (rows.words i j low high)

@@ -8,28 +8,28 @@ use Rattle.patch.specs.Edits.{IsInside, edited, place_of}
 use Rattle.patch.proofs.EditLaws.{edited-sorted, order_of_sorted}
 use Rattle.patch.proofs.GatherLaws.{position_cmp}
 use Rattle.patch.proofs.edits.apply_edits.Goals as goal
-use Rattle.patch.proofs.edits.apply_edits.Goals.{then-len-le-FEW_EDITS+in_ok-apply, else-len-le-FEW_EDITS+in_ok-sort_by_key+in_ok-store}
+use Rattle.patch.proofs.edits.apply_edits.Goals.{then-len-le-FEW_EDITS+in_ok-apply, else-len-le-FEW_EDITS+in_ok-sort_by_key+in_ok-merge_into}
 
-pub merge-requires-clause-inside : goal.merge-requires-clause-inside
-merge-requires-clause-inside c =
+pub merge_into-requires-clause-inside : goal.merge_into-requires-clause-inside
+merge_into-requires-clause-inside c =
     let inside = IsInside c.args.store.now.rows c.args.store.now.cols in
     rw c.deref-else-len-le-FEW_EDITS.ensures.value (All-permutation inside c.args.edits.now.items c.sort_by_key.new.self.items c.in_ok-sort_by_key.ensures.permutation c.requires)
 
-pub merge-requires-clause-order : goal.merge-requires-clause-order
-merge-requires-clause-order c =
+pub merge_into-requires-clause-order : goal.merge_into-requires-clause-order
+merge_into-requires-clause-order c =
     let sorted = c.sort_by_key.new.self.items in
     rw c.deref-else-len-le-FEW_EDITS.ensures.value (order_of_sorted sorted (c.in_ok-sort_by_key.ensures.sorted place_of (always_returns_same _ _ _ (λ a r f' k. search rules))))
 
-pub returns-in_err-store-clause-inside : goal.returns-in_err-store-clause-inside
-returns-in_err-store-clause-inside c =
+pub returns-in_err-merge_into-clause-inside : goal.returns-in_err-merge_into-clause-inside
+returns-in_err-merge_into-clause-inside c =
     let inside = IsInside c.args.store.now.rows c.args.store.now.cols in
     All-permutation inside c.args.edits.now.items c.sort_by_key.new.self.items c.in_ok-sort_by_key.ensures.permutation c.requires
 
-pub returns-in_err-store-clause-meaning : goal.returns-in_err-store-clause-meaning
-returns-in_err-store-clause-meaning c =
+pub returns-in_err-merge_into-clause-meaning : goal.returns-in_err-merge_into-clause-meaning
+returns-in_err-merge_into-clause-meaning c =
     let sorted = c.sort_by_key.new.self.items in
     let stable : IsStableByKey place_of position_cmp c.args.edits.now.items sorted = c.in_ok-sort_by_key.ensures.stable place_of (always_returns_same _ _ _ (λ a r f' k. search rules)) in
-    edited-sorted c.args.edits.now.items sorted stable (content_of c.args.store.now)
+    rw c.in_err-merge_into.ensures.refused (edited-sorted c.args.edits.now.items sorted stable (content_of c.args.store.now))
 
 pub returns-clause-meaning : goal.returns-clause-meaning
 returns-clause-meaning c i j =
@@ -37,8 +37,8 @@ returns-clause-meaning c i j =
     let edits = c.args.edits.now.items in
     rw c.clear.ensures.items (elim c.if-len-le-FEW_EDITS.branch [
       | then-len-le-FEW_EDITS+in_ok-apply w ↦ rw w.store-is (w.in_ok-apply.ensures.content i j ∙ ap (λ (es : List Edit). edited es old i j) w.deref.ensures.value)
-      | else-len-le-FEW_EDITS+in_ok-sort_by_key+in_ok-store w ↦
+      | else-len-le-FEW_EDITS+in_ok-sort_by_key+in_ok-merge_into w ↦
           let sorted = w.sort_by_key.new.self.items in
           let stable : IsStableByKey place_of position_cmp edits sorted = w.in_ok-sort_by_key.ensures.stable place_of (always_returns_same _ _ _ (λ a r f' k. search rules)) in
-          rw w.store-is (w.in_ok-store.ensures.content i j ∙ ap (λ (es : List Edit). edited es old i j) w.deref-else-len-le-FEW_EDITS.ensures.value ∙ edited-sorted edits sorted stable old i j)
+          rw w.store-is (w.in_ok-merge_into.ensures.content i j ∙ ap (λ (es : List Edit). edited es old i j) w.deref-else-len-le-FEW_EDITS.ensures.value ∙ edited-sorted edits sorted stable old i j)
     ])

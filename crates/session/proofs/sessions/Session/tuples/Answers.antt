@@ -11,6 +11,7 @@ use Rattle.session.proofs.sessions.Session.tuples.Goals as goal
 pub returns-clause-tuples : goal.returns-clause-tuples
 returns-clause-tuples g c =
     let now = object_at (environment_of c.complete.new.self) c.args.object in
-    c.in_ok-tuples.ensures
+    let lent = c.get.ensures ∙ c.in_ok-lists.ensures in
+    (rw lent at c.in_ok-tuples.ensures)
     ∙ (λ t. let of : Signature = c.known-domain.ensures t in map (tuple_of of.domain) (stored-entries now c.store.result.now c.store.ensures.object c.store.ensures.store t))
     ∙ ap (λ (env : Environment Obj). tuples_of (object_at env c.args.object)) c.in_ok-complete.ensures.kept

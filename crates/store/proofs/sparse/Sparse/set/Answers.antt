@@ -1,0 +1,31 @@
+-- The entry set, in the order in which the lists have it.
+use Rattle.std.proofs.Common.{ap}
+use Rattle.std.proofs.lemmas.Bool.{eq-eqb, ne_eqb}
+use Rattle.store.specs.Fibers.{entries_in}
+use Rattle.store.proofs.StoreLaws.{column_absent, column_set, column_words_set, rows_set}
+use Rattle.store.proofs.sparse.Sparse.set.Goals as goal
+
+pub invariant_of-self : goal.invariant_of-self
+invariant_of-self c =
+    let s = c.self.inside in
+    let rows = ap (λ s. s.rows) c.self.view_is in
+    let cols = ap (λ s. s.cols) c.self.view_is in
+    column_set s.rows s.cols c.args.i c.args.j c.args.word s.lists c.put.new.lists c.put.result (eq-eqb s.cols 1 c.if-self-eq1.true) (rw rows c.requires.row) (rw cols c.requires.col) c.self.invariant c.put.ensures.flat c.put.ensures.ok c.put.ensures.refused
+
+pub invariant_of-self-else-self-eq1 : goal.invariant_of-self-else-self-eq1
+invariant_of-self-else-self-eq1 c =
+    let s = c.self.inside in
+    let rows = ap (λ s. s.rows) c.self.view_is in
+    let cols = ap (λ s. s.cols) c.self.view_is in
+    let put = c.put-else-self-eq1 in
+    rows_set s.rows s.cols c.args.i c.args.j c.args.word s.lists put.new.lists put.result (ne_eqb s.cols 1 c.if-self-eq1.false) (rw rows c.requires.row) (rw cols c.requires.col) c.self.invariant put.ensures.flat put.ensures.ok put.ensures.refused
+
+pub returns-then-self-eq1-clause-content : goal.returns-then-self-eq1-clause-content
+returns-then-self-eq1-clause-content c =
+    let s = c.self.inside in
+    rw (← c.self.view_is) (column_words_set s.cols c.args.i c.args.j c.args.word (entries_in s.lists) (entries_in c.put.new.lists) c.put.result (eq-eqb s.cols 1 c.if-self-eq1.true) c.put.ensures.ok)
+
+pub returns-then-self-eq1-clause-absent : goal.returns-then-self-eq1-clause-absent
+returns-then-self-eq1-clause-absent c =
+    let s = c.self.inside in
+    rw (← c.self.view_is) (column_absent s.cols c.args.i c.args.j (entries_in s.lists) c.put.result (eq-eqb s.cols 1 c.if-self-eq1.true) c.put.ensures.absent)
