@@ -17,9 +17,9 @@ use model::NoMemory;
 use std::alloc::Global;
 use store::{FiberLists, Form, RowBlock, Store};
 
-/// Writes what a call leaves in its output into that store itself: what `write_back` gives for all rows. Where the
-/// store has one column, nothing is replaced and few entries are written beside those that are there, they are put
-/// into it; else it is written anew.
+/// Writes what a call leaves in its output into that store itself: what `write_back` gives for all rows. Where nothing
+/// is replaced, and the store is a bitmap or has one column and few entries are written beside those that are there,
+/// they are put into it; else it is written anew.
 pub fn write_into(
     alloc: Global,
     old: &mut Store,

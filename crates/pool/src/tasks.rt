@@ -1,5 +1,6 @@
 //! The tasks of a pool, which are the calling thread's own, or lie under the lock.
-ghost use Rattle.std.specs.Prelude.{◌≡◌, ◌↔◌, ◌+◌, ◌<◌, IfOk, IfSome, IsTrue, None, OnErr, OnOk, [], slice_get, true};
+ghost use Rattle.std.specs.Prelude.{◌≡◌, ◌↔◌, ◌+◌, ◌<◌, IfOk, IfSome, IsTrue, None, OnErr, OnOk, [], is_some};
+ghost use Rattle.std.specs.Prelude.{slice_get, true};
 ghost use Rattle.std.specs.Arc.{arc_value};
 ghost use Rattle.std.specs.Bool.{OnTrue};
 ghost use Rattle.board.specs.Boards.{view_of};
@@ -60,7 +61,9 @@ impl<J: Naming, P: Picker + Drop> Tasks<J, P> {
     }
 
     /// Whether the tasks are here.
-    pub fn are_here(&self) -> bool {
+    pub fn are_here(&self) -> bool
+        ensures { result ≡ is_some self.now.picker }
+    {
         self.picker.is_some()
     }
 

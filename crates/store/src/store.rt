@@ -29,14 +29,18 @@ enum Kept {
 /// A store as it is kept, for whoever has a way of its own for a form.
 #[derive(Clone, Copy)]
 pub enum Form<'a> {
+    /// As lists.
     Sparse(&'a Sparse),
+    /// As a bitmap, which has one column.
     Bitmap(&'a Bitmap),
 }
 
 /// A store's entries as lists: those that it has, or such as were made of a bitmap.
 #[derive(Drop)]
 pub enum AsSparse<'a> {
+    /// Those that the store has.
     Lent(&'a Sparse),
+    /// Those that were made of its bitmap.
     Made(Sparse),
 }
 
@@ -137,16 +141,6 @@ impl Store {
         match &self.kept {
             Kept::Sparse(sparse) => Ok(AsSparse::Lent(sparse)),
             Kept::Bitmap(bitmap) => Ok(AsSparse::Made(sparse_of(alloc, bitmap)?)),
-        }
-    }
-
-    /// The same, of a store that is given up: lists that are there are handed on.
-    pub fn into_sparse(self, alloc: Global) -> Result<Sparse, NoMemory>
-        ensures { IfOk result (λ sparse. sparse ≡ self) }
-    {
-        match self.kept {
-            Kept::Sparse(sparse) => Ok(sparse),
-            Kept::Bitmap(bitmap) => sparse_of(alloc, &bitmap),
         }
     }
 
