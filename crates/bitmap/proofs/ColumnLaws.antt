@@ -65,7 +65,7 @@ column_most f first m n le =
 
 -- ---- the 64 places of a word of bits
 
-bit_here : (bits : List ℕ) (at k : ℕ) → 64 * at ≤ k → k < 64 * at + 64
+pub bit_here : (bits : List ℕ) (at k : ℕ) → 64 * at ≤ k → k < 64 * at + 64
     → has_bit bits k ≡ eqb (bit_at (get_or bits at 0) (k - 64 * at)) 1
 bit_here bits at k low high =
     let word : k / 64 ≡ at = omega arith in

@@ -19,7 +19,7 @@ abbrev pub one_of : Option ℕ → ℕ
 one_of None = 0
 one_of (Some word) = 1
 
-one_more : (r k : ℕ) (o : Option ℕ) (es : List Entry)
+pub one_more : (r k : ℕ) (o : Option ℕ) (es : List Entry)
     → length (cons_option (option_map (entry_at r k) o) es) ≡ one_of o + length es
 one_more r k None es = omega arith
 one_more r k (Some w) es = omega arith
@@ -141,7 +141,7 @@ rows_none cols c first (suc n) none = rw (row_none c first 0 cols cols (none fir
 abbrev pub count_of : ℕ → ℕ → List ℕ → List ℕ → ℕ
 count_of rows cols bits words = length (entries_of rows cols (held cols bits words))
 
-one_in : (bits words : List ℕ) (at : ℕ) → one_of (word_in bits words at) ≡ bool_byte (has_bit bits at)
+pub one_in : (bits words : List ℕ) (at : ℕ) → one_of (word_in bits words at) ≡ bool_byte (has_bit bits at)
 one_in bits words at = elim (has_bit bits at) as (λ b. one_of (cond b (Some (get_or words at 0)) None) ≡ bool_byte b) [
   | true ↦ refl
   | false ↦ refl

@@ -1,7 +1,10 @@
 pub mod ColumnLaws
 pub mod CountLaws
+pub mod FullLaws
+pub mod KernelLaws
 pub mod KeptPlaces
 pub mod OrderLaws
 pub mod OverLaws
 pub mod PlaceLaws
+pub mod PlacedEntries
 pub mod WordLaws

@@ -7,6 +7,7 @@ ghost use Rattle.model.specs.Object.{with_entry, without_entry};
 ghost use Rattle.bitmap.specs.Bitmaps.{entries_down, place_of};
 
 use crate::column::ColumnLists;
+use crate::full::full_lists;
 use lanes::{clear_bit, has_bit, set_bit};
 use model::NoMemory;
 use std::alloc::Global;
@@ -16,11 +17,11 @@ use std::marker::Model;
 /// there. A vector is a column: its places are its rows.
 #[derive(Drop)]
 pub struct Bitmap {
-    rows: u64,
-    cols: u64,
-    count: u64,
-    bits: Vec<u64>,
-    words: Vec<u64>,
+    pub(crate) rows: u64,
+    pub(crate) cols: u64,
+    pub(crate) count: u64,
+    pub(crate) bits: Vec<u64>,
+    pub(crate) words: Vec<u64>,
 }
 
 impl Model for Bitmap {
@@ -170,12 +171,15 @@ impl Bitmap {
     }
 
     /// The rows and the words of the entries of a column, in order, in lists of their own. It reads a bit for each
-    /// row, 64 at once, and a word for each entry.
+    /// row, 64 at once, and a word for each entry; where each row has one, it reads no bit.
     pub fn column(&self, alloc: Global) -> Result<(Vec<u64>, Vec<u64>), NoMemory>
         requires { self.now.cols ≡ 1 }
         ensures lengths { IfOk result (λ r. length r.1.items ≡ length r.0.items) }
         ensures entries { IfOk result (λ r. entries_down r.0.items r.1.items ≡ self.now.entries) }
     {
+        if self.count as usize == self.words.len() {
+            return full_lists(alloc, &self.words);
+        }
         let mut lists = ColumnLists::with_capacity(alloc, self.count as usize)?;
         lists.gather(&self.bits, &self.words);
         Ok(lists.into_lists())

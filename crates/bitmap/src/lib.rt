@@ -3,5 +3,7 @@
 
 mod bitmap;
 mod column;
+mod full;
+mod kernels;
 
 pub use bitmap::Bitmap;

@@ -5,6 +5,7 @@ use Rattle.std.proofs.Common.{◌≡◌, ◌≢◌, ℕ, zero, suc, ◌+◌, ◌
 use Rattle.std.specs.Int.{bit_at, bit_not, trailing_zeros}
 use Rattle.std.specs.Prelude.{count_ones}
 use Rattle.std.specs.Int.Bits.{or_zero_r}
+use Rattle.std.proofs.Math.Nat.{pow-suc}
 use Rattle.std.proofs.lemmas.Bool.{cases_Bool, cases_eq, eq-eqb, ne_eqb}
 use Rattle.std.proofs.lemmas.Bool.Decides.{nat_tests}
 use Rattle.std.proofs.lemmas.List.{get_or-set_other, get_or-set_same}
@@ -149,7 +150,8 @@ bit_is : (k n : ℕ) → bit_at n k ≡ higher k n % 2
 bit_is zero n = bit_at_lowest n
 bit_is (suc k) n = bit_at-suc n k ∙ bit_is k (n / 2)
 
-ones_at : (k n : ℕ) → count_ones (higher k n) ≡ bit_at n k + count_ones (higher (suc k) n)
+-- the lowest digit that is left counts, where it is 1
+pub ones_at : (k n : ℕ) → count_ones (higher k n) ≡ bit_at n k + count_ones (higher (suc k) n)
 ones_at k n = ones_step (higher k n) ∙ rw (bit_is k n, higher_step k n) refl
 
 fewer_ones : (j k n : ℕ) → count_ones (higher (k + j) n) ≤ count_ones (higher k n)
@@ -169,3 +171,8 @@ ones_behind n p k le there =
     let at = ones_at k n in
     let next : k + 1 ≡ suc k = omega arith in
     rw next (omega arith)
+
+-- a number of at most so many digits has none behind them
+pub higher_none : (k n : ℕ) → n < 2 ^ k → higher k n ≡ 0
+higher_none zero n less = omega arith
+higher_none (suc k) n less = let double = pow-suc 2 k in higher_none k (n / 2) (omega arith)

@@ -2,3 +2,5 @@ pub mod BitLaws
 pub mod Folded
 pub mod Kept
 pub mod Lists
+pub mod PresentLaws
+pub mod WorkedFolds

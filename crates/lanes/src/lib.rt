@@ -9,11 +9,13 @@ mod bits;
 mod bound;
 mod casts;
 mod monoid;
+mod present;
 mod unary;
 
 pub use binary::{unite_words, zip_words};
-pub use bits::{clear_bit, full_words, has_bit, packed, set_bit};
+pub use bits::{and_words, clear_bit, count_ones, full_words, has_bit, or_words, packed, set_bit};
 pub use bound::{bind_first, bind_second};
 pub use casts::cast_words;
 pub use monoid::fold_words;
+pub use present::{fold_present, unite_present};
 pub use unary::map_words;
