@@ -1,10 +1,14 @@
 -- The positions that a call may write (the mask of a GraphBLAS call, GrB_STRUCTURE, GrB_COMP), of masks as
 -- they are read.
-use Rattle.std.specs.Prelude.{ℕ, ◌||◌, ◌==◌, not, Bool, true, false, if◌then◌else◌, Option}
+use Rattle.std.specs.Prelude.{ℕ, ◌≡◌, ◌||◌, ◌==◌, not, Bool, true, false, if◌then◌else◌, Option}
 use Rattle.std.specs.Option.{option_map_or}
 use Rattle.masks.specs.declared.view.Mask.{Mask}
 use Rattle.masks.specs.declared.view.Mask.TheVariants.{By, Everywhere, Nowhere}
 use Rattle.masks.specs.declared.view.MaskTest.{MaskTest}
+use Rattle.masks.specs.declared.view.ReadMask.{ReadMask}
+use Rattle.masks.specs.declared.view.ReadMask.TheVariants.{Listed, Marked}
+use Rattle.masks.specs.declared.view.StoredMask.{StoredMask}
+use Rattle.store.specs.Forms.{of_bitmap, sparse_of}
 use Rattle.store.specs.Stored.{Stored, content_of}
 
 -- whether a mask has a position where this word stands
@@ -30,3 +34,8 @@ abbrev pub IfStored : Mask → (Stored → Type 0) → Type 0
 IfStored Everywhere P = Unit
 IfStored Nowhere P = Unit
 IfStored (By mask) P = P mask.store.now
+
+-- a mask as it is read has the store and the test of another
+abbrev pub IsRead : StoredMask → ReadMask → Type 0
+IsRead mask (Listed lists) = sparse_of lists ≡ mask.store.now
+IsRead mask (Marked marked) = (of_bitmap marked.bitmap.now ≡ mask.store.now) × (marked.test ≡ mask.test)

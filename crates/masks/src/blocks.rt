@@ -6,24 +6,33 @@ ghost use Rattle.masks.specs.Masks.{lets_word};
 
 use crate::keep::keep_entries;
 use crate::marked::keep_marked;
-use crate::{Joining, MaskTest, StoredMask, join_rows};
+use crate::{Joining, MarkedMask, MaskTest, StoredMask, join_rows};
 use model::NoMemory;
 use std::alloc::Global;
 use store::{Form, RowBlock, Sparse};
 
-/// What a mask keeps of a block, in its memory. A bitmap is asked at the block's entries alone.
-pub fn keep_block(block: RowBlock, mask: StoredMask<'_>) -> RowBlock
+/// What a mask keeps of a block, in its memory. The bitmap of a column is asked at the block's entries alone, and any
+/// other is read as lists.
+pub fn keep_block(
+    alloc: Global,
+    block: RowBlock,
+    mask: StoredMask<'_>,
+) -> Result<RowBlock, NoMemory>
     requires { block.cols ≡ mask.store.now.cols }
-    ensures first { result.first ≡ block.first }
-    ensures past { result.past ≡ block.past }
-    ensures cols { result.cols ≡ block.cols }
-    ensures words { (i j : ℕ) → block.first ≤ i → i < block.past → block_content result i j
-        ≡ (if lets_word mask.entry.test (content_of mask.entry.store.now i j) then block_content block i j else None) }
+    ensures first { IfOk result (λ kept. kept.first ≡ block.first) }
+    ensures past { IfOk result (λ kept. kept.past ≡ block.past) }
+    ensures cols { IfOk result (λ kept. kept.cols ≡ block.cols) }
+    ensures words { IfOk result (λ kept. (i j : ℕ) → block.first ≤ i → i < block.past → block_content kept i j
+        ≡ (if lets_word mask.entry.test (content_of mask.entry.store.now i j) then block_content block i j else None)) }
 {
-    match mask.store.form() {
-        Form::Sparse(sparse) => keep_listed(block, mask.test, sparse),
-        Form::Bitmap(bitmap) => keep_marked(block, mask.test, bitmap),
+    let test = mask.test;
+    if let Form::Bitmap(bitmap) = mask.store.form()
+        && block.cols() == 1
+    {
+        return Ok(keep_marked(block, MarkedMask { bitmap, test }));
     }
+    let stored = mask.store.as_sparse(alloc)?;
+    Ok(keep_listed(block, test, stored.get()))
 }
 
 /// What a mask keeps of a block, by the lists of its store.

@@ -18,8 +18,8 @@ use std::alloc::Global;
 use store::{FiberLists, Form, RowBlock, Store};
 
 /// Writes what a call leaves in its output into that store itself: what `write_back` gives for all rows. Where nothing
-/// is replaced, and the store is a bitmap or has one column and few entries are written beside those that are there,
-/// they are put into it; else it is written anew.
+/// is replaced, and the store is one column that is a bitmap or has many more entries than are written, they are put
+/// into it; else it is written anew.
 pub fn write_into(
     alloc: Global,
     old: &mut Store,
@@ -41,9 +41,13 @@ pub fn write_into(
     match (mask, accum, replace) {
         (Mask::Everywhere, Some(op), _) => accumulate_into(alloc, old, t, op),
         (Mask::By(mask), Some(op), false) => {
-            accumulate_into(alloc, old, keep_block(t, mask), op)
+            let inside = keep_block(alloc, t, mask)?;
+            accumulate_into(alloc, old, inside, op)
         }
-        (Mask::By(mask), None, false) => write_inside(alloc, old, keep_block(t, mask), mask),
+        (Mask::By(mask), None, false) => {
+            let inside = keep_block(alloc, t, mask)?;
+            write_inside(alloc, old, inside, mask)
+        }
         (mask, accum, replace) => {
             let block = write_back(alloc, old.as_sparse(alloc)?.get(), t, mask, accum, replace)?;
             renew(old, block);
@@ -112,16 +116,15 @@ fn write_inside(
 /// behind the first new one takes less than to write all anew.
 const MUCH_MORE: u64 = 16;
 
-/// Whether a block's entries are put into a store: into a bitmap, and into lists that are one column, where they are
-/// few beside its entries.
+/// Whether a block's entries are put into a store: into a column that is a bitmap, unless each row has one, and into
+/// one that is lists where they are few beside its entries.
 fn is_put_into(block: &RowBlock, store: &Store) -> bool
     ensures { IsTrue result → store.now.cols ≡ 1 }
 {
+    let count = block.fibers().len() as u64;
     match store.form() {
-        Form::Bitmap(_) => true,
-        Form::Sparse(lists) => {
-            lists.cols() == 1 && block.fibers().len() as u64 <= lists.nvals() / MUCH_MORE
-        }
+        Form::Bitmap(bitmap) => bitmap.cols() == 1 && count < bitmap.rows(),
+        Form::Sparse(lists) => lists.cols() == 1 && count <= lists.nvals() / MUCH_MORE,
     }
 }
 

@@ -23,5 +23,6 @@ pub use blocks::keep_block;
 pub use in_place::write_into;
 pub use join::{Joining, join_rows};
 pub use keep::keep_fiber;
-pub use view::{Mask, MaskTest, SparseMask, StoredMask};
+pub use marked::MarkedMask;
+pub use view::{Mask, MaskTest, ReadMask, SparseMask, StoredMask};
 pub use write::write_back;

@@ -1,4 +1,4 @@
-//! What a bitmap as a mask keeps of the entries of a column, in the same memory.
+//! Masks whose store is a bitmap, and what they keep of the entries of a column, in the same memory.
 ghost use Rattle.std.specs.Prelude.{◌≡◌, ℕ, ◌<◌, ◌≤◌, ◌∷◌, [], if◌then◌else◌, None, length, take};
 ghost use Rattle.std.specs.List.{filter};
 ghost use Rattle.model.specs.Entries.{word_at};
@@ -11,42 +11,65 @@ use crate::MaskTest;
 use bitmap::Bitmap;
 use store::{FiberEnd, RowBlock};
 
+/// The positions that a column as a bitmap lets through, for whoever asks for each.
+#[derive(Clone, Copy)]
+pub struct MarkedMask<'a> {
+    pub bitmap: &'a Bitmap,
+    pub test: MaskTest,
+}
+
+impl MarkedMask<'_> {
+    /// Whether a row is let through. Where the mask goes by the structure alone, no word is read.
+    #[inline(always)]
+    pub fn lets(self, row: u64) -> bool
+        ensures { result ≡ lets_word self.entry.test (word_at self.entry.bitmap.now.entries row 0) }
+    {
+        if self.test.valued {
+            let counts = self.bitmap.get(row, 0).is_some_and(|word| word != 0);
+            counts != self.test.complement
+        } else {
+            self.bitmap.has(row, 0) != self.test.complement
+        }
+    }
+
+    /// Brings the entries of a column that are let through to the front of its lists, and answers how many there are.
+    pub fn keep_rows(self, rows: &mut [u64], words: &mut [u64]) -> usize
+        requires { length words.old ≡ length rows.old }
+        ensures bound { result ≤ length rows.old }
+        ensures rows_length { length rows.new ≡ length rows.old }
+        ensures words_length { length words.new ≡ length words.old }
+        ensures kept { entries_along 0 (take result rows.new) (take result words.new)
+            ≡ kept_by self.entry.test (transposed self.entry.bitmap.now.entries) (entries_along 0 rows.old words.old) }
+    {
+        let mut kept = 0;
+        for at in 0..rows.len() {
+            let row = rows[at];
+            let is_kept = self.lets(row);
+            rows[kept] = row;
+            words[kept] = words[at];
+            kept += usize::from(is_kept);
+        }
+        kept
+    }
+}
+
 /// What a mask keeps of a block of a column: its bitmap is asked at each entry.
-pub(crate) fn keep_marked(block: RowBlock, test: MaskTest, bitmap: &Bitmap) -> RowBlock
+pub(crate) fn keep_marked(block: RowBlock, mask: MarkedMask<'_>) -> RowBlock
     requires { block.cols ≡ 1 }
     ensures first { result.first ≡ block.first }
     ensures past { result.past ≡ block.past }
     ensures cols { result.cols ≡ block.cols }
     ensures words { (i j : ℕ) → block_content result i j
-        ≡ (if lets_word test (word_at bitmap.now.entries i j) then block_content block i j else None) }
+        ≡ (if lets_word mask.entry.test (word_at mask.entry.bitmap.now.entries i j)
+        then block_content block i j else None) }
 {
     let (first, past, cols) = (block.first(), block.past(), block.cols());
     let mut lists = block.into_lists();
-    let kept = keep_rows(&mut lists.inner, &mut lists.words, test, bitmap);
+    let kept = mask.keep_rows(&mut lists.inner, &mut lists.words);
     lists.inner.truncate(kept);
     lists.words.truncate(kept);
     end_column(&mut lists.ends, kept);
     RowBlock::of_fibers(first, past, cols, lists)
-}
-
-/// Brings what the mask keeps to the front of each list, and answers how many entries there are.
-fn keep_rows(rows: &mut [u64], words: &mut [u64], test: MaskTest, bitmap: &Bitmap) -> usize
-    requires { length words.old ≡ length rows.old }
-    ensures bound { result ≤ length rows.old }
-    ensures rows_length { length rows.new ≡ length rows.old }
-    ensures words_length { length words.new ≡ length words.old }
-    ensures kept { entries_along 0 (take result rows.new) (take result words.new)
-        ≡ kept_by test (transposed bitmap.now.entries) (entries_along 0 rows.old words.old) }
-{
-    let mut kept = 0;
-    for at in 0..rows.len() {
-        let row = rows[at];
-        let is_kept = lets(bitmap, test, row);
-        rows[kept] = row;
-        words[kept] = words[at];
-        kept += usize::from(is_kept);
-    }
-    kept
 }
 
 /// Has the one fiber of a column end behind so many entries; without entries there is none.
@@ -60,18 +83,5 @@ fn end_column(ends: &mut Vec<FiberEnd>, count: usize)
             outer: 0,
             end: count,
         };
-    }
-}
-
-/// Whether the mask lets a row through. Where it goes by the structure alone, no word is read.
-#[inline(always)]
-fn lets(bitmap: &Bitmap, test: MaskTest, row: u64) -> bool
-    ensures { result ≡ lets_word test (word_at bitmap.now.entries row 0) }
-{
-    if test.valued {
-        let counts = bitmap.get(row, 0).is_some_and(|word| word != 0);
-        counts != test.complement
-    } else {
-        bitmap.has(row, 0) != test.complement
     }
 }

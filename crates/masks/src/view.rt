@@ -1,8 +1,8 @@
 //! Masks as they are read.
-ghost use Rattle.std.specs.Prelude.{◌≡◌, IfOk, IfSome, not};
-ghost use Rattle.masks.specs.Masks.{counts};
-ghost use Rattle.store.specs.Forms.{sparse_of};
+ghost use Rattle.std.specs.Prelude.{◌≡◌, IfOk, not};
+ghost use Rattle.masks.specs.Masks.{IsRead, counts};
 
+use crate::MarkedMask;
 use model::NoMemory;
 use std::alloc::Global;
 use store::{AsSparse, Form, Sparse, Store};
@@ -32,6 +32,15 @@ pub struct SparseMask<'a> {
     pub test: MaskTest,
 }
 
+/// A mask's store in the form in which it is read.
+#[derive(Drop)]
+pub enum ReadMask<'a> {
+    /// As lists, to go along.
+    Listed(AsSparse<'a>),
+    /// As a bitmap, to ask.
+    Marked(MarkedMask<'a>),
+}
+
 /// Which positions a mask's store lets through, by the word that stands there, if any.
 #[derive(Clone, Copy)]
 pub struct MaskTest {
@@ -44,14 +53,17 @@ pub struct MaskTest {
 }
 
 impl<'a> StoredMask<'a> {
-    /// Its store's entries as lists, where whoever goes by the mask should go along these: not where it lets the other
-    /// positions than those of a bitmap through, of which to ask for each takes less than to make lists.
-    pub fn lists(self, alloc: Global) -> Result<Option<AsSparse<'a>>, NoMemory>
-        ensures { IfOk result (λ found. IfSome found (λ lists. sparse_of lists ≡ self.entry.store.now)) }
+    /// The mask in the form in which whoever goes by it should read it: the bitmap of a column is asked where the mask
+    /// lets the other positions than its own through, since to ask for each of these takes less than to make lists.
+    pub fn read(self, alloc: Global) -> Result<ReadMask<'a>, NoMemory>
+        ensures { IfOk result (λ found. IsRead self.entry found) }
     {
+        let test = self.test;
         match self.store.form() {
-            Form::Bitmap(_) if self.test.complement => Ok(None),
-            _ => Ok(Some(self.store.as_sparse(alloc)?)),
+            Form::Bitmap(bitmap) if test.complement && bitmap.cols() == 1 => {
+                Ok(ReadMask::Marked(MarkedMask { bitmap, test }))
+            }
+            _ => Ok(ReadMask::Listed(self.store.as_sparse(alloc)?)),
         }
     }
 

@@ -109,7 +109,7 @@ fn write_under(
         (lets_word mask.entry.test (content_of mask.entry.store.now i j))
         (content_of old.now i j) (block_content t i j)) }
 {
-    let inside = keep_block(t, mask);
+    let inside = keep_block(alloc, t, mask)?;
     match (accum, replace) {
         (None, true) => Ok(inside),
         (None, false) => write_over(alloc, old, inside, mask),
@@ -158,7 +158,7 @@ fn old_rows(
         ≡ (if lets_word mask.entry.test (content_of mask.entry.store.now i j) then content_of old.now i j else None)) }
 {
     let rows = old.copy_rows(alloc, block.first()..block.past())?;
-    Ok(keep_block(rows, mask))
+    keep_block(alloc, rows, mask)
 }
 
 /// Accumulates what was computed into what was there, at every position.

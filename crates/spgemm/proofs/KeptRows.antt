@@ -8,6 +8,7 @@ use Rattle.std.proofs.lemmas.List.{drop_all, get_or-take, take-append-drop, take
 use Rattle.std.proofs.lemmas.List.Elements.{All-cons, All-contains, All-contains_itself, All-head, All-map, All-nil, All-tail, All-weaker, filter-append}
 use Rattle.std.proofs.Math.Seq.{drop-append_seam, take-append_seam}
 use Rattle.algebra.specs.declared.binary.BinaryOp.{BinaryOp}
+use Rattle.masks.specs.declared.marked.MarkedMask.{MarkedMask}
 use Rattle.masks.specs.declared.view.MaskTest.{MaskTest}
 use Rattle.masks.specs.Keeps.{kept_by}
 use Rattle.masks.specs.Masks.{lets_word}
@@ -19,13 +20,15 @@ use Rattle.model.specs.Entries.{InOrder, Precedes, word_at}
 use Rattle.store.specs.declared.lists.FiberEnd.{FiberEnd}
 use Rattle.store.specs.declared.lists.FiberLists.{FiberLists}
 use Rattle.store.specs.Fibers.{entries_along}
+use Rattle.store.specs.Stored.{transposed}
 use Rattle.store.proofs.CloseLaws.{closed}
+use Rattle.store.proofs.Contents.{word_at-transposed}
 use Rattle.store.proofs.FlatLaws.{all_cols, all_rows, row_in_order}
 use Rattle.store.proofs.Order.{all_drop, all_from_map, all_pairs_filter, all_take}
 use Rattle.store.proofs.Positions.{filter_none, filter_whole}
 use Rattle.store.proofs.Walks.{cols_rise}
 use Rattle.spgemm.specs.declared.term.Term.{Term}
-use Rattle.spgemm.specs.Keeping.{HasKept, IsPart, keeps_among}
+use Rattle.spgemm.specs.Keeping.{HasKept, HasMarked, IsPart, keeps_among, keeps_marked}
 use Rattle.spgemm.specs.Products.{HasOpenRow, HasRow, IsSumRow}
 use Rattle.spgemm.specs.Terms.{kept_terms}
 use Rattle.spgemm.specs.Vectors.{in_range}
@@ -59,7 +62,7 @@ all_in_filter P keeps (x ∷ xs) h =
       | inr without ↦ rw without rest
     ]
 
-filter_twice : {X : Type 0} (p q r : X → Bool) (xs : List X) → All (λ x. (q x && p x) ≡ r x) xs
+pub filter_twice : {X : Type 0} (p q r : X → Bool) (xs : List X) → All (λ x. (q x && p x) ≡ r x) xs
     → filter p (filter q xs) ≡ filter r xs
 filter_twice p q r [] h = refl
 filter_twice p q r (x ∷ xs) h =
@@ -74,6 +77,23 @@ filter_twice p q r (x ∷ xs) h =
           ]
       | inr without ↦ let goes : r x ≡ false = sym (rw without at here) in rw (without, goes) rest
     ]
+
+filter_same : {X : Type 0} (p r : X → Bool) (xs : List X) → All (λ x. p x ≡ r x) xs → filter p xs ≡ filter r xs
+filter_same p r xs h =
+    sym (ap (filter p) (filter_whole (λ x. true) xs (All-weaker (λ x. p x ≡ r x) (λ x. true ≡ true) (λ x is. refl) xs h)))
+    ∙ filter_twice p (λ x. true) r xs h
+
+-- a bitmap as a mask is asked at each inner index of the one fiber of a column
+pub marked_along : (mask : MarkedMask) (rows words : List ℕ)
+    → kept_by mask.test (transposed mask.bitmap.now.entries) (entries_along 0 rows words)
+    ≡ filter (λ e. keeps_marked mask e.col) (entries_along 0 rows words)
+marked_along mask rows words =
+    let entries = mask.bitmap.now.entries in
+    let es = entries_along 0 rows words in
+    let p : Entry → Bool = λ e. lets_word mask.test (word_at (transposed entries) e.row e.col) in
+    let r : Entry → Bool = λ e. keeps_marked mask e.col in
+    filter_same p r es
+    (All-weaker (λ (e : Entry). e.row ≡ 0) (λ e. p e ≡ r e) (λ e at. ap (lets_word mask.test) (word_at-transposed entries e.row e.col ∙ ap (word_at entries e.col) at)) es (all_rows 0 rows words))
 
 -- ---- a part of a row
 
@@ -199,6 +219,21 @@ open_inside op index width terms old new below here =
     subst (All P) (sym (tail_is op index terms old new here))
     (All-weaker (λ col. Contains (map at terms) col) P (λ col p. All-contains P (map at terms) col (All-map P at terms below) p) here.cols here.sums.columns)
 
+tail_words_is : (op : BinaryOp) (index : ℕ) (terms : List Term) (old new : FiberLists)
+    → length old.words.items ≡ length old.inner.items → (here : HasOpenRow op index terms old new)
+    → drop (length old.inner.items) new.words.items ≡ here.added
+tail_words_is op index terms old new same here = ap (drop (length old.inner.items)) here.words ∙ ap (λ n. drop n (old.words.items ++ here.added)) (sym same) ∙ drop-append_seam old.words.items here.added
+
+-- and what stands before it
+front_is : (op : BinaryOp) (index : ℕ) (terms : List Term) (old new : FiberLists)
+    → HasOpenRow op index terms old new → take (length old.inner.items) new.inner.items ≡ old.inner.items
+front_is op index terms old new here = ap (take (length old.inner.items)) here.inner ∙ take-append_seam old.inner.items here.cols
+
+front_words_is : (op : BinaryOp) (index : ℕ) (terms : List Term) (old new : FiberLists)
+    → length old.words.items ≡ length old.inner.items → HasOpenRow op index terms old new
+    → take (length old.inner.items) new.words.items ≡ old.words.items
+front_words_is op index terms old new same here = ap (take (length old.inner.items)) here.words ∙ ap (λ n. take n (old.words.items ++ here.added)) (sym same) ∙ take-append_seam old.words.items here.added
+
 -- what a mask keeps of a part of a row of sums
 pub kept_open : (op : BinaryOp) (index : ℕ) (test : MaskTest) (first past : ℕ) (cols words : List ℕ) (low high : ℕ)
     (terms : List Term) (old mid new : FiberLists) → length old.words.items ≡ length old.inner.items
@@ -210,9 +245,7 @@ kept_open op index test first past cols words low high terms old mid new same he
     let keeps = keeps_among test first past (entries_along index cols words) index in
     let stored = entries_along index cols words in
     let tail : drop start mid.inner.items ≡ here.cols = tail_is op index terms old mid here in
-    let tail_words : drop start mid.words.items ≡ here.added = ap (drop start) here.words ∙ ap (λ n. drop n (old.words.items ++ here.added)) (sym same) ∙ drop-append_seam old.words.items here.added in
-    let front : take start mid.inner.items ≡ old.inner.items = ap (take start) here.inner ∙ take-append_seam old.inner.items here.cols in
-    let front_words : take start mid.words.items ≡ old.words.items = ap (take start) here.words ∙ ap (λ n. take n (old.words.items ++ here.added)) (sym same) ∙ take-append_seam old.words.items here.added in
+    let tail_words : drop start mid.words.items ≡ here.added = tail_words_is op index terms old mid same here in
     let es = entries_along index here.cols here.added in
     let in_part : entries_along index (drop low (take high here.cols)) (drop low (take high here.added)) ≡ filter (λ e. in_range first past e.col) es = part_entries first past index here.cols here.added low high here.sums.lengths (rw tail at part) in
     let entries : entries_along index kept.kept kept.kept_words ≡ filter (λ e. keeps e.col) es =
@@ -223,8 +256,25 @@ kept_open op index test first past cols words low high terms old mid new same he
       cols = kept.kept;
       added = kept.kept_words;
       sums = sums_filtered op index keeps terms here.cols here.added kept.kept kept.kept_words kept.lengths entries here.sums;
-      inner = kept.inner ∙ ap (λ xs. xs ++ kept.kept) front;
-      words = kept.words_are ∙ ap (λ xs. xs ++ kept.kept_words) front_words;
+      inner = kept.inner ∙ ap (λ xs. xs ++ kept.kept) (front_is op index terms old mid here);
+      words = kept.words_are ∙ ap (λ xs. xs ++ kept.kept_words) (front_words_is op index terms old mid same here);
+      ends = kept.ends ∙ here.ends;
+    }
+
+-- what a bitmap as a mask keeps of the row of sums of a vector
+pub marked_open : (op : BinaryOp) (index : ℕ) (mask : MarkedMask) (terms : List Term) (old mid new : FiberLists)
+    → index ≡ 0 → length old.words.items ≡ length old.inner.items → HasOpenRow op index terms old mid
+    → HasMarked mask (length old.inner.items) mid new
+    → HasOpenRow op index (kept_terms (keeps_marked mask) terms) old new
+marked_open op index mask terms old mid new first same here kept =
+    let entries : entries_along 0 kept.kept kept.kept_words ≡ filter (λ e. keeps_marked mask e.col) (entries_along 0 here.cols here.added) =
+    rw (tail_is op index terms old mid here, tail_words_is op index terms old mid same here) at kept.entries in
+    record {
+      cols = kept.kept;
+      added = kept.kept_words;
+      sums = sums_filtered op index (keeps_marked mask) terms here.cols here.added kept.kept kept.kept_words kept.lengths (rw first entries) here.sums;
+      inner = kept.inner ∙ ap (λ xs. xs ++ kept.kept) (front_is op index terms old mid here);
+      words = kept.words_are ∙ ap (λ xs. xs ++ kept.kept_words) (front_words_is op index terms old mid same here);
       ends = kept.ends ∙ here.ends;
     }
 

@@ -21,6 +21,7 @@ use Rattle.spgemm.specs.Terms.{kept_terms, terms_of_row}
 use Rattle.spgemm.specs.Keeping.{keeps_among}
 use Rattle.spgemm.specs.Vectors.{entries_of_column, in_range, keeps_down}
 use Rattle.spgemm.proofs.Kept.{all_kept, terms_inside}
+use Rattle.spgemm.proofs.KeptRows.{filter_twice}
 use Rattle.spgemm.proofs.Vectors.{range_of}
 
 pub whole_range : (first past cols : ℕ) (terms : List Term) → first ≡ 0 → cols ≤ past → All (λ t. t.col < cols) terms
@@ -43,6 +44,14 @@ whole_part (Ok u) op mul index first past row a old new start end here =
     let terms = terms_of_row mul row a in
     subst (λ ts. HasRow op index ts old new)
     (whole_range first past a.cols terms start end (terms_inside mul row a) ∙ filter_agree (λ t. in_range first past t.col) (λ t. keeps_down (lets_by None) first past t.col) (λ t. and_true (in_range first past t.col)) terms) here
+
+-- where the range has all columns, the terms that are kept are those that are kept in it
+pub kept_down : (keeps : ℕ → ℕ → Bool) (past : ℕ) (terms : List Term) → All (λ t. t.col < past) terms
+    → kept_terms (λ col. keeps col 0) terms ≡ kept_terms (keeps_down keeps 0 past) terms
+kept_down keeps past terms below =
+    ap (kept_terms (λ col. keeps col 0)) (whole_range 0 past past terms refl (omega arith) below)
+    ∙ filter_twice (λ (t : Term). keeps t.col 0) (λ (t : Term). in_range 0 past t.col) (λ (t : Term). keeps_down keeps 0 past t.col) terms
+    (All-weaker (λ t. t.col < past) (λ t. (in_range 0 past t.col && keeps t.col 0) ≡ keeps_down keeps 0 past t.col) (λ t less. refl) terms below)
 
 -- what is kept of terms of a row are terms at columns of A
 pub kept_inside : (keeps : ℕ → Bool) (op : BinaryOp) (row : List Entry) (a : Stored) (left : List Term)

@@ -1,10 +1,10 @@
 //! One row of a product.
-ghost use Rattle.std.specs.Prelude.{◌≡◌, ◌<◌, ℕ, length, true, OnOk};
-ghost use Rattle.std.specs.List.{AllPairs};
+ghost use Rattle.std.specs.Prelude.{◌≡◌, ◌<◌, ◌≤◌, ◌^◌, ℕ, length, true, IfOk, OnOk};
+ghost use Rattle.std.specs.List.{All, AllPairs};
 ghost use Rattle.store.specs.Fibers.{entries_along};
 ghost use Rattle.spgemm.specs.Dense.{AreClear, HaveRoom};
 ghost use Rattle.spgemm.specs.Products.{HasOpenRow, HasRow};
-ghost use Rattle.spgemm.specs.Terms.{terms_of_row};
+ghost use Rattle.spgemm.specs.Terms.{AreFirstTerms, terms_of_row};
 
 use crate::dense::{MOST_PLACES, fit, sum_at_once, sum_densely, sum_in_span};
 use crate::expand::expand;
@@ -149,25 +149,97 @@ fn sum_collected(
     ensures room { OnOk result (HaveRoom scratch.new.bits.items scratch.new.sums.items) }
     ensures none { OnOk result (AreClear scratch.new.bits.items) }
 {
+    let done = collect_terms(scratch, row, b, semiring)?;
+    if done < row.cols.len() {
+        return sum_in_places(lists, scratch, row, done, b, semiring);
+    }
+    sum_terms(lists, scratch, b.cols(), semiring)
+}
+
+/// Makes the terms the products of the first entries of a row of A with B, and answers how many entries they are of: of
+/// all, unless there are so many products that a place for each column pays.
+pub(crate) fn collect_terms(
+    scratch: &mut Scratch,
+    row: Row<'_>,
+    b: &Sparse,
+    semiring: Semiring,
+) -> Result<usize, NoMemory>
+    requires { length row.words.now ≡ length row.cols.now }
+    ensures terms { IfOk result (AreFirstTerms semiring.multiply
+        (entries_along row.entry.index row.entry.cols.now row.entry.words.now) b.now scratch.new.terms.items) }
+    ensures bound { IfOk result (λ done. done ≤ length row.entry.cols.now) }
+    ensures stopped { IfOk result (λ done. done < length row.entry.cols.now → b.now.cols ≤ 2 ^ 24) }
+    ensures bits { OnOk result (scratch.new.bits ≡ scratch.old.bits) }
+    ensures sums { OnOk result (scratch.new.sums ≡ scratch.old.sums) }
+{
+    let most = most_collected(b.cols(), scratch.sums.len());
+    expand(&mut scratch.terms, row, b, &scratch.hints, semiring, most)
+}
+
+/// Puts the sums of the row of the product with B that a row of A gives behind the inner indices and words, where the
+/// terms are the products of the first `done` entries of the row. It sums in a place for each column.
+pub(crate) fn sum_in_places(
+    lists: &mut FiberLists,
+    scratch: &mut Scratch,
+    row: Row<'_>,
+    done: usize,
+    b: &Sparse,
+    semiring: Semiring,
+) -> Result<(), NoMemory>
+    requires lengths { length row.words.now ≡ length row.cols.now }
+    requires rising { AllPairs (λ p q. p < q) row.cols.now }
+    requires most { b.now.cols ≤ 2 ^ 24 }
+    requires room { HaveRoom scratch.old.bits.items scratch.old.sums.items }
+    requires none { AreClear scratch.old.bits.items }
+    requires done { done ≤ length row.cols.now }
+    requires terms { AreFirstTerms semiring.multiply (entries_along row.index row.cols.now row.words.now) b.now
+        scratch.old.terms.items done }
+    ensures row { OnOk result (HasOpenRow semiring.add.op row.entry.index
+        (terms_of_row semiring.multiply (entries_along row.entry.index row.entry.cols.now row.entry.words.now) b.now)
+        lists.old lists.new) }
+    ensures room { OnOk result (HaveRoom scratch.new.bits.items scratch.new.sums.items) }
+    ensures none { OnOk result (AreClear scratch.new.bits.items) }
+{
     let Scratch {
         terms,
         bits,
         sums,
         marks,
         hints,
-        compact,
+        ..
     } = scratch;
-    let most = most_collected(b.cols(), sums.len());
-    let done = expand(terms, row, b, hints, semiring, most)?;
-    if done < row.cols.len() {
-        fit(bits, sums, b.cols())?;
-        if exceeds_columns(row.cols.len(), b) {
-            return sum_many(lists, bits, sums, marks, row, b, hints, semiring);
-        }
-        return sum_densely(lists, bits, sums, terms, row, done, b, hints, semiring);
+    fit(bits, sums, b.cols())?;
+    if exceeds_columns(row.cols.len(), b) {
+        return sum_many(lists, bits, sums, marks, row, b, hints, semiring);
     }
+    sum_densely(lists, bits, sums, terms, row, done, b, hints, semiring)
+}
+
+/// Puts the sums of the terms, whose columns are among so many, behind the inner indices and words. Where there are
+/// many beside the columns that they span, it sums in a place for each column, else it sorts them.
+pub(crate) fn sum_terms(
+    lists: &mut FiberLists,
+    scratch: &mut Scratch,
+    cols: u64,
+    semiring: Semiring,
+) -> Result<(), NoMemory>
+    requires inside { All (λ t. t.col < cols) scratch.old.terms.items }
+    requires room { HaveRoom scratch.old.bits.items scratch.old.sums.items }
+    requires none { AreClear scratch.old.bits.items }
+    ensures row { OnOk result ((index : ℕ)
+        → HasOpenRow semiring.add.op index scratch.old.terms.items lists.old lists.new) }
+    ensures room { OnOk result (HaveRoom scratch.new.bits.items scratch.new.sums.items) }
+    ensures none { OnOk result (AreClear scratch.new.bits.items) }
+{
+    let Scratch {
+        terms,
+        bits,
+        sums,
+        compact,
+        ..
+    } = scratch;
     let span = span_of(terms);
-    if pays(&span, terms.len(), b.cols(), sums.len()) {
+    if pays(&span, terms.len(), cols, sums.len()) {
         *compact = compact.saturating_add(terms.len());
         return sum_in_span(lists, bits, sums, terms, &span, semiring);
     }

@@ -1,5 +1,4 @@
 -- Stores in either form.
-use Rattle.std.specs.Prelude.{◌≡◌}
 use Rattle.bitmap.specs.Bitmaps.{Held}
 use Rattle.store.specs.declared.store.AsSparse.{AsSparse}
 use Rattle.store.specs.declared.store.AsSparse.TheVariants.{Lent, Made}
@@ -18,20 +17,10 @@ abbrev pub kept_in : Kept → Stored
 kept_in (kept.Sparse s) = s
 kept_in (kept.Bitmap b) = of_bitmap b
 
--- a bitmap has one column
-abbrev pub IsKept : Kept → Type 0
-IsKept (kept.Sparse s) = Unit
-IsKept (kept.Bitmap b) = b.cols ≡ 1
-
 -- the store that is lent in a form
 abbrev pub lent_in : Form → Stored
 lent_in (form.Sparse s) = s.now
 lent_in (form.Bitmap b) = of_bitmap b.now
-
--- something holds of a bitmap, where one is lent
-abbrev pub IfBitmap : Form → (Held → Type 0) → Type 0
-IfBitmap (form.Sparse s) P = Unit
-IfBitmap (form.Bitmap b) P = P b.now
 
 -- the store whose entries are lists
 abbrev pub sparse_of : AsSparse → Stored

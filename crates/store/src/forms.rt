@@ -1,31 +1,115 @@
-//! Columns from one form to the other.
-ghost use Rattle.std.specs.Prelude.{◌≡◌, ℕ, ◌≤◌, ◌^◌, IfOk};
+//! Stores from one form to the other.
+ghost use Rattle.std.specs.Prelude.{◌≡◌, ◌≢◌, ℕ, ◌<◌, ◌≤◌, ◌*◌, ◌^◌, ◌++◌, ◌∷◌, [], ◌==◌, if◌then◌else◌};
+ghost use Rattle.std.specs.Prelude.{IfErr, IfOk, OnOk, length, map};
+ghost use Rattle.std.specs.List.{AllPairs};
 ghost use Rattle.std.specs.Option.{option_or};
-ghost use Rattle.model.specs.Entries.{word_at};
+ghost use Rattle.model.specs.Entries.{IsInside, row_entries, word_at};
+ghost use Rattle.store.specs.Fibers.{end_at, entries_along, last_end};
 ghost use Rattle.store.specs.Forms.{of_bitmap};
 ghost use Rattle.store.specs.Stored.{block_content};
 
-use crate::{FiberLists, RowBlock, Sparse};
+use crate::{FiberLists, Row, RowBlock, Rows, Sparse};
 use bitmap::Bitmap;
 use model::NoMemory;
 use std::alloc::Global;
 
-/// The bitmap of a column.
-pub(crate) fn bitmap_of(alloc: Global, sparse: &Sparse) -> Result<Bitmap, NoMemory>
-    requires column { sparse.now.cols ≡ 1 }
-    requires small { sparse.now.rows ≤ 2 ^ 24 }
+/// Lists of few positions as a bitmap, which takes over the words of a column with an entry in each row. They come back
+/// where there is no memory for it.
+pub(crate) fn into_bitmap(alloc: Global, sparse: Sparse) -> Result<Bitmap, Sparse>
+    requires { sparse.rows * sparse.cols ≤ 2 ^ 24 }
+    ensures entries { IfOk result (λ b. of_bitmap b ≡ sparse) }
+    ensures refused { IfErr result (λ back. back ≡ sparse) }
+{
+    if sparse.cols == 1 && sparse.lists.inner.len() as u64 == sparse.rows {
+        return full_column(alloc, sparse);
+    }
+    let Ok(bitmap) = bitmap_of(alloc, &sparse) else {
+        return Err(sparse);
+    };
+    Ok(bitmap)
+}
+
+/// The bitmap of a column with an entry in each row, whose words it takes over. The lists come back where there is no
+/// memory for its bits.
+fn full_column(alloc: Global, column: Sparse) -> Result<Bitmap, Sparse>
+    requires column { column.cols ≡ 1 }
+    requires full { length column.entries ≡ column.rows }
+    requires small { column.rows * column.cols ≤ 2 ^ 24 }
+    ensures entries { IfOk result (λ b. of_bitmap b ≡ column) }
+    ensures refused { IfErr result (λ back. back ≡ column) }
+{
+    let Sparse { rows, cols, lists } = column;
+    let FiberLists { ends, inner, words } = lists;
+    match Bitmap::full(alloc, rows, cols, words) {
+        Ok(bitmap) => {
+            prove_eq!(bitmap.rows(), rows);
+            Ok(bitmap)
+        }
+        Err(words) => {
+            let lists = FiberLists { ends, inner, words };
+            Err(Sparse { rows, cols, lists })
+        }
+    }
+}
+
+/// The bitmap of lists of few positions.
+fn bitmap_of(alloc: Global, sparse: &Sparse) -> Result<Bitmap, NoMemory>
+    requires { sparse.now.rows * sparse.now.cols ≤ 2 ^ 24 }
     ensures rows { IfOk result (λ b. b.rows ≡ sparse.now.rows) }
-    ensures cols { IfOk result (λ b. b.cols ≡ 1) }
+    ensures cols { IfOk result (λ b. b.cols ≡ sparse.now.cols) }
     ensures entries { IfOk result (λ b. b.entries ≡ sparse.now.entries) }
 {
-    let mut bitmap = Bitmap::new(alloc, sparse.rows, 1)?;
-    bitmap.put_column(&sparse.lists.inner, &sparse.lists.words);
+    let mut bitmap = Bitmap::new(alloc, sparse.rows, sparse.cols)?;
+    put_rows(&mut bitmap, sparse.rows_in(0..sparse.rows));
     prove_eq!(bitmap.rows(), sparse.rows);
     Ok(bitmap)
 }
 
-/// The lists of a bitmap with one column.
+/// Puts rows over those of a bitmap, entry by entry.
+fn put_rows(bitmap: &mut Bitmap, rows: Rows<'_>)
+    requires { IsInside bitmap.old.rows bitmap.old.cols rows.entries }
+    ensures content { (i j : ℕ) → word_at bitmap.new.entries i j
+        ≡ option_or (word_at rows.entry.entries i j) (word_at bitmap.old.entries i j) }
+    ensures rows { bitmap.new.rows ≡ bitmap.old.rows }
+    ensures cols { bitmap.new.cols ≡ bitmap.old.cols }
+{
+    let mut rest = rows;
+    while let Some((row, others)) = rest.split_first() {
+        put_row(bitmap, row);
+        rest = others;
+    }
+}
+
+/// Puts a row over that of a bitmap, entry by entry.
+fn put_row(bitmap: &mut Bitmap, row: Row<'_>)
+    requires lengths { length row.words.now ≡ length row.cols.now }
+    requires rising { AllPairs (λ a b. a < b) row.cols.now }
+    requires inside { IsInside bitmap.old.rows bitmap.old.cols
+        (entries_along row.index row.cols.now row.words.now) }
+    ensures content { (i j : ℕ) → word_at bitmap.new.entries i j
+        ≡ option_or (word_at (entries_along row.entry.index row.entry.cols.now row.entry.words.now) i j)
+        (word_at bitmap.old.entries i j) }
+    ensures rows { bitmap.new.rows ≡ bitmap.old.rows }
+    ensures cols { bitmap.new.cols ≡ bitmap.old.cols }
+{
+    for k in 0..row.cols.len() {
+        bitmap.set(row.index, row.cols[k], row.words[k]);
+    }
+}
+
+/// The lists of a bitmap.
 pub(crate) fn sparse_of(alloc: Global, bitmap: &Bitmap) -> Result<Sparse, NoMemory>
+    ensures { IfOk result (λ sparse. sparse ≡ of_bitmap bitmap.now) }
+{
+    if bitmap.cols() == 1 {
+        column_of(alloc, bitmap)
+    } else {
+        rows_of(alloc, bitmap)
+    }
+}
+
+/// The lists of a bitmap with one column.
+fn column_of(alloc: Global, bitmap: &Bitmap) -> Result<Sparse, NoMemory>
     requires { bitmap.now.cols ≡ 1 }
     ensures { IfOk result (λ sparse. sparse ≡ of_bitmap bitmap.now) }
 {
@@ -39,6 +123,39 @@ pub(crate) fn sparse_of(alloc: Global, bitmap: &Bitmap) -> Result<Sparse, NoMemo
         cols: 1,
         lists,
     })
+}
+
+/// The lists of a bitmap with more columns, or none, row by row.
+fn rows_of(alloc: Global, bitmap: &Bitmap) -> Result<Sparse, NoMemory>
+    requires { bitmap.now.cols ≢ 1 }
+    ensures { IfOk result (λ sparse. sparse ≡ of_bitmap bitmap.now) }
+{
+    let (rows, cols) = (bitmap.rows(), bitmap.cols());
+    let mut lists = FiberLists::with_capacity(alloc, bitmap.nvals() as usize)?;
+    for i in 0..rows {
+        append_row(&mut lists, bitmap, i)?;
+    }
+    Ok(Sparse { rows, cols, lists })
+}
+
+/// Puts a row of a bitmap as a fiber behind those in the lists.
+fn append_row(lists: &mut FiberLists, bitmap: &Bitmap, i: u64) -> Result<(), NoMemory>
+    ensures inner { OnOk result (lists.new.inner.items ≡ lists.old.inner.items
+        ++ map (λ e. e.col) (row_entries bitmap.now.cols (word_at bitmap.now.entries) i)) }
+    ensures words { OnOk result (lists.new.words.items ≡ lists.old.words.items
+        ++ map (λ e. e.word) (row_entries bitmap.now.cols (word_at bitmap.now.entries) i)) }
+    ensures ends { OnOk result (lists.new.ends.items
+        ≡ (if last_end 0 lists.old.ends.items == length lists.new.inner.items
+        then lists.old.ends.items
+        else lists.old.ends.items ++ end_at i (length lists.new.inner.items) ∷ [])) }
+{
+    for j in 0..bitmap.cols() {
+        if let Some(word) = bitmap.get(i, j) {
+            lists.inner.push(j)?;
+            lists.words.push(word)?;
+        }
+    }
+    lists.close(i)
 }
 
 /// Puts the entries of a block of a column over those of a bitmap.

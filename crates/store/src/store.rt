@@ -1,19 +1,20 @@
 //! Stores: what an object holds, in one of two forms.
-ghost use Rattle.std.specs.Prelude.{◌≡◌, ℕ, ◌<◌, ◌≤◌, ◌^◌, IsTrue, None, length, OnOk, OnErr, IfOk};
+ghost use Rattle.std.specs.Prelude.{◌≡◌, ℕ, ◌<◌, ◌≤◌, ◌*◌, ◌^◌, IsTrue, None, length, OnOk, OnErr, IfOk};
 ghost use Rattle.std.specs.Option.{option_or};
 ghost use Rattle.model.specs.Entries.{entries_of};
 ghost use Rattle.model.specs.Object.{with_entry, without_entry, IsWithin};
 
-use crate::forms::{bitmap_of, put_into, sparse_of};
+use crate::forms::{into_bitmap, put_into, sparse_of};
 use crate::{RowBlock, Sparse};
 use bitmap::Bitmap;
 use model::NoMemory;
 use std::alloc::Global;
 use std::marker::Model;
+use std::mem;
 
 /// What a matrix holds (`GrB_Matrix` of GraphBLAS C API 2.0): its number of rows and of columns, and its entries, at
-/// most one at a position. They are kept in lists or, of a column in which many positions have an entry, as a bitmap.
-/// What a store holds is the same in either form.
+/// most one at a position. They are kept in lists or, where many positions have an entry, as a bitmap. What a store
+/// holds is the same in either form.
 #[derive(Drop)]
 pub struct Store {
     kept: Kept,
@@ -31,7 +32,7 @@ enum Kept {
 pub enum Form<'a> {
     /// As lists.
     Sparse(&'a Sparse),
-    /// As a bitmap, which has one column.
+    /// As a bitmap.
     Bitmap(&'a Bitmap),
 }
 
@@ -59,18 +60,16 @@ impl AsSparse<'_> {
 }
 
 impl Model for Store {
-    ghost use Rattle.store.specs.Forms.{IsKept, kept_in};
+    ghost use Rattle.store.specs.Forms.{kept_in};
     ghost use Rattle.store.specs.Stored.{Stored};
 
     ghost Value = { Stored };
 
     ghost view = { λ s. kept_in s.kept };
-
-    ghost invariant = { λ s. IsKept s.kept };
 }
 
-/// How many positions a column must have at least and at most to be kept as a bitmap, and at most how many times as
-/// many as it has entries.
+/// How many columns, or rows of one column, a bitmap has at least, how many positions at most, and at most how many
+/// times as many as entries.
 const LEAST: u64 = 64;
 
 const MOST: u64 = 1 << 24;
@@ -78,7 +77,7 @@ const MOST: u64 = 1 << 24;
 const TIMES: u64 = 8;
 
 impl Store {
-    ghost use Rattle.store.specs.Forms.{IfBitmap, lent_in, sparse_of};
+    ghost use Rattle.store.specs.Forms.{lent_in, of_bitmap, sparse_of};
     ghost use Rattle.store.specs.Stored.{block_content, content_of};
 
     /// A store of `rows` rows and `cols` columns with no entry. It takes no memory.
@@ -96,6 +95,15 @@ impl Store {
     {
         Store {
             kept: Kept::Sparse(sparse),
+        }
+    }
+
+    /// The store that a bitmap is.
+    pub fn from_bitmap(bitmap: Bitmap) -> Store
+        ensures { result ≡ of_bitmap bitmap }
+    {
+        Store {
+            kept: Kept::Bitmap(bitmap),
         }
     }
 
@@ -124,8 +132,7 @@ impl Store {
     /// The store in the form in which it is kept.
     #[inline(always)]
     pub fn form(&self) -> Form<'_>
-        ensures store { lent_in result ≡ self.now }
-        ensures column { IfBitmap result (λ b. b.cols ≡ 1) }
+        ensures { lent_in result ≡ self.now }
     {
         match &self.kept {
             Kept::Sparse(sparse) => Form::Sparse(sparse),
@@ -246,25 +253,39 @@ impl Store {
         }
     }
 
-    /// Keeps a column that is written in place as a bitmap from now on, where it has entries at many of its positions
-    /// and there is memory for it.
+    /// Keeps a store as a bitmap from now on, where it has entries at many of its positions and there is memory for it.
     pub fn settle(&mut self, alloc: Global)
         ensures { self.new ≡ self.old }
     {
-        if let Kept::Sparse(sparse) = &self.kept
-            && is_bitmap_better(sparse)
-            && let Ok(bitmap) = bitmap_of(alloc, sparse)
-        {
-            self.kept = Kept::Bitmap(bitmap);
+        // The store that stands in takes no memory.
+        let store = mem::replace(self, Store::new(alloc, 0, 0));
+        *self = store.settled(alloc);
+    }
+
+    /// The store as a bitmap, where it has entries at many of its positions and there is memory for it.
+    fn settled(self, alloc: Global) -> Store
+        ensures { result ≡ self }
+    {
+        let sparse = match self.kept {
+            Kept::Sparse(sparse) => sparse,
+            Kept::Bitmap(bitmap) => return Store::from_bitmap(bitmap),
+        };
+        if !is_bitmap_better(&sparse) {
+            return Store::from_sparse(sparse);
+        }
+        match into_bitmap(alloc, sparse) {
+            Ok(bitmap) => Store::from_bitmap(bitmap),
+            Err(sparse) => Store::from_sparse(sparse),
         }
     }
 }
 
-/// Whether many positions of a column have an entry.
+/// Whether many positions have an entry.
 fn is_bitmap_better(sparse: &Sparse) -> bool
-    ensures column { IsTrue result → sparse.now.cols ≡ 1 }
-    ensures small { IsTrue result → sparse.now.rows ≤ 2 ^ 24 }
+    ensures { IsTrue result → sparse.now.rows * sparse.now.cols ≤ 2 ^ 24 }
 {
-    let rows = sparse.rows();
-    sparse.cols() == 1 && (LEAST..=MOST).contains(&rows) && rows / TIMES <= sparse.nvals()
+    let (rows, cols) = (sparse.rows(), sparse.cols());
+    let longest = if cols == 1 { rows } else { cols };
+    let places = rows.saturating_mul(cols);
+    longest >= LEAST && places <= MOST && places / TIMES <= sparse.nvals()
 }

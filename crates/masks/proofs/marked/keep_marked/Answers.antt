@@ -13,7 +13,7 @@ use Rattle.masks.proofs.MarkedLaws.{AreKept, kept_lists}
 use Rattle.masks.proofs.marked.keep_marked.Goals as goal
 
 kept : (c : goal.After-end_column) → AreKept c.end_column.new.ends.items c.truncate.new.self.items c.truncate-2.new.self.items
-    (kept_by c.args.test (transposed c.args.bitmap.now.entries) (entries_in c.into_lists-lists.result))
+    (kept_by c.args.mask.test (transposed c.args.mask.bitmap.now.entries) (entries_in c.into_lists-lists.result))
 kept c =
     let b = c.args.block in
     let lists = c.into_lists-lists.result in
@@ -30,7 +30,7 @@ kept c =
     let words : c.truncate-2.new.self.items ≡ take count done.new.words = c.truncate-2.ensures.items ∙ ap (take count) (with_items_is lists.words done.new.words (long_words ∙ sym lists.words.ok.0)) in
     let high = done.ensures.bound in
     let value = ap length c.deref_mut.ensures.value in
-    rw (rows, words) (kept_lists (λ (e : Entry). lets_word c.args.test (word_at (transposed c.args.bitmap.now.entries) e.row e.col)) b.first b.past count
+    rw (rows, words) (kept_lists (λ (e : Entry). lets_word c.args.mask.test (word_at (transposed c.args.mask.bitmap.now.entries) e.row e.col)) b.first b.past count
     lists.ends.items c.end_column.new.ends.items lists.inner.items lists.words.items (take count done.new.rows) (take count done.new.words) held (omega arith)
     (omega (arith, length-take count done.new.rows)) (omega (arith, length-take count done.new.words)) (rw (c.deref_mut.ensures.value, c.deref_mut-2.ensures.value) at done.ensures.kept)
     c.end_column.ensures.none c.end_column.ensures.some)
@@ -42,13 +42,13 @@ pub of_fibers-requires-clause-inside : goal.of_fibers-requires-clause-inside
 of_fibers-requires-clause-inside c =
     let b = c.args.block in
     rw (c.first-first.ensures, c.past-past.ensures, c.cols-cols.ensures, (kept c).entries)
-    (kept_in c.args.test b.first b.past b.cols (transposed c.args.bitmap.now.entries) (entries_in c.into_lists-lists.result) (rw c.into_lists-lists.ensures.entries c.into_lists-lists.ensures.inside))
+    (kept_in c.args.mask.test b.first b.past b.cols (transposed c.args.mask.bitmap.now.entries) (entries_in c.into_lists-lists.result) (rw c.into_lists-lists.ensures.entries c.into_lists-lists.ensures.inside))
 
 pub returns-clause-words : goal.returns-clause-words
 returns-clause-words c i j =
     let b = c.args.block in
-    let test = c.args.test in
-    let entries = c.args.bitmap.now.entries in
+    let test = c.args.mask.test in
+    let entries = c.args.mask.bitmap.now.entries in
     let there : along b.cols (transposed entries) ≡ entries = rw c.requires (transposed_twice entries) in
     ap (λ es. word_at es i j) (c.of_fibers.ensures.entries ∙ rw (c.cols-cols.ensures, (kept (search rules)).entries) refl)
     ∙ kept_along test b.cols (transposed entries) (entries_in c.into_lists-lists.result) i j

@@ -5,7 +5,7 @@ use Rattle.store.specs.Fibers.{entries_from, last_end}
 use Rattle.store.specs.Stored.{along}
 use Rattle.store.specs.Walks.{entries_down}
 use Rattle.store.proofs.FormLaws.{column_listed}
-use Rattle.store.proofs.forms.sparse_of.Goals as goal
+use Rattle.store.proofs.forms.column_of.Goals as goal
 
 pub invariant_of-result : goal.invariant_of-result
 unfolding last_end

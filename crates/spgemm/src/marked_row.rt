@@ -1,0 +1,81 @@
+//! The row of a product with a vector, of which a bitmap as a mask keeps a part.
+ghost use Rattle.std.specs.Prelude.{◌≡◌, ◌<◌, length, OnOk};
+ghost use Rattle.std.specs.List.{AllPairs};
+ghost use Rattle.store.specs.Fibers.{entries_along};
+ghost use Rattle.spgemm.specs.Dense.{AreClear, HaveRoom};
+ghost use Rattle.spgemm.specs.Keeping.{keeps_marked};
+ghost use Rattle.spgemm.specs.Products.{HasOpenRow, HasRow};
+ghost use Rattle.spgemm.specs.Terms.{kept_terms, terms_of_row};
+
+use crate::keep::keep_marked_sums;
+use crate::row::{Scratch, collect_terms, sum_in_places, sum_terms};
+use crate::term::Term;
+use algebra::Semiring;
+use masks::MarkedMask;
+use model::NoMemory;
+use store::{FiberLists, Row, Sparse};
+
+/// Puts the row of the product with B that a row of A gives, at the columns that the mask lets through, behind the rows
+/// in the lists.
+pub(crate) fn multiply_marked_row(
+    lists: &mut FiberLists,
+    scratch: &mut Scratch,
+    row: Row<'_>,
+    b: &Sparse,
+    mask: MarkedMask<'_>,
+    semiring: Semiring,
+) -> Result<(), NoMemory>
+    requires lists { length lists.old.words.items ≡ length lists.old.inner.items }
+    requires index { row.index ≡ 0 }
+    requires lengths { length row.words.now ≡ length row.cols.now }
+    requires rising { AllPairs (λ p q. p < q) row.cols.now }
+    requires room { HaveRoom scratch.old.bits.items scratch.old.sums.items }
+    requires none { AreClear scratch.old.bits.items }
+    ensures { OnOk result (HasRow semiring.add.op row.entry.index
+        (kept_terms (keeps_marked mask.entry) (terms_of_row semiring.multiply
+        (entries_along row.entry.index row.entry.cols.now row.entry.words.now) b.now))
+        lists.old lists.new) }
+{
+    sum_marked(lists, scratch, row, b, mask, semiring)?;
+    lists.close(row.index)
+}
+
+/// Puts the sums of the row of the product with B that a row of A gives, at the columns that the mask lets through,
+/// behind the inner indices and words. Of products that are listed, those at other columns are dropped before the rest
+/// is sorted or added.
+fn sum_marked(
+    lists: &mut FiberLists,
+    scratch: &mut Scratch,
+    row: Row<'_>,
+    b: &Sparse,
+    mask: MarkedMask<'_>,
+    semiring: Semiring,
+) -> Result<(), NoMemory>
+    requires lists { length lists.old.words.items ≡ length lists.old.inner.items }
+    requires index { row.index ≡ 0 }
+    requires lengths { length row.words.now ≡ length row.cols.now }
+    requires rising { AllPairs (λ p q. p < q) row.cols.now }
+    requires room { HaveRoom scratch.old.bits.items scratch.old.sums.items }
+    requires none { AreClear scratch.old.bits.items }
+    ensures { OnOk result (HasOpenRow semiring.add.op row.entry.index
+        (kept_terms (keeps_marked mask.entry) (terms_of_row semiring.multiply
+        (entries_along row.entry.index row.entry.cols.now row.entry.words.now) b.now))
+        lists.old lists.new) }
+{
+    let done = collect_terms(scratch, row, b, semiring)?;
+    if done < row.cols.len() {
+        let start = lists.inner.len();
+        sum_in_places(lists, scratch, row, done, b, semiring)?;
+        keep_marked_sums(lists, start, mask);
+        return Ok(());
+    }
+    keep_marked_terms(&mut scratch.terms, mask);
+    sum_terms(lists, scratch, b.cols(), semiring)
+}
+
+/// Of terms it keeps those at columns that the mask lets through, in order.
+fn keep_marked_terms(terms: &mut Vec<Term>, mask: MarkedMask<'_>)
+    ensures { terms.new.items ≡ kept_terms (keeps_marked mask.entry) terms.old.items }
+{
+    terms.retain(|term| mask.lets(term.col));
+}
