@@ -75,7 +75,7 @@ pub fn made_of(alloc: Global, piece: &mut Piece) -> Result<Arc<Store>, NoMemory>
         ..
     } = piece;
     let block = block_of(alloc, recipe, inputs, rows.start..rows.end)?;
-    Ok(Arc::new(alloc, join(recipe, block))?)
+    Ok(Arc::new(alloc, join(alloc, recipe, block))?)
 }
 
 /// Does a piece of work that was taken, and hands in what it makes; where there is no memory for it, its slot fails.

@@ -1,4 +1,5 @@
 mod Answered
+mod BitmapLaws
 mod FiberPairs
 mod Filled
 mod KeptFibers

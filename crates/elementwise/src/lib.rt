@@ -5,6 +5,7 @@
 
 mod apply;
 mod arms;
+mod bitmaps;
 mod indexed;
 mod intersect;
 mod mapping;
@@ -15,6 +16,7 @@ mod select;
 mod union;
 
 pub use apply::apply_rows;
+pub use bitmaps::{apply_bitmap, select_bitmap};
 pub use intersect::intersect_rows;
 pub use reduce::{reduce_all, reduce_rows};
 pub use select::select_rows;

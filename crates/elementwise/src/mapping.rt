@@ -37,7 +37,11 @@ pub(crate) fn map_fibers(
 }
 
 /// What a function gives for each word, part by part.
-fn map_copy(alloc: Global, words: &[u64], function: WordFunction) -> Result<Vec<u64>, NoMemory>
+pub(crate) fn map_copy(
+    alloc: Global,
+    words: &[u64],
+    function: WordFunction,
+) -> Result<Vec<u64>, NoMemory>
     ensures { IfOk result (λ made. made.items ≡ map (word_made function) words.now) }
 {
     let mut made = Vec::with_capacity(alloc, words.len())?;

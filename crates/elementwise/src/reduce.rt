@@ -15,7 +15,7 @@ use lanes::{fold_words, with_monoid};
 use model::NoMemory;
 use std::alloc::Global;
 use std::ops::Range;
-use store::{FiberEnd, FiberLists, Fibers, FlatFibers, RowBlock, Sparse};
+use store::{FiberEnd, FiberLists, Fibers, FlatFibers, Form, RowBlock, Sparse, Store};
 
 /// The rows in a range of the column of the sums of a store's rows by a monoid (`GrB_reduce` to a
 /// vector): each row that has an entry has a sum.
@@ -124,9 +124,15 @@ fn sum_row(monoid: Monoid, words: &[u64]) -> u64
 
 /// The sum of all entries of a store by a monoid, the identity where there is none (`GrB_reduce` to a
 /// scalar). It takes no memory.
-pub fn reduce_all(a: &Sparse, monoid: Monoid) -> u64
+pub fn reduce_all(a: &Store, monoid: Monoid) -> u64
     ensures { result ≡ fold_of monoid.kind monoid.op.domain
         (all_words a.now.rows a.now.cols (content_of a.now)) }
 {
-    fold_words(monoid, a.words())
+    match a.form() {
+        Form::Sparse(lists) => fold_words(monoid, lists.words()),
+        Form::Bitmap(bitmap) => {
+            prove_eq!(bitmap.rows(), a.rows());
+            bitmap.fold(monoid)
+        }
+    }
 }

@@ -1,4 +1,5 @@
 pub mod Accepted
+pub mod BitmapLaws
 pub mod Computed
 pub mod FactorLaws
 pub mod MaskLaws

@@ -1,4 +1,5 @@
 pub mod Accepts
+pub mod Bitmaps
 pub mod Blocks
 pub mod Factors
 pub mod Inputs

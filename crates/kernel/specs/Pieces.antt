@@ -22,10 +22,9 @@ IsPieceOf recipe maps start end (Rows block) =
     HasRows start end (cols_of (known_of recipe).shape) (meaning_of recipe maps) block
 IsPieceOf recipe maps start end (Whole store) = IsResultOf recipe maps store
 
--- an operation gives rows, and a recipe of another kind all of it
+-- a recipe that is no operation gives all of it
 abbrev pub HasForm : Recipe → Block → Type 0
-HasForm (Computed computation) (Rows block) = Unit {0}
-HasForm (Computed computation) (Whole store) = ⊥
+HasForm (Computed computation) block = Unit {0}
 HasForm recipe (Rows block) = ⊥
 HasForm recipe (Whole store) = Unit {0}
 

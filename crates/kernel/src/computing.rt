@@ -97,7 +97,7 @@ fn over_old(
 }
 
 /// The domain of what an operation computes, of an output.
-fn answer_of(c: Signature, operation: Lent<'_, Input<'_>>) -> Domain
+pub(crate) fn answer_of(c: Signature, operation: Lent<'_, Input<'_>>) -> Domain
     ensures { result ≡ (plan_of c (renamed_operation known_of (operation_lent operation.entry))).domain }
 {
     match operation {

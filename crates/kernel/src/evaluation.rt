@@ -23,5 +23,5 @@ pub fn evaluate(alloc: Global, recipe: &Recipe, stores: &Roles<&Store>) -> Resul
 {
     let rows = recipe.signature().shape.rows();
     let block = eval_piece(alloc, recipe, stores, 0..rows)?;
-    Ok(join(recipe, block))
+    Ok(join(alloc, recipe, block))
 }

@@ -1,6 +1,7 @@
 //! What recipes give: blocks of rows of what their operations leave, and the store that they join to.
 #![tactic(auto)]
 
+mod bitmaps;
 mod block;
 mod computing;
 mod elements;

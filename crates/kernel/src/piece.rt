@@ -2,7 +2,7 @@
 ghost use Rattle.std.specs.Prelude.{◌≡◌, ◌<◌, ◌≤◌, ℕ, IfOk, None, Some};
 ghost use Rattle.std.specs.Arc.{arc_value};
 ghost use Rattle.std.specs.Option.{option_map};
-ghost use Rattle.calls.specs.Recipes.{known_by, known_by_role, known_of as makes, meaning, operation_with, out_with};
+ghost use Rattle.calls.specs.Recipes.{known_by, known_by_role, known_of as makes, operation_with, out_with};
 ghost use Rattle.calls.specs.Stores.{IsStoreOf, object_with};
 ghost use Rattle.calls.specs.Straight.{IsStraight};
 ghost use Rattle.kernel.specs.Inputs.{known_of, object_of};
@@ -14,11 +14,12 @@ ghost use Rattle.model.specs.Renamed.{renamed_operation, renamed_out};
 ghost use Rattle.patch.specs.Edits.{edited};
 ghost use Rattle.store.specs.Stored.{block_content, content_of};
 
+use crate::bitmaps::task_bitmap;
 use crate::block::Block;
 use crate::input::Input;
 use crate::moving::{resized, transposed};
 use crate::task::{Task, task_rows};
-use calls::{Accepted, Operation, Out, Patch, Recipe, Roles, Signature};
+use calls::{Accepted, Computation, Operation, Out, Patch, Recipe, Roles, Signature, TwoInputs};
 use model::{Lent, NoMemory};
 use patch::apply_edits;
 use std::alloc::Global;
@@ -42,8 +43,7 @@ pub fn eval_piece(
 {
     let store = match recipe {
         Recipe::Computed(computation) => {
-            let rows = computed_piece(alloc, &computation.accepted, stores, range)?;
-            return Ok(Block::Rows(rows));
+            return computed_piece(alloc, recipe, computation, stores, range);
         }
         Recipe::New(of) => Store::new(alloc, of.shape.rows(), of.shape.cols()),
         Recipe::Given(given) => given.store.try_clone()?,
@@ -97,28 +97,35 @@ fn edited(alloc: Global, patch: &Patch, store: Store) -> Result<Store, NoMemory>
     Ok(store)
 }
 
-/// The rows in a range of what an operation leaves: what it computes, accumulated, masked and written back.
+/// The rows in a range of what an operation leaves: what it computes, accumulated, masked and written back. All rows
+/// may come as a bitmap.
 fn computed_piece(
     alloc: Global,
-    accepted: &Accepted,
+    recipe: &Recipe,
+    computation: &Computation,
     stores: &Roles<&Store>,
     range: Range<u64>,
-) -> Result<RowBlock, NoMemory>
-    requires straight { IsStraight accepted.now.out.desc }
-    requires inputs { AreInputs (known_by_role accepted.now.out accepted.now.operation) stores.now }
+) -> Result<Block, NoMemory>
+    requires recipe { recipe.now ≡ Recipe.Computed computation.now }
+    requires inputs { AreInputs (known_by recipe.now) stores.now }
     requires range { range.start ≤ range.end }
-    requires rows { range.end ≤ rows_of accepted.now.out.c.shape }
-    ensures first { IfOk result (λ block. block.first ≡ range.start) }
-    ensures past { IfOk result (λ block. block.past ≡ range.end) }
-    ensures cols { IfOk result (λ block. block.cols ≡ cols_of accepted.now.out.c.shape) }
-    ensures words { IfOk result (λ block. (i j : ℕ) → range.start ≤ i → i < range.end
-        → block_content block i j ≡ meaning accepted.now.out accepted.now.operation (maps_in stores.now) i j) }
+    requires rows { range.end ≤ rows_of (makes recipe.now).shape }
+    ensures piece { IfOk result (IsPieceOf recipe.now (maps_in stores.now) range.start range.end) }
+    ensures form { IfOk result (HasForm recipe.now) }
 {
+    let accepted = &computation.accepted;
     let shape = accepted.out.c.shape;
     // It takes no memory, and stands for what the output has where nobody reads that.
     let unread = Store::new(alloc, shape.rows(), shape.cols());
     let task = taken(accepted, *stores, &unread);
-    task_rows(alloc, &task, range)
+    if range.start == 0
+        && range.end == shape.rows()
+        && let Some(bitmap) = task_bitmap(alloc, &task)?
+    {
+        return Ok(Block::Whole(Store::from_bitmap(bitmap)));
+    }
+    let rows = task_rows(alloc, &task, range)?;
+    Ok(Block::Rows(rows))
 }
 
 /// An operation on the stores that take its roles.
@@ -180,16 +187,37 @@ fn input(known: Signature, store: Option<&Store>) -> Input<'_>
     }
 }
 
-/// The store of what a recipe gives, of the block that holds all its rows, whose lists it takes over.
-pub fn join(recipe: &Recipe, block: Block) -> Store
+/// The store of what a recipe gives, of the block that holds all its rows, whose lists it takes over. Where many
+/// positions have an entry, it is kept as a bitmap from here on; but a column that was written in place has its form,
+/// and a product, whose factors are read as lists, stays as it was made.
+pub fn join(alloc: Global, recipe: &Recipe, block: Block) -> Store
     requires { HasAllRows recipe.now block }
     ensures rows { result.rows ≡ rows_of (makes recipe.now).shape }
     ensures cols { result.cols ≡ cols_in block }
     ensures content { (i j : ℕ) → content_of result i j ≡ content_in block i j }
     ensures within { IfRows block (IsWithin result.rows result.cols (content_of result)) }
 {
-    match block {
+    let mut store = match block {
         Block::Rows(rows) => Store::from_block(recipe.signature().shape.rows(), rows),
+        Block::Whole(store) if store.cols() == 1 => return store,
         Block::Whole(store) => store,
+    };
+    if !is_product(recipe) {
+        store.settle(alloc);
+    }
+    store
+}
+
+/// Whether a recipe is of a product.
+fn is_product(recipe: &Recipe) -> bool {
+    let Recipe::Computed(computation) = recipe else {
+        return false;
+    };
+    match computation.accepted.operation {
+        Operation::OfTwo { computes, .. } => match computes {
+            TwoInputs::Multiply { .. } => true,
+            TwoInputs::Combine { .. } => false,
+        },
+        _ => false,
     }
 }

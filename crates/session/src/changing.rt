@@ -9,7 +9,7 @@ ghost use Rattle.objects.specs.Waiting.{IsEditOf, edited_object};
 ghost use Rattle.patch.specs.Edits.{IsInside};
 ghost use Rattle.session.specs.Deferred.{IsPutOff};
 
-use crate::sessions::Session;
+use crate::sessions::{Session, share};
 use algebra::OpName;
 use calls::{
     Act, Call, Obj, Place, Recipe, Resize, Roles, Shape, Signature, TupleList, check_build,
@@ -19,7 +19,6 @@ use model::{NoMemory, Status};
 use objects::{Value, edit, is_told, store, ticket};
 use patch::{Edit, build};
 use runner::Runner;
-use std::sync::Arc;
 
 impl<R: Runner + Drop> Session<R> {
     ghost use Rattle.model.specs.Marks.{put_off};
@@ -108,7 +107,7 @@ impl<R: Runner + Drop> Session<R> {
         }
         let of = self.known(object);
         let store = build(self.alloc, of.shape, of.domain, op, &tuples)?;
-        let store = Arc::new(self.alloc, store)?;
+        let store = share(self.alloc, store)?;
         self.put(object, of, Value::Here(store));
         Ok(())
     }

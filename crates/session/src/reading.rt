@@ -47,8 +47,7 @@ impl<R: Runner + Drop> Session<R> {
     {
         let monoid = check_reduce(self, object, monoid)?;
         self.finish(object)?;
-        let lists = store(&self.table, object).as_sparse(self.alloc)?;
-        let sum = reduce_all(lists.get(), monoid);
+        let sum = reduce_all(store(&self.table, object), monoid);
         Ok(monoid.op.domain.value_of(sum))
     }
 

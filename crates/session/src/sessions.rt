@@ -1,5 +1,6 @@
 //! Sessions, and the objects that they make and free.
 ghost use Rattle.std.specs.Prelude.{◌≡◌, ◌==◌, ◌+◌, ◌-◌, ◌^◌, ◌<◌, IfOk, None, OnErr, OnOk, [], false, is_some, true};
+ghost use Rattle.std.specs.Arc.{arc_value};
 ghost use Rattle.std.specs.List.{All};
 ghost use Rattle.algebra.specs.Value.{IsWordOf, is_built_in};
 ghost use Rattle.calls.specs.Stores.{object_with};
@@ -19,7 +20,7 @@ use patch::sum_entries;
 use runner::Runner;
 use std::alloc::Global;
 use std::sync::Arc;
-use store::Tuples;
+use store::{Store, Tuples};
 
 /// So many calls hand work to a runner before it is emptied, and what it knows of them is forgotten.
 const EPOCH: u64 = 4_096;
@@ -109,7 +110,7 @@ impl<R: Runner + Drop> Session<R> {
         let shape = Shape::Two(rows, cols);
         check_create(self, domain, shape)?;
         let store = sum_entries(self.alloc, entries, domain, rows, cols)?;
-        let store = Arc::new(self.alloc, store)?;
+        let store = share(self.alloc, store)?;
         let object = self.insert(Signature { domain, shape }, Value::Here(store))?;
         Ok(object)
     }
@@ -173,4 +174,13 @@ impl<R: Runner + Drop> Session<R> {
         remove(&mut self.runner, &mut self.table, object);
         Ok(())
     }
+}
+
+/// A store that was made, in the form that suits it, to be shared.
+pub(crate) fn share(alloc: Global, store: Store) -> Result<Arc<Store>, NoMemory>
+    ensures { IfOk result (λ shared. arc_value shared ≡ store) }
+{
+    let mut store = store;
+    store.settle(alloc);
+    Ok(Arc::new(alloc, store)?)
 }

@@ -64,7 +64,7 @@ put-requires-clause-value g c =
     let rows = rw c.known-of.ensures at c.in_ok-store.ensures.rows in
     let cols = rw c.known-of.ensures at c.in_ok-store.ensures.cols in
     let fits : IsStoreOf (signature_of now) c.in_ok-store.store = built-is_store now c.args.dup c.args.tuples c.in_ok-store.store on rows cols content in
-    (rw c.known-of.ensures (subst (IsStoreOf (signature_of now)) (sym c.in_ok-store-2.ensures.ok) fits), tt)
+    (rw c.known-of.ensures (subst (IsStoreOf (signature_of now)) (sym c.in_ok-store-2.ensures) fits), tt)
 
 pub returns : goal.returns
 returns g c =
@@ -80,7 +80,7 @@ returns g c =
     let content = rw (c.in_ok-op.ensures.op, known) at c.in_ok-store.ensures.content in
     let made : Object = record o { content = built c.args.dup o.domain c.args.tuples } in
     let is : object_with c.known-of.result (content_of (arc_value c.in_ok-store-2.store)) ≡ made =
-    (λ t. object_with (known t) (let s : Stored = c.in_ok-store-2.ensures.ok t in content_of s))
+    (λ t. object_with (known t) (let s : Stored = c.in_ok-store-2.ensures t in content_of s))
     ∙ objects_equal (object_with (signature_of o) (content_of c.in_ok-store.store)) made refl refl content in
     performed-build old c.put.new.self c.args.object c.args.dup c.args.tuples (state_of new) (object_with c.known-of.result (content_of (arc_value c.in_ok-store-2.store))) _ c.in_ok-op.ensures.fault
     (late-build find o c.args.dup c.args.tuples there (rw kept at empty)) c.in_ok-finish.ensures.ends c.put.ensures.state is (c.put.ensures.made ∙ c.finish.ensures.made)

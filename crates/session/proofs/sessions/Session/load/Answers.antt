@@ -27,7 +27,7 @@ insert-requires-clause-value g c =
     let m : Matrix = record { rows = c.args.rows; cols = c.args.cols; entries = c.args.entries } in
     let of : Signature = record { domain = c.args.domain; shape = Two c.args.rows c.args.cols } in
     let read = read-is_store c.args.domain m c.in_ok-store.store c.requires.built_in c.requires.inside c.requires.words c.in_ok-store.ensures.rows c.in_ok-store.ensures.cols c.in_ok-store.ensures.content in
-    (subst (IsStoreOf of) (sym c.in_ok-store-2.ensures.ok) read.0, tt)
+    (subst (IsStoreOf of) (sym c.in_ok-store-2.ensures) read.0, tt)
 
 pub returns-in_err-object-clause-loaded : goal.returns-in_err-object-clause-loaded
 returns-in_err-object-clause-loaded g c =
@@ -43,7 +43,7 @@ returns-clause-loaded g c =
     record {
       ends = (
         c.in_ok-check_create.ensures,
-        settles-same _ (state_of c.insert.new.self) (c.in_ok-object.ensures.put ∙ ap (λ (s : Stored). put (object_with of (content_of s))) c.in_ok-store-2.ensures.ok ∙ ap put read.1),
+        settles-same _ (state_of c.insert.new.self) (c.in_ok-object.ensures.put ∙ ap (λ (s : Stored). put (object_with of (content_of s))) c.in_ok-store-2.ensures ∙ ap put read.1),
       );
       made = c.in_ok-object.ensures.made;
     }

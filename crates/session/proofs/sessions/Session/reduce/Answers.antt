@@ -12,7 +12,7 @@ use Rattle.model.specs.Reductions.{sum_in}
 use Rattle.model.specs.Run.{Environment, object_at}
 use Rattle.session.specs.Performed.{count_in, environment_of}
 use Rattle.session.proofs.AcceptedLaws.{act-there, reduce-accepted}
-use Rattle.session.proofs.PerformedLaws.{late-none, performed-read, read-kept, refused-read-as}
+use Rattle.session.proofs.PerformedLaws.{late-none, performed-read, read-kept}
 use Rattle.session.proofs.ResultLaws.{sum-stored}
 use Rattle.session.proofs.sessions.Session.reduce.Goals as goal
 
@@ -23,11 +23,6 @@ pub returns-clause-performed : goal.returns-clause-performed
 returns-clause-performed g c =
     performed-read c.args.self.now c.finish.new.self c.args.object (Reduce c.args.monoid) _ tt c.in_ok-monoid.ensures.fault
     (late-none c.args.self.now c.finish.new.self c.args.object (Reduce c.args.monoid) tt) c.in_ok-finish.ensures.ends c.finish.ensures.made
-
-pub returns-in_err-lists-clause-performed : goal.returns-in_err-lists-clause-performed
-returns-in_err-lists-clause-performed g c =
-    refused-read-as c.args.self.now c.finish.new.self c.args.object (Reduce c.args.monoid) c.from_residual-in_err-lists.result
-    c.from_residual-in_err-lists.ensures.1 c.in_ok-finish.ensures.ends c.finish.ensures.made
 
 pub returns-clause-value : goal.returns-clause-value
 returns-clause-value g c =
@@ -41,11 +36,10 @@ returns-clause-value g c =
     let monoid = c.in_ok-monoid.monoid in
     let named : monoid_named monoid ≡ c.args.monoid = c.in_ok-monoid.ensures.monoid in
     let fits : FitsSigned w128 c.value_of.result = search rules in
-    let lent = c.get.ensures ∙ c.in_ok-lists.ensures in
     let offered = rw (sym named) at accepted.1 in
     let compatible = rw (read, sym named) at accepted.2 in
     let sum = sum-stored (monoid_named monoid) o c.store.result.now offered compatible c.store.ensures.object c.store.ensures.store in
     to_z-of_z w128 c.value_of.result fits ∙ c.value_of.ensures
-    ∙ ap (value_of monoid.op.domain) ((rw lent at c.reduce_all-sum.ensures) ∙ sum)
+    ∙ ap (value_of monoid.op.domain) (c.reduce_all-sum.ensures ∙ sum)
     ∙ ap (λ (name : MonoidName). value_of name.domain (sum_in name o)) named
     ∙ ap (λ (p : Object). value_of c.args.monoid.domain (sum_in c.args.monoid p)) (sym read)
