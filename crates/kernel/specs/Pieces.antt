@@ -22,11 +22,13 @@ IsPieceOf recipe maps start end (Rows block) =
     HasRows start end (cols_of (known_of recipe).shape) (meaning_of recipe maps) block
 IsPieceOf recipe maps start end (Whole store) = IsResultOf recipe maps store
 
--- a recipe that is no operation gives all of it
-abbrev pub HasForm : Recipe → Block → Type 0
-HasForm (Computed computation) block = Unit {0}
-HasForm recipe (Rows block) = ⊥
-HasForm recipe (Whole store) = Unit {0}
+-- an operation gives rows, or all of it where all rows were asked for, and a recipe of another kind all of it
+abbrev pub HasForm : Recipe → ℕ → ℕ → Block → Type 0
+HasForm (Computed computation) start end (Rows block) = Unit {0}
+HasForm (Computed computation) start end (Whole store) =
+    (start ≡ 0) × (end ≡ rows_of (known_of (Computed computation)).shape)
+HasForm recipe start end (Rows block) = ⊥
+HasForm recipe start end (Whole store) = Unit {0}
 
 -- ---- blocks by themselves
 

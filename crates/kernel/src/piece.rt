@@ -39,7 +39,7 @@ pub fn eval_piece(
     requires range { range.start ≤ range.end }
     requires rows { range.end ≤ rows_of (makes recipe.now).shape }
     ensures piece { IfOk result (IsPieceOf recipe.now (maps_in stores.now) range.start range.end) }
-    ensures form { IfOk result (HasForm recipe.now) }
+    ensures form { IfOk result (HasForm recipe.now range.start range.end) }
 {
     let store = match recipe {
         Recipe::Computed(computation) => {
@@ -111,7 +111,7 @@ fn computed_piece(
     requires range { range.start ≤ range.end }
     requires rows { range.end ≤ rows_of (makes recipe.now).shape }
     ensures piece { IfOk result (IsPieceOf recipe.now (maps_in stores.now) range.start range.end) }
-    ensures form { IfOk result (HasForm recipe.now) }
+    ensures form { IfOk result (HasForm recipe.now range.start range.end) }
 {
     let accepted = &computation.accepted;
     let shape = accepted.out.c.shape;
@@ -188,8 +188,8 @@ fn input(known: Signature, store: Option<&Store>) -> Input<'_>
 }
 
 /// The store of what a recipe gives, of the block that holds all its rows, whose lists it takes over. Where many
-/// positions have an entry, it is kept as a bitmap from here on; but a column that was written in place has its form,
-/// and a product, whose factors are read as lists, stays as it was made.
+/// positions have an entry, it is kept as a bitmap from here on; but a column that comes whole, as one that was edited
+/// or written in place, keeps its form, and so does a product, whose factors are read as lists.
 pub fn join(alloc: Global, recipe: &Recipe, block: Block) -> Store
     requires { HasAllRows recipe.now block }
     ensures rows { result.rows ≡ rows_of (makes recipe.now).shape }
