@@ -1,10 +1,11 @@
 pub mod ColumnLaws
 pub mod CountLaws
 pub mod FullLaws
-pub mod KernelLaws
 pub mod KeptPlaces
+pub mod KernelLaws
 pub mod OrderLaws
 pub mod OverLaws
+pub mod PartLaws
 pub mod PlaceLaws
 pub mod PlacedEntries
 pub mod WordLaws

@@ -11,8 +11,9 @@ ghost use Rattle.model.specs.Object.{cast_content};
 ghost use Rattle.bitmap.specs.Bitmaps.{place_of};
 
 use crate::Bitmap;
+use crate::making::{united, zipped};
 use algebra::{BinaryOp, Domain, Monoid};
-use lanes::{and_words, cast_words, count_ones, fold_present, or_words, unite_present, zip_words};
+use lanes::{and_words, cast_words, count_ones, fold_present, or_words};
 use model::NoMemory;
 use std::alloc::Global;
 
@@ -93,9 +94,8 @@ impl Bitmap {
             ≡ of_both (eval_of op.kind op.domain) (word_at a.now.entries i j) (word_at b.now.entries i j)) }
     {
         let mut bits = vec![in alloc; 0; a.bits.len()]?;
-        let mut words = vec![in alloc; 0; a.words.len()]?;
         and_words(&a.bits, &b.bits, &mut bits);
-        zip_words(op, &a.words, &b.words, &mut words);
+        let words = zipped(alloc, op, &a.words, &b.words)?;
         Ok(Bitmap {
             count: count_ones(&bits),
             bits,
@@ -117,9 +117,8 @@ impl Bitmap {
             (word_at a.now.entries i j) (word_at b.now.entries i j)) }
     {
         let mut bits = vec![in alloc; 0; a.bits.len()]?;
-        let mut words = vec![in alloc; 0; a.words.len()]?;
         or_words(&a.bits, &b.bits, &mut bits);
-        unite_present(op, &a.bits, &b.bits, &a.words, &b.words, &mut words);
+        let words = united(alloc, op, &a.bits, &b.bits, &a.words, &b.words)?;
         Ok(Bitmap {
             count: count_ones(&bits),
             bits,

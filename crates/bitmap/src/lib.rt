@@ -5,5 +5,6 @@ mod bitmap;
 mod column;
 mod full;
 mod kernels;
+mod making;
 
 pub use bitmap::Bitmap;

@@ -19,11 +19,10 @@ invariant_of-result c =
     let cols : b.cols ≡ a.cols = rw (← c.a.view_is, ← c.b.view_is) at c.requires.cols in
     let long = same_lists a.rows a.cols a.count b.rows b.cols b.count a.bits.items a.words.items b.bits.items b.words.items c.a.invariant c.b.invariant rows cols in
     let bits_fit : length c.and_words.new.out ≡ vec_len c.in_ok-bits.bits = omega arith in
-    let words_fit : length c.zip_words.new.out ≡ vec_len c.in_ok-words.words = omega arith in
     let bits = (with_items c.in_ok-bits.bits c.and_words.new.out).items in
-    let words = (with_items c.in_ok-words.words c.zip_words.new.out).items in
+    let words = c.in_ok-words.words.items in
     let bits_are : bits ≡ zip_with bit_and a.bits.items b.bits.items = with_items_is c.in_ok-bits.bits c.and_words.new.out bits_fit ∙ c.and_words.ensures ∙ rw (c.deref.ensures.value, c.deref-2.ensures.value) refl in
-    let words_are : words ≡ zip_with f a.words.items b.words.items = with_items_is c.in_ok-words.words c.zip_words.new.out words_fit ∙ c.zip_words.ensures ∙ rw (c.deref-3.ensures.value, c.deref-4.ensures.value) refl in
+    let words_are : words ≡ zip_with f a.words.items b.words.items = c.in_ok-words.ensures ∙ rw (c.deref-3.ensures.value, c.deref-4.ensures.value) refl in
     let small : (k : ℕ) → get_or bits k 0 < 18446744073709551616 = subst (λ xs. (k : ℕ) → get_or xs k 0 < 18446744073709551616) c.deref-5.ensures.value c.count_ones.ensures.words in
     let counted : c.count_ones.result ≡ sum (map count_ones bits) = c.count_ones.ensures.number ∙ ap (λ xs. sum (map count_ones xs)) c.deref-5.ensures.value in
     both_places a.rows a.cols a.count c.count_ones.result bits words a.bits.items a.words.items b.bits.items c.a.invariant (ap length words_are ∙ length-zip_with f a.words.items b.words.items long.1) long.0 bits_are small counted
@@ -38,11 +37,10 @@ returns-clause-content c =
     let long = same_lists a.rows a.cols a.count b.rows b.cols b.count a.bits.items a.words.items b.bits.items b.words.items c.a.invariant c.b.invariant rows cols in
     let each = c.a.invariant.word_each in
     let bits_fit : length c.and_words.new.out ≡ vec_len c.in_ok-bits.bits = omega arith in
-    let words_fit : length c.zip_words.new.out ≡ vec_len c.in_ok-words.words = omega arith in
     let bits = (with_items c.in_ok-bits.bits c.and_words.new.out).items in
-    let words = (with_items c.in_ok-words.words c.zip_words.new.out).items in
+    let words = c.in_ok-words.words.items in
     let bits_are : bits ≡ zip_with bit_and a.bits.items b.bits.items = with_items_is c.in_ok-bits.bits c.and_words.new.out bits_fit ∙ c.and_words.ensures ∙ rw (c.deref.ensures.value, c.deref-2.ensures.value) refl in
-    let words_are : words ≡ zip_with f a.words.items b.words.items = with_items_is c.in_ok-words.words c.zip_words.new.out words_fit ∙ c.zip_words.ensures ∙ rw (c.deref-3.ensures.value, c.deref-4.ensures.value) refl in
+    let words_are : words ≡ zip_with f a.words.items b.words.items = c.in_ok-words.ensures ∙ rw (c.deref-3.ensures.value, c.deref-4.ensures.value) refl in
     rw (← c.a.view_is, ← c.b.view_is) (λ i j.
     made_of a.rows a.cols bits words a.bits.items a.words.items b.bits.items b.words.items (of_both f) refl
     (λ at inside. both_word f bits words a.bits.items a.words.items b.bits.items b.words.items at

@@ -19,11 +19,10 @@ invariant_of-result c =
     let cols : b.cols ≡ a.cols = rw (← c.a.view_is, ← c.b.view_is) at c.requires.cols in
     let long = same_lists a.rows a.cols a.count b.rows b.cols b.count a.bits.items a.words.items b.bits.items b.words.items c.a.invariant c.b.invariant rows cols in
     let bits_fit : length c.or_words.new.out ≡ vec_len c.in_ok-bits.bits = omega arith in
-    let words_fit : length c.unite_present.new.out ≡ vec_len c.in_ok-words.words = omega arith in
     let bits = (with_items c.in_ok-bits.bits c.or_words.new.out).items in
-    let words = (with_items c.in_ok-words.words c.unite_present.new.out).items in
+    let words = c.in_ok-words.words.items in
     let bits_are : bits ≡ zip_with bit_or a.bits.items b.bits.items = with_items_is c.in_ok-bits.bits c.or_words.new.out bits_fit ∙ c.or_words.ensures ∙ rw (c.deref.ensures.value, c.deref-2.ensures.value) refl in
-    let words_long : length words ≡ length a.words.items = ap length (with_items_is c.in_ok-words.words c.unite_present.new.out words_fit) ∙ words_fit ∙ c.in_ok-words.ensures.len ∙ c.len-2.ensures ∙ a.words.ok.0 in
+    let words_long : length words ≡ length a.words.items = c.in_ok-words.ensures.length ∙ ap length c.deref-5.ensures.value in
     let small : (k : ℕ) → get_or bits k 0 < 18446744073709551616 = subst (λ xs. (k : ℕ) → get_or xs k 0 < 18446744073709551616) c.deref-7.ensures.value c.count_ones.ensures.words in
     let counted : c.count_ones.result ≡ sum (map count_ones bits) = c.count_ones.ensures.number ∙ ap (λ xs. sum (map count_ones xs)) c.deref-7.ensures.value in
     either_places a.rows a.cols a.count b.rows b.cols b.count c.count_ones.result bits words a.bits.items a.words.items b.bits.items b.words.items c.a.invariant c.b.invariant words_long long bits_are small counted
@@ -38,20 +37,17 @@ returns-clause-content c =
     let long = same_lists a.rows a.cols a.count b.rows b.cols b.count a.bits.items a.words.items b.bits.items b.words.items c.a.invariant c.b.invariant rows cols in
     let each = c.a.invariant.word_each in
     let bits_fit : length c.or_words.new.out ≡ vec_len c.in_ok-bits.bits = omega arith in
-    let words_fit : length c.unite_present.new.out ≡ vec_len c.in_ok-words.words = omega arith in
     let bits = (with_items c.in_ok-bits.bits c.or_words.new.out).items in
-    let words = (with_items c.in_ok-words.words c.unite_present.new.out).items in
+    let words = c.in_ok-words.words.items in
     let bits_are : bits ≡ zip_with bit_or a.bits.items b.bits.items = with_items_is c.in_ok-bits.bits c.or_words.new.out bits_fit ∙ c.or_words.ensures ∙ rw (c.deref.ensures.value, c.deref-2.ensures.value) refl in
-    let words_are = with_items_is c.in_ok-words.words c.unite_present.new.out words_fit in
-    let made : length c.unite_present.new.out ≡ length a.words.items = words_fit ∙ c.in_ok-words.ensures.len ∙ c.len-2.ensures ∙ a.words.ok.0 in
     let g = cast_of c.args.op.domain (answer_domain c.args.op.kind c.args.op.domain) in
     rw (← c.a.view_is, ← c.b.view_is) (λ i j.
     made_of a.rows a.cols bits words a.bits.items a.words.items b.bits.items b.words.items (of_either g g f) refl
     (λ at inside.
-    let word : get_or c.unite_present.new.out at 0 ≡ either_of (has_bit a.bits.items at) (has_bit b.bits.items at) (f (get_or a.words.items at 0) (get_or b.words.items at 0)) (g (get_or a.words.items at 0)) (g (get_or b.words.items at 0)) =
-    rw (c.deref-3.ensures.value, c.deref-4.ensures.value, c.deref-5.ensures.value, c.deref-6.ensures.value) at (c.unite_present.ensures at (omega arith)) in
+    let word : get_or words at 0 ≡ either_of (has_bit a.bits.items at) (has_bit b.bits.items at) (f (get_or a.words.items at 0) (get_or b.words.items at 0)) (g (get_or a.words.items at 0)) (g (get_or b.words.items at 0)) =
+    rw (c.deref-3.ensures.value, c.deref-4.ensures.value, c.deref-5.ensures.value, c.deref-6.ensures.value) at (c.in_ok-words.ensures.words at (rw (c.deref-5.ensures.value) (omega arith))) in
     either_word g g f bits words a.bits.items a.words.items b.bits.items b.words.items at
     (ap (λ bs. has_bit bs at) bits_are ∙ either_bit a.bits.items b.bits.items at long.0)
-    (ap (λ ws. get_or ws at 0) words_are ∙ word)) i j
+    word) i j
     ∙ ap (λ r. of_either g g f (map_of a.rows a.cols a.bits.items a.words.items i j) (map_of r a.cols b.bits.items b.words.items i j)) (sym rows)
     ∙ ap (λ n. of_either g g f (map_of a.rows a.cols a.bits.items a.words.items i j) (map_of b.rows n b.bits.items b.words.items i j)) (sym cols))
