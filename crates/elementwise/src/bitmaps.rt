@@ -1,6 +1,6 @@
 //! Functions and tests of each entry of a bitmap, place by place.
-ghost use Rattle.std.specs.Prelude.{◌≡◌, ◌<◌, ◌≤◌, ◌+◌, ◌*◌, ◌/◌, ◌%◌, ◌^◌, ◌==◌, ◌&&◌, ◌||◌, ℕ};
-ghost use Rattle.std.specs.Prelude.{false, length, slice_index, IfOk};
+ghost use Rattle.std.specs.Prelude.{◌≡◌, ◌<◌, ◌≤◌, ◌+◌, ◌*◌, ◌/◌, ◌%◌, ◌^◌, ◌==◌, ℕ, length, slice_index, IfOk};
+ghost use Rattle.std.specs.Int.{bit_at};
 ghost use Rattle.std.specs.Option.{option_map};
 ghost use Rattle.algebra.specs.Functions.{function_named};
 ghost use Rattle.elementwise.specs.Mapped.{answer_by, word_made};
@@ -13,9 +13,11 @@ use crate::arms::with_index;
 use crate::mapping::{WordFunction, map_copy};
 use algebra::{Function, IndexOp};
 use bitmap::Bitmap;
-use lanes::set_bit;
 use model::NoMemory;
 use std::alloc::Global;
+
+// Places whose bits are in one word.
+const PLACES: usize = 64;
 
 /// What a function gives for each entry of a bitmap (`GrB_apply`). It takes time and memory for all positions.
 pub fn apply_bitmap(alloc: Global, a: &Bitmap, function: Function) -> Result<Bitmap, NoMemory>
@@ -125,11 +127,10 @@ pub fn select_bitmap(alloc: Global, a: &Bitmap, op: IndexOp, s: u64) -> Result<B
     a.keep(alloc, &passing)
 }
 
-/// Sets the bit of each place whose word passes, in rows of so many columns.
+/// Sets the bit of each place whose word passes, in rows of so many columns, and clears those of the others.
 fn mark_passing(op: IndexOp, s: u64, cols: u64, words: &[u64], bits: &mut [u64])
     requires cols { 0 < length words.now → 0 < cols }
     requires bits { length words.now < 64 * length bits.old }
-    requires none { (at : ℕ) → has_bit bits.old at ≡ false }
     ensures length { length bits.new ≡ length bits.old }
     ensures bits { (at : ℕ) → at < length words.now
         → has_bit bits.new at ≡ passes_by op s (at / cols) (at % cols) (slice_index words.now at) }
@@ -142,28 +143,37 @@ fn mark_passing(op: IndexOp, s: u64, cols: u64, words: &[u64], bits: &mut [u64])
 fn mark_places(op: IndexOp, s: u64, cols: u64, words: &[u64], bits: &mut [u64])
     requires cols { 0 < length words.now → 0 < cols }
     requires bits { length words.now < 64 * length bits.old }
-    requires none { (at : ℕ) → has_bit bits.old at ≡ false }
     ensures length { length bits.new ≡ length bits.old }
     ensures bits { (at : ℕ) → at < length words.now
         → has_bit bits.new at ≡ passes_by op s (at / cols) (at % cols) (slice_index words.now at) }
 {
-    let mut row = 0;
-    let mut col = 0;
-    for at in 0..words.len() {
-        let passes = op.passes(words[at], row, col, s);
-        mark(bits, at, passes);
-        (row, col) = next_position(row, col, cols);
+    let whole = words.len() / PLACES;
+    for at in 0..whole {
+        let base = at * PLACES;
+        bits[at] = passing_bits(op, s, cols, base, &words[base..base + PLACES]);
+    }
+    let base = whole * PLACES;
+    if base < words.len() {
+        bits[whole] = passing_bits(op, s, cols, base, &words[base..]);
     }
 }
 
-/// Sets the bit of a place that passes.
+/// The bits of up to 64 places, the first of which is `base`, in rows of so many columns: those are set whose words
+/// pass. It is compiled without a branch.
 #[inline(always)]
-fn mark(bits: &mut [u64], at: usize, passes: bool)
-    requires { at < 64 * length bits.old }
-    ensures length { length bits.new ≡ length bits.old }
-    ensures bits { (k : ℕ) → has_bit bits.new k ≡ ((passes && k == at) || has_bit bits.old k) }
+fn passing_bits(op: IndexOp, s: u64, cols: u64, base: usize, words: &[u64]) -> u64
+    requires few { length words.now ≤ 64 }
+    requires cols { 0 < cols }
+    requires places { base + length words.now < 2 ^ 64 }
+    ensures { (k : ℕ) → k < length words.now
+        → (bit_at result k == 1) ≡ passes_by op s ((base + k) / cols) ((base + k) % cols) (slice_index words.now k) }
 {
-    if passes {
-        set_bit(bits, at);
+    let mut row = base as u64 / cols;
+    let mut col = base as u64 % cols;
+    let mut bits = 0;
+    for k in 0..words.len() {
+        bits |= (op.passes(words[k], row, col, s) as u64) << k;
+        (row, col) = next_position(row, col, cols);
     }
+    bits
 }
