@@ -32,7 +32,8 @@ pub(crate) fn collect_all(
     ensures words { IfOk result (λ block. (i j : ℕ) → range.start ≤ i → i < range.end → block_content block i j
         ≡ extracted a.now.rows a.now.cols All (These cols.now) (content_of a.now) i j) }
 {
-    let places = Places::new(alloc, a.cols(), cols)?;
+    let looks = a.fibers_in(range.start..range.end).len();
+    let places = Places::new(alloc, a.cols(), cols, looks)?;
     let mut entries = Vec::new(alloc);
     let mut rest = walk_rows(a, range.start..range.end);
     while let Some((row, others)) = rest.split_first() {
@@ -60,13 +61,19 @@ pub(crate) fn collect_listed(
     ensures words { IfOk result (λ block. (i j : ℕ) → range.start ≤ i → i < range.end → block_content block i j
         ≡ extracted a.now.rows a.now.cols (These rows.now) (These cols.now) (content_of a.now) i j) }
 {
-    let places = Places::new(alloc, a.cols(), cols)?;
+    let looks = looks_in(a, range.end - range.start);
+    let places = Places::new(alloc, a.cols(), cols, looks)?;
     let mut entries = Vec::new(alloc);
     for index in range.start..range.end {
         let (row_cols, words) = find_row(a, rows[index as usize]);
         collect_row(&mut entries, index, row_cols, words, &places)?;
     }
     gather(alloc, entries, None, range, cols.len() as u64)
+}
+
+/// About how many entries so many rows have.
+fn looks_in(a: &Sparse, rows: u64) -> usize {
+    (a.nvals().saturating_mul(rows) / a.rows().max(1)) as usize
 }
 
 /// Puts what a row has at listed columns, as entries of another row, behind the entries.

@@ -8,7 +8,7 @@ ghost use Rattle.shapes.specs.Collects.{index_content};
 use model::{Entry, NoMemory};
 use patch::gather;
 use std::alloc::Global;
-use store::Sparse;
+use store::{RowHints, Sparse};
 
 /// The places of columns in a list, with marks by which most columns that aren't listed are told at once: a
 /// column has the mark of its last bits.
@@ -16,6 +16,7 @@ use store::Sparse;
 pub(crate) struct Places {
     /// In the row of each column a 0 at each of its places.
     pub store: Sparse,
+    hints: RowHints,
     marks: Vec<bool>,
     mask: u64,
     ghost exact: { (col : ℕ) → get_or marks.items (bit_and col mask) true ≡ false
@@ -26,18 +27,30 @@ pub(crate) struct Places {
 const MARKS: u64 = 8;
 
 impl Places {
-    /// The places of a list's columns. It takes time and memory for the list.
-    pub(crate) fn new(alloc: Global, size: u64, cols: &[u64]) -> Result<Places, NoMemory>
+    /// The places of a list's columns, for so many looks. It takes time and memory for the list, and for the columns
+    /// that there are where the looks pay for that.
+    pub(crate) fn new(
+        alloc: Global,
+        size: u64,
+        cols: &[u64],
+        looks: usize,
+    ) -> Result<Places, NoMemory>
         requires { are_below size (These cols.now) ≡ true }
         ensures cols { IfOk result (λ places. places.store.cols ≡ length cols.now) }
         ensures content { IfOk result (λ places. (i j : ℕ) → content_of places.store i j
             ≡ index_content cols.now i j) }
     {
         let store = place_columns(alloc, size, cols)?;
+        let hints = RowHints::for_lookups(alloc, &store, looks, looks as u64)?;
         let least = MARKS.saturating_mul(cols.len() as u64);
         let mask = u64::MAX.checked_shr(least.leading_zeros()).unwrap_or(0);
         let marks = marks_of(alloc, cols, mask)?;
-        Ok(Places { store, marks, mask })
+        Ok(Places {
+            store,
+            hints,
+            marks,
+            mask,
+        })
     }
 
     /// The places of a column, in rising order.
@@ -48,7 +61,7 @@ impl Places {
     {
         match self.marks.get((col & self.mask) as usize) {
             Some(false) => &[],
-            _ => self.store.row(col).0,
+            _ => self.store.row_near(col, self.hints.of(col, 0)).0,
         }
     }
 }

@@ -11,7 +11,6 @@ ghost use Rattle.spgemm.specs.Products.{HasOpenRow};
 ghost use Rattle.spgemm.specs.Terms.{AreFirstTerms, term_at, terms_of_row, times_row};
 ghost use Rattle.spgemm.specs.declared.term.Term.{Term};
 
-use crate::hints::RowHints;
 use crate::span::{Reach, widened_by_row, words_between};
 use crate::sums::push_sum;
 use crate::term::Term;
@@ -19,7 +18,7 @@ use algebra::{BinaryOp, Semiring, with_semiring};
 use lanes::{full_words, has_bit, set_bit};
 use model::NoMemory;
 use std::ops::Range;
-use store::{FiberLists, Row, Sparse};
+use store::{FiberLists, Row, RowHints, Sparse};
 
 /// Adds a word to the sum at a column. Whether the column was met before can't be foreseen, so there is no branch:
 /// what stands at one that wasn't met is no sum. Where `met` is given, most columns were met, as all below it

@@ -10,11 +10,10 @@ ghost use Rattle.spgemm.specs.declared.term.Term.{Term};
 
 use crate::along::{add_along, are_consecutive};
 use crate::dense::gather;
-use crate::hints::RowHints;
 use algebra::{Semiring, with_semiring};
 use lanes::packed;
 use model::NoMemory;
-use store::{FiberLists, Row, Sparse};
+use store::{FiberLists, Row, RowHints, Sparse};
 
 /// Whether so many entries of a row of A have more products with B than there are columns, if the rows of B that
 /// they meet are as long as its rows are on average.

@@ -8,7 +8,6 @@ ghost use Rattle.spgemm.specs.Terms.{AreFirstTerms, terms_of_row};
 
 use crate::dense::{MOST_PLACES, fit, sum_at_once, sum_densely, sum_in_span};
 use crate::expand::expand;
-use crate::hints::RowHints;
 use crate::many::{exceeds_columns, sum_many};
 use crate::span::{most_collected, pays, span_of};
 use crate::sums::sum_runs;
@@ -16,7 +15,7 @@ use crate::term::Term;
 use algebra::Semiring;
 use model::NoMemory;
 use std::alloc::Global;
-use store::{FiberLists, Row, Sparse};
+use store::{FiberLists, Row, RowHints, Sparse};
 
 /// Memory that serves one row after another: terms, and sums with a place for each column, each with a bit, and
 /// where there are many products with a mark, that says whether there is one; hints where the rows of B lie; and how

@@ -49,7 +49,8 @@ pub(crate) fn fiber_near(ends: &[FiberEnd], outer: u64, hint: usize) -> Spot
     }
 }
 
-/// How many fibers are before an outer index. Where that is the hint it takes no search.
+/// How many fibers are before an outer index. Where that is the hint it takes no search, nor where each index between
+/// the fiber before the hint and this one has a fiber.
 #[inline(always)]
 fn first_near(ends: &[FiberEnd], outer: u64, hint: usize) -> usize
     requires { AreApart ends.now }
@@ -57,10 +58,41 @@ fn first_near(ends: &[FiberEnd], outer: u64, hint: usize) -> usize
     ensures before { All (λ r. r.outer < outer) (take result ends.now) }
     ensures behind { All (λ r. outer ≤ r.outer) (drop result ends.now) }
 {
-    if hint > 0 && hint < ends.len() && ends[hint - 1].outer < outer && outer <= ends[hint].outer {
-        return hint;
+    if let Some(count) = count_at(ends, outer, hint) {
+        return count;
     }
-    first_from(ends, outer)
+    match count_at(ends, outer, ahead_of(ends, outer, hint)) {
+        Some(count) => count,
+        None => first_from(ends, outer),
+    }
+}
+
+/// The place where it is seen there that so many fibers are before an outer index.
+#[inline(always)]
+fn count_at(ends: &[FiberEnd], outer: u64, place: usize) -> Option<usize>
+    requires { AreApart ends.now }
+    ensures bound { IfSome result (λ count. count ≤ length ends.now) }
+    ensures before { IfSome result (λ count. All (λ r. r.outer < outer) (take count ends.now)) }
+    ensures behind { IfSome result (λ count. All (λ r. outer ≤ r.outer) (drop count ends.now)) }
+{
+    if place > 0
+        && place < ends.len()
+        && ends[place - 1].outer < outer
+        && outer <= ends[place].outer
+    {
+        return Some(place);
+    }
+    None
+}
+
+/// How many fibers are before an outer index, if each index from the fiber before the hint on has one.
+#[inline(always)]
+fn ahead_of(ends: &[FiberEnd], outer: u64, hint: usize) -> usize {
+    if hint == 0 || hint >= ends.len() {
+        return 0;
+    }
+    let passed = outer.saturating_sub(ends[hint - 1].outer).saturating_sub(1);
+    hint.saturating_add(passed as usize)
 }
 
 /// How many fibers are before an outer index; by a binary search among as many fibers as outer indices

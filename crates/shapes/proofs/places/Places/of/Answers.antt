@@ -4,4 +4,4 @@ use Rattle.shapes.proofs.ColumnPlaces.{cols_along}
 use Rattle.shapes.proofs.places.Places.of.Goals as goal
 
 pub returns-in_default : goal.returns-in_default
-returns-in_default c = sym (cols_along c.args.col c.row.result.0.now c.row.result.1.now c.row.ensures.lengths) ∙ ap (map (λ (s : Entry). s.col)) c.row.ensures.entries
+returns-in_default c = sym (cols_along c.args.col c.row_near.result.0.now c.row_near.result.1.now c.row_near.ensures.lengths) ∙ ap (map (λ (s : Entry). s.col)) c.row_near.ensures.entries

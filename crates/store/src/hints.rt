@@ -1,18 +1,18 @@
 //! Hints where the rows of a store lie.
+use crate::{Fibers, Sparse};
 use model::NoMemory;
 use std::alloc::Global;
-use store::{Fibers, Sparse};
 
 /// For each row how many rows before it have entries, as hints for `Sparse::row_near`; or nothing.
 #[derive(Drop)]
-pub(crate) struct RowHints {
+pub struct RowHints {
     before: Vec<u32>,
 }
 
 impl RowHints {
     /// Hints for so many lookups in a store, on so many walks along its rows, where they pay. Their time and memory
     /// follow the rows.
-    pub(crate) fn for_lookups(
+    pub fn for_lookups(
         alloc: Global,
         store: &Sparse,
         lookups: usize,
@@ -28,7 +28,7 @@ impl RowHints {
 
     /// A hint for a row, where the row before it gave another.
     #[inline(always)]
-    pub(crate) fn of(&self, row: u64, last: usize) -> usize {
+    pub fn of(&self, row: u64, last: usize) -> usize {
         if row < self.before.len() as u64 {
             self.before[row as usize] as usize
         } else {
