@@ -1,7 +1,7 @@
 -- Sums that begin at the monoid's identity, one term after another.
-use Rattle.std.proofs.Common.{◌≡◌, ℕ, ◌<◌, true, false, Bool, List, [], ◌∷◌, ◌++◌, ◌+◌, length, get_or, set, take, Some, None, sym, subst, ◌∙◌, inl, inr, arith, refl}
+use Rattle.std.proofs.Common.{◌≡◌, ℕ, ◌<◌, ap, true, false, Bool, List, [], ◌∷◌, ◌++◌, ◌+◌, length, get_or, set, take, Some, None, sym, subst, ◌∙◌, inl, inr, arith, refl}
 use Rattle.std.proofs.lemmas.Bool.{cases_Bool, cases_eq}
-use Rattle.std.proofs.lemmas.List.{get_or-set_other, get_or-set_same, length-set}
+use Rattle.std.proofs.lemmas.List.{get_or-set_other, get_or-set_same, length-set, set-get_or}
 use Rattle.algebra.proofs.Monoids.{monoid-identity}
 use Rattle.algebra.proofs.Words.{IsWordOf-eval}
 use Rattle.algebra.specs.Monoids.{identity_of}
@@ -27,6 +27,14 @@ product_first semiring a b =
     let word : IsWordOf add.op.domain (apply mul a b) = rw semiring.adds_answers (IsWordOf-eval mul.kind mul.domain a b) in
     let offered : offers (combines_by add.kind) add.op.domain ≡ true = rw (← kind) add.op.offered in
     rw kind (monoid-identity add.kind add.op.domain (apply mul a b) offered word)
+
+-- a mark stays where another is set
+pub mark_stays : (marks : List Bool) (at col : ℕ) → col < length marks → get_or marks at false ≡ true
+    → get_or (set marks col true) at false ≡ true
+mark_stays marks at col within was = elim (cases_eq at col) [
+  | inl same ↦ rw same (get_or-set_same marks col true false within)
+  | inr other ↦ get_or-set_other marks col at true false other ∙ was
+]
 
 -- one term more
 pub marked_more : (add : Monoid) (terms : List Term) (col word : ℕ) (marks : List Bool) (words : List ℕ)
@@ -83,3 +91,15 @@ marked_product semiring terms word row k e marks words this within inside long h
     let more : sofar ++ term_at e.col (apply mul word e.word) ∷ [] ≡ terms ++ times_row mul word (take (k + 1) row) = rw this at (more_terms mul terms word row k e within) in
     subst (λ ts. AreMarkedSums semiring.add ts (set marks e.col true) (set words e.col (apply semiring.add.op (get_or words e.col 0) (apply mul word e.word)))) more
     (marked_more semiring.add sofar e.col (apply mul word e.word) marks words inside long (product_first semiring word e.word) here)
+
+-- a product more, at a column that is marked
+pub known_product : (semiring : Semiring) (terms : List Term) (word : ℕ) (row : List Entry) (k : ℕ) (e : Entry)
+    (marks : List Bool) (words : List ℕ) → get_or row k e ≡ e → k < length row → e.col < length words
+    → length marks ≡ length words → get_or marks e.col false ≡ true
+    → AreMarkedSums semiring.add (terms ++ times_row semiring.multiply word (take k row)) marks words
+    → AreMarkedSums semiring.add (terms ++ times_row semiring.multiply word (take (k + 1) row)) marks
+    (set words e.col (apply semiring.add.op (get_or words e.col 0) (apply semiring.multiply word e.word)))
+known_product semiring terms word row k e marks words this within inside long marked here =
+    let same : set marks e.col true ≡ marks = ap (set marks e.col) (sym marked) ∙ set-get_or marks e.col false in
+    subst (λ marks. AreMarkedSums semiring.add (terms ++ times_row semiring.multiply word (take (k + 1) row)) marks (set words e.col (apply semiring.add.op (get_or words e.col 0) (apply semiring.multiply word e.word)))) same
+    (marked_product semiring terms word row k e marks words this within inside long here)

@@ -5,7 +5,7 @@ ghost use Rattle.store.specs.Fibers.{entries_along};
 ghost use Rattle.spgemm.specs.Dense.{AreMarkedSums};
 ghost use Rattle.spgemm.specs.Terms.{AreConsecutive, terms_of_row};
 
-use crate::many::add_products;
+use crate::many::add_row_of_b;
 use algebra::{Semiring, with_semiring};
 use store::{Row, Sparse};
 
@@ -65,11 +65,22 @@ fn add_along_by(marks: &mut [bool], sums: &mut [u64], row: Row<'_>, b: &Sparse, 
         (terms_of_row semiring.multiply (entries_along row.entry.index row.entry.cols.now row.entry.words.now) b.now)
         marks.new sums.new }
 {
+    let width = b.cols() as usize;
+    let mut known = 0;
     let first = row.cols[0];
     let mut rest = b.rows_in(first..first + row.cols.len() as u64);
     while let Some((line, others)) = rest.split_first() {
         let at = (line.index - first) as usize;
-        add_products(marks, sums, row.words[at], line.cols, line.words, semiring);
+        known = add_row_of_b(
+            marks,
+            sums,
+            row.words[at],
+            line.cols,
+            line.words,
+            semiring,
+            width,
+            known,
+        );
         rest = others;
     }
 }

@@ -1,5 +1,6 @@
 //! The sums of a row of a product that has more products than there are columns.
-ghost use Rattle.std.specs.Prelude.{◌≡◌, ℕ, ◌<◌, ◌≤◌, ◌*◌, ◌++◌, [], List, false, length, slice_index_or, OnOk};
+ghost use Rattle.std.specs.Prelude.{◌≡◌, ℕ, ◌<◌, ◌≤◌, ◌*◌, ◌++◌, [], Bool, List, OnOk};
+ghost use Rattle.std.specs.Prelude.{false, length, slice_index_or, true};
 ghost use Rattle.std.specs.List.{All, AllPairs};
 ghost use Rattle.store.specs.Fibers.{entries_along};
 ghost use Rattle.lanes.specs.Bits.{has_bit};
@@ -16,15 +17,15 @@ use model::NoMemory;
 use store::{FiberLists, Row, RowHints, Sparse};
 
 /// Whether so many entries of a row of A have more products with B than there are columns, if the rows of B that
-/// they meet are as long as its rows are on average.
+/// they meet are as long as its rows are on average. The average isn't rounded, or 1.9 entries a row would count
+/// as one.
 pub(crate) fn exceeds_columns(entries: usize, b: &Sparse) -> bool {
-    let average = b.nvals() / b.rows().max(1);
-    average.saturating_mul(entries as u64) > b.cols()
+    (entries as u64).saturating_mul(b.nvals()) / b.rows().max(1) > b.cols()
 }
 
 /// Adds a word times each entry of a row to the sum at its column, and marks the column.
 #[inline(always)]
-pub(crate) fn add_products(
+fn add_products(
     marks: &mut [bool],
     sums: &mut [u64],
     word: u64,
@@ -35,15 +36,87 @@ pub(crate) fn add_products(
     requires marks { length marks.old ≡ length sums.old }
     requires lengths { length words.now ≡ length cols.now }
     requires inside { All (λ col. col < length sums.old) cols.now }
-    ensures { (terms : List Term) → AreMarkedSums semiring.add terms marks.old sums.old
+    ensures sums { (terms : List Term) → AreMarkedSums semiring.add terms marks.old sums.old
         → AreMarkedSums semiring.add
         (terms ++ times_row semiring.multiply word (entries_along 0 cols.now words.now)) marks.new sums.new }
+    ensures stay { (at : ℕ) → slice_index_or marks.old at false ≡ true → slice_index_or marks.new at false ≡ true }
 {
     for k in 0..cols.len() {
         let col = cols[k] as usize;
         let product = semiring.multiply.eval(word, words[k]);
         sums[col] = semiring.add.op.eval(sums[col], product);
         marks[col] = true;
+    }
+}
+
+/// Adds a word times each entry of a row to the sum at its column, where all these columns are marked. It is handed
+/// no marks, so it neither reads nor writes any.
+#[inline(always)]
+fn add_known_products(sums: &mut [u64], word: u64, cols: &[u64], words: &[u64], semiring: Semiring)
+    requires lengths { length words.now ≡ length cols.now }
+    requires inside { All (λ col. col < length sums.old) cols.now }
+    ensures { (marks : List Bool) → length marks ≡ length sums.old
+        → All (λ col. slice_index_or marks col false ≡ true) cols.now
+        → (terms : List Term) → AreMarkedSums semiring.add terms marks sums.old
+        → AreMarkedSums semiring.add
+        (terms ++ times_row semiring.multiply word (entries_along 0 cols.now words.now)) marks sums.new }
+{
+    for k in 0..cols.len() {
+        let col = cols[k] as usize;
+        let product = semiring.multiply.eval(word, words[k]);
+        sums[col] = semiring.add.op.eval(sums[col], product);
+    }
+}
+
+/// How many places from the first on are all marked: at least those that are known to be, at most those before `past`.
+#[inline(always)]
+fn marked_from(marks: &[bool], known: usize, past: usize) -> usize
+    requires past { past ≤ length marks.now }
+    requires bound { known ≤ past }
+    requires known { (at : ℕ) → at < known → slice_index_or marks.now at false ≡ true }
+    ensures least { known ≤ result }
+    ensures bound { result ≤ past }
+    ensures marked { (at : ℕ) → at < result → slice_index_or marks.now at false ≡ true }
+{
+    let mut count = known;
+    while count < past && marks[count] {
+        count += 1;
+    }
+    count
+}
+
+/// Adds a word times each entry of a row of B, which has so many columns, to the sum at its column, and marks the
+/// column. It answers how many columns from the first on are marked then, where so many were known to be before:
+/// once all are, the marks are left alone.
+#[inline(always)]
+pub(crate) fn add_row_of_b(
+    marks: &mut [bool],
+    sums: &mut [u64],
+    word: u64,
+    cols: &[u64],
+    words: &[u64],
+    semiring: Semiring,
+    width: usize,
+    known: usize,
+) -> usize
+    requires marks { length marks.old ≡ length sums.old }
+    requires width { width ≤ length sums.old }
+    requires lengths { length words.now ≡ length cols.now }
+    requires inside { All (λ col. col < width) cols.now }
+    requires bound { known ≤ width }
+    requires known { (at : ℕ) → at < known → slice_index_or marks.old at false ≡ true }
+    ensures sums { (terms : List Term) → AreMarkedSums semiring.add terms marks.old sums.old
+        → AreMarkedSums semiring.add
+        (terms ++ times_row semiring.multiply word (entries_along 0 cols.now words.now)) marks.new sums.new }
+    ensures bound { result ≤ width }
+    ensures known { (at : ℕ) → at < result → slice_index_or marks.new at false ≡ true }
+{
+    if known < width {
+        add_products(marks, sums, word, cols, words, semiring);
+        marked_from(marks, known, width)
+    } else {
+        add_known_products(sums, word, cols, words, semiring);
+        known
     }
 }
 
@@ -88,11 +161,22 @@ fn add_rows_by(
         (terms_of_row semiring.multiply (entries_along row.entry.index row.entry.cols.now row.entry.words.now) b.now)
         marks.new sums.new }
 {
+    let width = b.cols() as usize;
+    let mut known = 0;
     let mut last = 0;
     for k in 0..row.cols.len() {
         let (cols, words, next) = b.row_near(row.cols[k], hints.of(row.cols[k], last));
         last = next;
-        add_products(marks, sums, row.words[k], cols, words, semiring);
+        known = add_row_of_b(
+            marks,
+            sums,
+            row.words[k],
+            cols,
+            words,
+            semiring,
+            width,
+            known,
+        );
     }
 }
 

@@ -5,11 +5,11 @@ use Rattle.store.specs.Fibers.{entries_along}
 use Rattle.store.proofs.Places.{length_row, row_at}
 use Rattle.spgemm.specs.Dense.{AreMarkedSums}
 use Rattle.spgemm.specs.Terms.{times_row}
-use Rattle.spgemm.proofs.ManyLaws.{marked_product}
+use Rattle.spgemm.proofs.ManyLaws.{mark_stays, marked_product}
 use Rattle.spgemm.proofs.many.add_products.Goals as goal
 
 pub loop-k-init : goal.loop-k-init
-loop-k-init c = record { sums = λ terms here. subst (λ ts. AreMarkedSums c.args.semiring.add ts c.args.marks.now c.args.sums.now) (sym (append-nil terms)) here }
+loop-k-init c = record { sums = λ terms here. subst (λ ts. AreMarkedSums c.args.semiring.add ts c.args.marks.now c.args.sums.now) (sym (append-nil terms)) here; stay = λ at there. there }
 
 pub loop-k-preserved : goal.loop-k-preserved
 loop-k-preserved c =
@@ -23,10 +23,13 @@ loop-k-preserved c =
     let this = row_at 0 cols words s.k e c.requires.lengths c.loop-k-test.true in
     let inside : e.col < length s.sums = omega (arith, c.requires.inside s.k 0 c.loop-k-test.true, s.auto.sums) in
     let same : length s.marks ≡ length s.sums = omega (arith, s.auto.marks, s.auto.sums, c.requires.marks) in
-    rw (c.eval.ensures, c.eval-product.ensures) (record { sums = λ terms here. marked_product c.args.semiring terms c.args.word row s.k e s.marks s.sums this within inside same (s.invariant.sums terms here) })
+    rw (c.eval.ensures, c.eval-product.ensures) (record {
+      sums = λ terms here. marked_product c.args.semiring terms c.args.word row s.k e s.marks s.sums this within inside same (s.invariant.sums terms here);
+      stay = λ at there. mark_stays s.marks at e.col (omega (arith, inside, same)) (s.invariant.stay at there);
+    })
 
-pub returns : goal.returns
-returns c = λ terms here.
+pub returns-clause-sums : goal.returns-clause-sums
+returns-clause-sums c = λ terms here.
     let row = entries_along 0 c.args.cols.now c.args.words.now in
     let long = length_row 0 c.args.cols.now c.args.words.now c.requires.lengths in
     let all = take_all c.loop-k.k row (omega (arith, c.loop-k-test.false)) in

@@ -8,8 +8,11 @@ use Rattle.spgemm.proofs.DenseLaws.{cols_below}
 use Rattle.spgemm.proofs.Terms.{row_more}
 use Rattle.spgemm.proofs.many.add_rows_by.Goals as goal
 
-pub add_products-requires-clause-inside : goal.add_products-requires-clause-inside
-add_products-requires-clause-inside c = cols_below c.args.b.now _ c.row_near-next.result.0.now c.row_near-next.result.1.now _ c.row_near-next.ensures.lengths c.row_near-next.ensures.entries (omega (arith, c.requires.inside))
+pub add_row_of_b-known-requires-clause-inside : goal.add_row_of_b-known-requires-clause-inside
+add_row_of_b-known-requires-clause-inside c = cols_below c.args.b.now _ c.row_near-next.result.0.now c.row_near-next.result.1.now _ c.row_near-next.ensures.lengths c.row_near-next.ensures.entries (omega (arith, c.requires.inside))
+
+pub loop-k-init : goal.loop-k-init
+loop-k-init c = record { sums = c.requires.before; bound = omega arith; marked = λ at less. absurd (omega (arith, less)) }
 
 pub loop-k-preserved : goal.loop-k-preserved
 loop-k-preserved c =
@@ -18,7 +21,12 @@ loop-k-preserved c =
     let b = c.args.b.now in
     let row = entries_along c.args.row.index c.args.row.cols.now c.args.row.words.now in
     let more = row_more mul b c.args.row.index c.args.row.cols.now c.args.row.words.now s.k c.row_near-next.result.0.now c.row_near-next.result.1.now c.requires.lengths c.loop-k-test.true c.row_near-next.ensures.entries in
-    record { sums = subst (λ ts. AreMarkedSums c.args.semiring.add ts c.add_products.new.marks c.add_products.new.sums) (sym more) (c.add_products.ensures (terms_of_row mul (take s.k row) b) s.invariant.sums) }
+    let put = c.add_row_of_b-known in
+    record {
+      sums = subst (λ ts. AreMarkedSums c.args.semiring.add ts put.new.marks put.new.sums) (sym more) (put.ensures.sums (terms_of_row mul (take s.k row) b) s.invariant.sums);
+      bound = omega (arith, put.ensures.bound, c.cols-width.ensures);
+      marked = put.ensures.known;
+    }
 
 pub returns : goal.returns
 returns c =
