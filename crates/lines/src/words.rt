@@ -105,6 +105,12 @@ pub fn number(word: &[u8]) -> Option<u64>
 fn digits(word: &[u8]) -> Option<u128>
     ensures { result ≡ (if is_number word.now then Some (digits_value word.now) else None) }
 {
+    if word.is_empty() {
+        return None;
+    }
+    if word.len() < 20 {
+        return short_value(word).map(u128::from);
+    }
     if is_number(word) {
         Some(digits_value(word))
     } else {
@@ -130,9 +136,6 @@ fn digits_value(word: &[u8]) -> u128
     requires few { length word.now ≤ 20 }
     ensures { result ≡ digits_value word.now }
 {
-    if word.len() < 20 {
-        return u128::from(short_value(word));
-    }
     let mut value = 0;
     for byte in word {
         value = value * 10 + u128::from(*byte - b'0');
@@ -140,17 +143,19 @@ fn digits_value(word: &[u8]) -> u128
     value
 }
 
-/// The same of fewer digits, in half as many bits.
-fn short_value(word: &[u8]) -> u64
-    requires digits { IsTrue (list_all is_digit word.now) }
-    requires few { length word.now < 20 }
-    ensures { result ≡ digits_value word.now }
+/// The number that fewer digits write, where all bytes are digits; in half as many bits, and read once.
+fn short_value(word: &[u8]) -> Option<u64>
+    requires { length word.now < 20 }
+    ensures { result ≡ (if list_all is_digit word.now then Some (digits_value word.now) else None) }
 {
     let mut value = 0;
     for byte in word {
+        if !byte.is_ascii_digit() {
+            return None;
+        }
         value = value * 10 + u64::from(*byte - b'0');
     }
-    value
+    Some(value)
 }
 
 /// A word that is a value: a number below 2^64, or one from -2^63 on behind a `-`.
