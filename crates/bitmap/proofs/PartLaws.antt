@@ -53,10 +53,10 @@ pub united-append : (kind : BinaryKind) (d : Domain) (left right a b made made' 
     → length made ≡ 64 * bits → length made' ≡ length made + m
     → ((k : ℕ) → k < length made → get_or made' k 0 ≡ get_or made k 0)
     → ((k : ℕ) → k < m → get_or made' (length made + k) 0
-        ≡ united_at kind d (has_bit (drop bits left) k) (has_bit (drop bits right) k)
-        (get_or (take m (drop (64 * bits) a)) k 0) (get_or (take m (drop (64 * bits) b)) k 0))
+    ≡ united_at kind d (has_bit (drop bits left) k) (has_bit (drop bits right) k)
+    (get_or (take m (drop (64 * bits) a)) k 0) (get_or (take m (drop (64 * bits) b)) k 0))
     → ((k : ℕ) → k < length made → get_or made k 0
-        ≡ united_at kind d (has_bit left k) (has_bit right k) (get_or a k 0) (get_or b k 0))
+    ≡ united_at kind d (has_bit left k) (has_bit right k) (get_or a k 0) (get_or b k 0))
     → (k : ℕ) → k < length made' → get_or made' k 0
     ≡ united_at kind d (has_bit left k) (has_bit right k) (get_or a k 0) (get_or b k 0)
 united-append kind d left right a b made made' bits m from long kept more done k within =

@@ -1,15 +1,16 @@
 -- Places of positions, and the map that bits and words are where one place changes.
-use Rattle.std.proofs.Common.{◌≡◌, ◌≢◌, ℕ, suc, ◌*◌, ◌/◌, ◌%◌, ◌<◌, ◌≤◌, true, false, cond, ◌&&◌, ◌||◌, not, eqb, ltb, List, length, get_or, set, replicate, Option, Some, None, is_some, refl, sym, ◌∙◌, ap, inl, inr, arith}
+use Rattle.std.proofs.Common.{◌≡◌, ◌≢◌, ℕ, suc, ◌+◌, ◌*◌, ◌/◌, ◌%◌, ◌<◌, ◌≤◌, true, false, cond, ◌&&◌, ◌||◌, not, eqb, ltb, List, length, get_or, set, replicate, Option, Some, None, is_some, refl, sym, ◌∙◌, ap, inl, inr, arith}
 use Rattle.std.proofs.Math.Nat.{mul-le-mul_right}
 use Rattle.std.proofs.lemmas.Bool.{cases_Bool, cases_eq, eq-eqb, ne_eqb}
 use Rattle.std.proofs.lemmas.Bool.Decides.{nat_tests}
 use Rattle.std.proofs.lemmas.List.{get_or-replicate, get_or-set_other, get_or-set_same, get_or_past, length-replicate}
 use Rattle.std.proofs.lemmas.Nat.{div-mul-add}
 use Rattle.std.proofs.lemmas.Nat.Bits.{bit_at-zero}
+use Rattle.std.specs.Int.{bit_at}
 use Rattle.lanes.specs.Bits.{has_bit}
 use Rattle.model.specs.Entries.{entries_of, word_at}
 use Rattle.model.specs.Object.{Content, with_entry, without_entry}
-use Rattle.bitmap.specs.Bitmaps.{held, place_of, word_in}
+use Rattle.bitmap.specs.Bitmaps.{HasPlaces, held, place_of, word_in}
 use Rattle.bitmap.proofs.WordLaws.{entries_word}
 
 -- the map that bits and words are
@@ -80,6 +81,31 @@ bit_is_some bits words at = elim (has_bit bits at) as (λ b. is_some (cond b (So
   | true ↦ refl
   | false ↦ refl
 ]
+
+-- a column has an entry at a row where the bit of the row is set
+pub row_bit : (rows cols count : ℕ) (bits words : List ℕ) (i : ℕ) → cols ≡ 1 → HasPlaces rows cols count bits words
+    → is_some (map_of rows cols bits words i 0) ≡ has_bit bits i
+row_bit rows cols count bits words i column places =
+    elim (cases_Bool (ltb i rows)) [
+      | inl inside ↦
+          let i_in : i < rows = grind (arith, nat_tests) in
+          let place : place_of cols i 0 ≡ i = ap (λ n. place_of n i 0) column ∙ omega arith in
+          ap is_some (held_is rows cols bits words i 0 i_in (omega (arith, column)) ∙ ap (word_in bits words) place) ∙ bit_is_some bits words i
+      | inr past ↦
+          let out : (ltb i rows && ltb 0 cols) ≡ false = rw past refl in
+          let long : length words ≡ rows = places.word_each ∙ ap (λ n. rows * n) column ∙ omega arith in
+          let behind : length words ≤ i = grind (arith, nat_tests) in
+          ap is_some (none_outside rows cols bits words i 0 out) ∙ sym (places.none_behind i behind)
+    ]
+
+-- the same of one of 64 rows, by the word of their bits
+pub row_bit_of : (rows cols count : ℕ) (bits words : List ℕ) (at k word : ℕ) → cols ≡ 1
+    → HasPlaces rows cols count bits words → k < 64 → word ≡ get_or bits at 0
+    → eqb (bit_at word k) 1 ≡ is_some (map_of rows cols bits words (64 * at + k) 0)
+row_bit_of rows cols count bits words at k word column places small is =
+    let low : (64 * at + k) / 64 ≡ at = omega arith in
+    let high : (64 * at + k) % 64 ≡ k = omega arith in
+    sym (row_bit rows cols count bits words (64 * at + k) column places ∙ rw (low, high, is) refl)
 
 -- a map is another but at one position of a shape
 abbrev pub AgreeBut : ℕ → ℕ → ℕ → ℕ → Content → Content → Type 0

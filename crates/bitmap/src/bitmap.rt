@@ -1,5 +1,6 @@
 //! What a bitmap holds, position by position and column by column.
-ghost use Rattle.std.specs.Prelude.{◌≡◌, ◌<◌, ◌≤◌, ◌*◌, ◌^◌, ℕ, None, IfOk, is_some, length};
+ghost use Rattle.std.specs.Prelude.{◌≡◌, ◌<◌, ◌≤◌, ◌+◌, ◌*◌, ◌^◌, ◌==◌, ℕ, None, IfOk, is_some, length};
+ghost use Rattle.std.specs.Int.{bit_at};
 ghost use Rattle.std.specs.List.{All, AllPairs};
 ghost use Rattle.std.specs.Option.{option_or};
 ghost use Rattle.model.specs.Entries.{InOrder, IsInside, word_at};
@@ -120,6 +121,21 @@ impl Bitmap {
             return false;
         }
         has_bit(&self.bits, self.place(i, j))
+    }
+
+    /// A bit for each of the 64 rows of a column from `64 * at` on, which says whether the row has an entry; none
+    /// behind the last row. It takes constant time.
+    #[inline(always)]
+    pub fn present(&self, at: usize) -> u64
+        requires { self.now.cols ≡ 1 }
+        ensures { (k : ℕ) → k < 64
+            → (bit_at result k == 1) ≡ is_some (word_at self.now.entries (64 * at + k) 0) }
+    {
+        if at < self.bits.len() {
+            self.bits[at]
+        } else {
+            0
+        }
     }
 
     /// Sets the word at row `i` and column `j`. It takes constant time and no memory.

@@ -36,12 +36,7 @@ pub(crate) fn zipped(
 }
 
 /// Appends what the operator gives for the words of both lists.
-fn append_zipped(
-    made: &mut Vec<u64>,
-    op: BinaryOp,
-    a: &[u64],
-    b: &[u64],
-) -> Result<(), NoMemory>
+fn append_zipped(made: &mut Vec<u64>, op: BinaryOp, a: &[u64], b: &[u64]) -> Result<(), NoMemory>
     requires { length b.now ≡ length a.now }
     ensures { OnOk result (made.new.items
         ≡ made.old.items ++ zip_with (eval_of op.kind op.domain) a.now b.now) }

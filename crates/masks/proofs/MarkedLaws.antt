@@ -1,6 +1,8 @@
 -- What a bitmap as a mask keeps of a column.
-use Rattle.std.proofs.Common.{◌≡◌, ℕ, ◌+◌, ◌<◌, ◌≤◌, Bool, true, false, List, [], ◌∷◌, ◌++◌, length, get_or, set, take, drop, refl, sym, ◌∙◌, ap, subst, inl, inr, arith}
+use Rattle.std.proofs.Common.{◌≡◌, ℕ, ◌+◌, ◌<◌, ◌≤◌, Bool, true, false, cond, not, eqb, Option, Some, None, is_some, w64, List, [], ◌∷◌, ◌++◌, length, get_or, set, take, drop, refl, sym, ◌∙◌, ap, subst, inl, inr, arith}
+use Rattle.std.specs.Int.{bit_at, bit_not}
 use Rattle.std.specs.List.{filter}
+use Rattle.std.proofs.lemmas.Nat.Bits.{bit_at-lt, bit_at_not}
 use Rattle.std.proofs.lemmas.Bool.{cases_eq}
 use Rattle.std.proofs.lemmas.List.{append-nil, drop_all, length-set}
 use Rattle.std.proofs.lemmas.List.Elements.{All-nil}
@@ -12,6 +14,8 @@ use Rattle.store.specs.Stored.{AreHeld, transposed}
 use Rattle.store.proofs.Contents.{no_entries, none_held, one_column, transposed_along, transposed_twice}
 use Rattle.store.proofs.Order.{all_pairs_cons, all_pairs_filter, all_pairs_nil}
 use Rattle.store.proofs.Walks.{one_fiber_is}
+use Rattle.masks.specs.declared.view.MaskTest.{MaskTest}
+use Rattle.masks.specs.Masks.{lets_word}
 use Rattle.masks.proofs.Keeps.{keep_more}
 
 -- Of the entries before a place so many were kept, at the front; from the place on all lie as they lay.
@@ -120,4 +124,22 @@ kept_lists keeps first past kept ends ends' inner words inner' words' held high 
             flat = rw there (one_flat inner' words' (long_words ∙ sym long) (omega arith) order);
             entries = rw there (one_fiber_is inner' words' ∙ is ∙ ap (filter keeps) (sym whole));
           }
+    ]
+
+-- ---- 64 rows at once
+
+-- a mask that goes by the structure lets through what is there, or what isn't
+pub by_structure : (test : MaskTest) (word : Option ℕ) → test.valued ≡ false
+    → lets_word test word ≡ cond test.complement (not (is_some word)) (is_some word)
+by_structure test None structure = refl
+by_structure test (Some word) structure = rw structure refl
+
+-- a bit of a complement
+pub bit_turned : (word k : ℕ) → word < 18446744073709551616 → k < 64
+    → eqb (bit_at (bit_not w64 word) k) 1 ≡ not (eqb (bit_at word k) 1)
+bit_turned word k fits small =
+    let two : bit_at word k < 2 = bit_at-lt word k in
+    elim (cases_eq (bit_at word k) 1) [
+      | inl one ↦ rw (bit_at_not w64 word k fits small, one) refl
+      | inr other ↦ let zero : bit_at word k ≡ 0 = omega arith in rw (bit_at_not w64 word k fits small, zero) refl
     ]

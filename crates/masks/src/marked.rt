@@ -1,5 +1,7 @@
 //! Masks whose store is a bitmap, and what they keep of the entries of a column, in the same memory.
-ghost use Rattle.std.specs.Prelude.{◌≡◌, ℕ, ◌<◌, ◌≤◌, ◌∷◌, [], if◌then◌else◌, None, length, take};
+ghost use Rattle.std.specs.Prelude.{◌≡◌, ℕ, ◌<◌, ◌≤◌, ◌+◌, ◌-◌, ◌*◌, ◌^◌, ◌==◌, ◌∷◌, [], if◌then◌else◌};
+ghost use Rattle.std.specs.Prelude.{None, length, take};
+ghost use Rattle.std.specs.Int.{bit_at};
 ghost use Rattle.std.specs.List.{filter};
 ghost use Rattle.model.specs.Entries.{word_at};
 ghost use Rattle.store.specs.Fibers.{end_at, entries_along};
@@ -30,6 +32,38 @@ impl MarkedMask<'_> {
         } else {
             self.bitmap.has(row, 0) != self.test.complement
         }
+    }
+
+    /// A bit for each of the 64 rows from `64 * at` on, which says whether the row is let through. Where the mask goes
+    /// by the structure alone, it reads one word of bits.
+    pub fn let_bits(self, at: usize) -> u64
+        requires column { self.bitmap.now.cols ≡ 1 }
+        requires small { at < 2 ^ 58 }
+        ensures { (k : ℕ) → k < 64 → (bit_at result k == 1)
+            ≡ lets_word self.entry.test (word_at self.entry.bitmap.now.entries (64 * at + k) 0) }
+    {
+        if self.test.valued {
+            return self.asked_bits(64 * at as u64);
+        }
+        let present = self.bitmap.present(at);
+        if self.test.complement {
+            !present
+        } else {
+            present
+        }
+    }
+
+    /// A bit for each of the 64 rows from one on, which says whether the row is let through. It asks for each.
+    fn asked_bits(self, first: u64) -> u64
+        requires { first < 2 ^ 64 - 63 }
+        ensures { (k : ℕ) → k < 64 → (bit_at result k == 1)
+            ≡ lets_word self.entry.test (word_at self.entry.bitmap.now.entries (first + k) 0) }
+    {
+        let mut bits = 0;
+        for k in 0..64 {
+            bits |= (self.lets(first + k) as u64) << k;
+        }
+        bits
     }
 
     /// Brings the entries of a column that are let through to the front of its lists, and answers how many there are.

@@ -8,7 +8,6 @@ use Rattle.std.proofs.lemmas.List.{drop_all, get_or-take, take-append-drop, take
 use Rattle.std.proofs.lemmas.List.Elements.{All-cons, All-contains, All-contains_itself, All-head, All-map, All-nil, All-tail, All-weaker, filter-append}
 use Rattle.std.proofs.Math.Seq.{drop-append_seam, take-append_seam}
 use Rattle.algebra.specs.declared.binary.BinaryOp.{BinaryOp}
-use Rattle.masks.specs.declared.marked.MarkedMask.{MarkedMask}
 use Rattle.masks.specs.declared.view.MaskTest.{MaskTest}
 use Rattle.masks.specs.Keeps.{kept_by}
 use Rattle.masks.specs.Masks.{lets_word}
@@ -20,15 +19,13 @@ use Rattle.model.specs.Entries.{InOrder, Precedes, word_at}
 use Rattle.store.specs.declared.lists.FiberEnd.{FiberEnd}
 use Rattle.store.specs.declared.lists.FiberLists.{FiberLists}
 use Rattle.store.specs.Fibers.{entries_along}
-use Rattle.store.specs.Stored.{transposed}
 use Rattle.store.proofs.CloseLaws.{closed}
-use Rattle.store.proofs.Contents.{word_at-transposed}
 use Rattle.store.proofs.FlatLaws.{all_cols, all_rows, row_in_order}
 use Rattle.store.proofs.Order.{all_drop, all_from_map, all_pairs_filter, all_take}
 use Rattle.store.proofs.Positions.{filter_none, filter_whole}
 use Rattle.store.proofs.Walks.{cols_rise}
 use Rattle.spgemm.specs.declared.term.Term.{Term}
-use Rattle.spgemm.specs.Keeping.{HasKept, HasMarked, IsPart, keeps_among, keeps_marked}
+use Rattle.spgemm.specs.Keeping.{HasKept, IsPart, keeps_among}
 use Rattle.spgemm.specs.Products.{HasOpenRow, HasRow, IsSumRow}
 use Rattle.spgemm.specs.Terms.{kept_terms}
 use Rattle.spgemm.specs.Vectors.{in_range}
@@ -77,23 +74,6 @@ filter_twice p q r (x ∷ xs) h =
           ]
       | inr without ↦ let goes : r x ≡ false = sym (rw without at here) in rw (without, goes) rest
     ]
-
-filter_same : {X : Type 0} (p r : X → Bool) (xs : List X) → All (λ x. p x ≡ r x) xs → filter p xs ≡ filter r xs
-filter_same p r xs h =
-    sym (ap (filter p) (filter_whole (λ x. true) xs (All-weaker (λ x. p x ≡ r x) (λ x. true ≡ true) (λ x is. refl) xs h)))
-    ∙ filter_twice p (λ x. true) r xs h
-
--- a bitmap as a mask is asked at each inner index of the one fiber of a column
-pub marked_along : (mask : MarkedMask) (rows words : List ℕ)
-    → kept_by mask.test (transposed mask.bitmap.now.entries) (entries_along 0 rows words)
-    ≡ filter (λ e. keeps_marked mask e.col) (entries_along 0 rows words)
-marked_along mask rows words =
-    let entries = mask.bitmap.now.entries in
-    let es = entries_along 0 rows words in
-    let p : Entry → Bool = λ e. lets_word mask.test (word_at (transposed entries) e.row e.col) in
-    let r : Entry → Bool = λ e. keeps_marked mask e.col in
-    filter_same p r es
-    (All-weaker (λ (e : Entry). e.row ≡ 0) (λ e. p e ≡ r e) (λ e at. ap (lets_word mask.test) (word_at-transposed entries e.row e.col ∙ ap (word_at entries e.col) at)) es (all_rows 0 rows words))
 
 -- ---- a part of a row
 
@@ -256,23 +236,6 @@ kept_open op index test first past cols words low high terms old mid new same he
       cols = kept.kept;
       added = kept.kept_words;
       sums = sums_filtered op index keeps terms here.cols here.added kept.kept kept.kept_words kept.lengths entries here.sums;
-      inner = kept.inner ∙ ap (λ xs. xs ++ kept.kept) (front_is op index terms old mid here);
-      words = kept.words_are ∙ ap (λ xs. xs ++ kept.kept_words) (front_words_is op index terms old mid same here);
-      ends = kept.ends ∙ here.ends;
-    }
-
--- what a bitmap as a mask keeps of the row of sums of a vector
-pub marked_open : (op : BinaryOp) (index : ℕ) (mask : MarkedMask) (terms : List Term) (old mid new : FiberLists)
-    → index ≡ 0 → length old.words.items ≡ length old.inner.items → HasOpenRow op index terms old mid
-    → HasMarked mask (length old.inner.items) mid new
-    → HasOpenRow op index (kept_terms (keeps_marked mask) terms) old new
-marked_open op index mask terms old mid new first same here kept =
-    let entries : entries_along 0 kept.kept kept.kept_words ≡ filter (λ e. keeps_marked mask e.col) (entries_along 0 here.cols here.added) =
-    rw (tail_is op index terms old mid here, tail_words_is op index terms old mid same here) at kept.entries in
-    record {
-      cols = kept.kept;
-      added = kept.kept_words;
-      sums = sums_filtered op index (keeps_marked mask) terms here.cols here.added kept.kept kept.kept_words kept.lengths (rw first entries) here.sums;
       inner = kept.inner ∙ ap (λ xs. xs ++ kept.kept) (front_is op index terms old mid here);
       words = kept.words_are ∙ ap (λ xs. xs ++ kept.kept_words) (front_words_is op index terms old mid same here);
       ends = kept.ends ∙ here.ends;

@@ -9,8 +9,7 @@ use Rattle.algebra.specs.Operators.{combines_by, offers}
 use Rattle.algebra.specs.Value.{IsWordOf}
 use Rattle.algebra.specs.declared.monoid.Monoid.{Monoid}
 use Rattle.algebra.specs.declared.semiring.Semiring.{Semiring}
-use Rattle.lanes.specs.Bits.{has_bit}
-use Rattle.spgemm.specs.Dense.{AreColumnSums, AreMarkedSums}
+use Rattle.spgemm.specs.Dense.{AreMarkedSums}
 use Rattle.model.specs.declared.entry.Entry.{Entry}
 use Rattle.spgemm.specs.Terms.{apply, sum_at, term_at, times_row}
 use Rattle.spgemm.specs.declared.term.Term.{Term}
@@ -71,12 +70,6 @@ marked_more add terms col word marks words within long first here =
             | inr other ↦ get_or-set_other words col k new 0 other ∙ here.others_are k (omega arith) (rw (get_or-set_other marks col k true false other) at none)
           ];
     }
-
--- where bits are set just where there are marks, the sums are those of the columns
-pub marked_sums : (add : Monoid) (terms : List Term) (marks : List Bool) (bits words : List ℕ)
-    → ((at : ℕ) → at < length words → has_bit bits at ≡ get_or marks at false) → AreMarkedSums add terms marks words
-    → AreColumnSums add.op terms bits words
-marked_sums add terms marks bits words same here = record { sums_are = λ col within. rw (same col within) (here.sums_are col within) }
 
 -- a product more
 pub marked_product : (semiring : Semiring) (terms : List Term) (word : ℕ) (row : List Entry) (k : ℕ) (e : Entry)

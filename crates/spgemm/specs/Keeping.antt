@@ -1,6 +1,7 @@
 -- The sums of a row of which some are kept, in the same lists.
-use Rattle.std.specs.Prelude.{ℕ, ◌≡◌, ◌<◌, ◌≤◌, ◌++◌, ◌&&◌, Bool, List, length, take, drop}
-use Rattle.std.specs.List.{All, filter}
+use Rattle.std.specs.Prelude.{ℕ, ◌≡◌, ◌<◌, ◌≤◌, ◌++◌, ◌&&◌, Bool, true, List, Option, length, take, drop}
+use Rattle.std.specs.List.{All}
+use Rattle.std.specs.Option.{option_map_or}
 use Rattle.masks.specs.declared.marked.MarkedMask.{MarkedMask}
 use Rattle.masks.specs.declared.view.MaskTest.{MaskTest}
 use Rattle.masks.specs.Keeps.{kept_by}
@@ -36,17 +37,9 @@ pub record HasKept (test : MaskTest) (cols words : List ℕ) (start low high : �
 abbrev pub keeps_marked : MarkedMask → ℕ → Bool
 keeps_marked mask col = lets_word mask.test (word_at mask.bitmap.now.entries col 0)
 
--- of what stands behind a place, that which a bitmap as a mask keeps
-pub record HasMarked (mask : MarkedMask) (start : ℕ) (old new : FiberLists) : Type 0 where
-  pub kept : List ℕ
-  pub kept_words : List ℕ
-  pub lengths : length kept_words ≡ length kept
-  pub entries : entries_along 0 kept kept_words
-      ≡ filter (λ e. keeps_marked mask e.col)
-      (entries_along 0 (drop start old.inner.items) (drop start old.words.items))
-  pub inner : new.inner.items ≡ take start old.inner.items ++ kept
-  pub words_are : new.words.items ≡ take start old.words.items ++ kept_words
-  pub ends : new.ends ≡ old.ends
+-- whether a column of a row is kept: under a bitmap as a mask those that it lets through, else all
+abbrev pub lets_marked : Option MarkedMask → ℕ → Bool
+lets_marked mask col = option_map_or (λ mask. keeps_marked mask col) mask true
 
 -- the columns from first up to before past are those at the places from low up to before high
 pub record IsPart (first past : ℕ) (cols : List ℕ) (low high : ℕ) : Type 0 where

@@ -290,11 +290,9 @@ pub(crate) fn gather(
     Ok(())
 }
 
-/// Puts the sums of the row of the product with B that a row of A gives behind the inner indices and words, where
-/// the products of the first `done` entries of the row are `terms`. It sums in a place for each column, and leaves
-/// all bits clear.
+/// Makes the sums those of the row of the product with B that a row of A gives, where the products of the first `done`
+/// entries of the row are `terms`.
 pub(crate) fn sum_densely(
-    lists: &mut FiberLists,
     bits: &mut [u64],
     sums: &mut [u64],
     terms: &[Term],
@@ -303,7 +301,7 @@ pub(crate) fn sum_densely(
     b: &Sparse,
     hints: &RowHints,
     semiring: Semiring,
-) -> Result<(), NoMemory>
+)
     requires room { HaveRoom bits.old sums.old }
     requires lengths { length row.words.now ≡ length row.cols.now }
     requires inside { b.now.cols ≤ length sums.old }
@@ -311,14 +309,12 @@ pub(crate) fn sum_densely(
     requires done { done ≤ length row.cols.now }
     requires terms { AreFirstTerms semiring.multiply (entries_along row.index row.cols.now row.words.now) b.now
         terms.now done }
-    ensures row { OnOk result (HasOpenRow semiring.add.op row.entry.index
+    ensures { AreColumnSums semiring.add.op
         (terms_of_row semiring.multiply (entries_along row.entry.index row.entry.cols.now row.entry.words.now) b.now)
-        lists.old lists.new) }
-    ensures clear { OnOk result (AreClear bits.new) }
+        bits.new sums.new }
 {
     add_terms(bits, sums, terms, semiring);
     add_rows(bits, sums, row, done, b, hints, semiring);
-    gather(lists, bits, sums, &(0..bits.len()))
 }
 
 /// Puts the sums of terms behind the inner indices and words, where the bits of their columns lie in a span. It

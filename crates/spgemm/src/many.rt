@@ -4,17 +4,15 @@ ghost use Rattle.std.specs.Prelude.{false, length, slice_index_or, true};
 ghost use Rattle.std.specs.List.{All, AllPairs};
 ghost use Rattle.store.specs.Fibers.{entries_along};
 ghost use Rattle.lanes.specs.Bits.{has_bit};
-ghost use Rattle.spgemm.specs.Dense.{AreClear, AreMarkedSums, HaveRoom};
-ghost use Rattle.spgemm.specs.Products.{HasOpenRow};
+ghost use Rattle.spgemm.specs.Dense.{AreColumnSums, AreMarkedSums, HaveRoom};
 ghost use Rattle.spgemm.specs.Terms.{terms_of_row, times_row};
 ghost use Rattle.spgemm.specs.declared.term.Term.{Term};
 
 use crate::along::{add_along, are_consecutive};
-use crate::dense::gather;
 use algebra::{Semiring, with_semiring};
 use lanes::packed;
 use model::NoMemory;
-use store::{FiberLists, Row, RowHints, Sparse};
+use store::{Row, RowHints, Sparse};
 
 /// Whether so many entries of a row of A have more products with B than there are columns, if the rows of B that
 /// they meet are as long as its rows are on average. The average isn't rounded, or 1.9 entries a row would count
@@ -206,11 +204,9 @@ fn add_row(
     }
 }
 
-/// Puts the sums of the row of the product with B that a row of A gives behind the inner indices and words. The
-/// sums begin at the monoid's identity, so that none is asked whether it is the first at its column. It leaves
-/// all bits clear.
+/// Makes the sums those of the row of the product with B that a row of A gives. They begin at the monoid's identity,
+/// so that none is asked whether it is the first at its column.
 pub(crate) fn sum_many(
-    lists: &mut FiberLists,
     bits: &mut [u64],
     sums: &mut [u64],
     marks: &mut Vec<bool>,
@@ -223,17 +219,16 @@ pub(crate) fn sum_many(
     requires lengths { length row.words.now ≡ length row.cols.now }
     requires rising { AllPairs (λ p q. p < q) row.cols.now }
     requires inside { b.now.cols ≤ length sums.old }
-    ensures row { OnOk result (HasOpenRow semiring.add.op row.entry.index
+    ensures { OnOk result (AreColumnSums semiring.add.op
         (terms_of_row semiring.multiply (entries_along row.entry.index row.entry.cols.now row.entry.words.now) b.now)
-        lists.old lists.new) }
-    ensures clear { OnOk result (AreClear bits.new) }
+        bits.new sums.new) }
 {
     marks.clear();
     marks.resize(sums.len(), false)?;
     sums.fill(semiring.add.identity());
     add_row(marks, sums, row, b, hints, semiring);
     set_marked(bits, marks);
-    gather(lists, bits, sums, &(0..bits.len()))
+    Ok(())
 }
 
 /// Sets the bits of the places that are marked, and no others.

@@ -7,7 +7,6 @@ ghost use Rattle.spgemm.specs.Keeping.{keeps_marked};
 ghost use Rattle.spgemm.specs.Products.{HasOpenRow, HasRow};
 ghost use Rattle.spgemm.specs.Terms.{kept_terms, terms_of_row};
 
-use crate::keep::keep_marked_sums;
 use crate::row::{Scratch, collect_terms, sum_in_places, sum_terms};
 use crate::term::Term;
 use algebra::Semiring;
@@ -25,8 +24,7 @@ pub(crate) fn multiply_marked_row(
     mask: MarkedMask<'_>,
     semiring: Semiring,
 ) -> Result<(), NoMemory>
-    requires lists { length lists.old.words.items ≡ length lists.old.inner.items }
-    requires index { row.index ≡ 0 }
+    requires mask { mask.bitmap.now.cols ≡ 1 }
     requires lengths { length row.words.now ≡ length row.cols.now }
     requires rising { AllPairs (λ p q. p < q) row.cols.now }
     requires room { HaveRoom scratch.old.bits.items scratch.old.sums.items }
@@ -42,7 +40,8 @@ pub(crate) fn multiply_marked_row(
 
 /// Puts the sums of the row of the product with B that a row of A gives, at the columns that the mask lets through,
 /// behind the inner indices and words. Of products that are listed, those at other columns are dropped before the rest
-/// is sorted or added.
+/// is sorted or added; of sums that have a place for each column, those at other columns are dropped before they are
+/// gathered.
 fn sum_marked(
     lists: &mut FiberLists,
     scratch: &mut Scratch,
@@ -51,8 +50,7 @@ fn sum_marked(
     mask: MarkedMask<'_>,
     semiring: Semiring,
 ) -> Result<(), NoMemory>
-    requires lists { length lists.old.words.items ≡ length lists.old.inner.items }
-    requires index { row.index ≡ 0 }
+    requires mask { mask.bitmap.now.cols ≡ 1 }
     requires lengths { length row.words.now ≡ length row.cols.now }
     requires rising { AllPairs (λ p q. p < q) row.cols.now }
     requires room { HaveRoom scratch.old.bits.items scratch.old.sums.items }
@@ -64,10 +62,7 @@ fn sum_marked(
 {
     let done = collect_terms(scratch, row, b, semiring)?;
     if done < row.cols.len() {
-        let start = lists.inner.len();
-        sum_in_places(lists, scratch, row, done, b, semiring)?;
-        keep_marked_sums(lists, start, mask);
-        return Ok(());
+        return sum_in_places(lists, scratch, row, done, b, Some(mask), semiring);
     }
     keep_marked_terms(&mut scratch.terms, mask);
     sum_terms(lists, scratch, b.cols(), semiring)

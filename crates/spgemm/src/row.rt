@@ -1,18 +1,21 @@
 //! One row of a product.
-ghost use Rattle.std.specs.Prelude.{◌≡◌, ◌<◌, ◌≤◌, ◌^◌, ℕ, length, true, IfOk, OnOk};
+ghost use Rattle.std.specs.Prelude.{◌≡◌, ◌<◌, ◌≤◌, ◌^◌, ℕ, length, true, IfOk, IfSome, OnOk};
 ghost use Rattle.std.specs.List.{All, AllPairs};
 ghost use Rattle.store.specs.Fibers.{entries_along};
-ghost use Rattle.spgemm.specs.Dense.{AreClear, HaveRoom};
+ghost use Rattle.spgemm.specs.Dense.{AreClear, AreColumnSums, HaveRoom};
+ghost use Rattle.spgemm.specs.Keeping.{lets_marked};
 ghost use Rattle.spgemm.specs.Products.{HasOpenRow, HasRow};
-ghost use Rattle.spgemm.specs.Terms.{AreFirstTerms, terms_of_row};
+ghost use Rattle.spgemm.specs.Terms.{AreFirstTerms, kept_terms, terms_of_row};
 
-use crate::dense::{MOST_PLACES, fit, sum_at_once, sum_densely, sum_in_span};
+use crate::dense::{MOST_PLACES, fit, gather, sum_at_once, sum_densely, sum_in_span};
 use crate::expand::expand;
+use crate::keep::keep_bits;
 use crate::many::{exceeds_columns, sum_many};
 use crate::span::{most_collected, pays, span_of};
 use crate::sums::sum_runs;
 use crate::term::Term;
 use algebra::Semiring;
+use masks::MarkedMask;
 use model::NoMemory;
 use std::alloc::Global;
 use store::{FiberLists, Row, RowHints, Sparse};
@@ -150,7 +153,7 @@ fn sum_collected(
 {
     let done = collect_terms(scratch, row, b, semiring)?;
     if done < row.cols.len() {
-        return sum_in_places(lists, scratch, row, done, b, semiring);
+        return sum_in_places(lists, scratch, row, done, b, None, semiring);
     }
     sum_terms(lists, scratch, b.cols(), semiring)
 }
@@ -175,10 +178,44 @@ pub(crate) fn collect_terms(
     expand(&mut scratch.terms, row, b, &scratch.hints, semiring, most)
 }
 
-/// Puts the sums of the row of the product with B that a row of A gives behind the inner indices and words, where the
-/// terms are the products of the first `done` entries of the row. It sums in a place for each column.
+/// Puts the sums of the row of the product with B that a row of A gives, at the columns that the mask lets through,
+/// where there is one, behind the inner indices and words. The terms are the products of the first `done` entries of
+/// the row. It sums in a place for each column; what is kept out is never written.
 pub(crate) fn sum_in_places(
     lists: &mut FiberLists,
+    scratch: &mut Scratch,
+    row: Row<'_>,
+    done: usize,
+    b: &Sparse,
+    mask: Option<MarkedMask<'_>>,
+    semiring: Semiring,
+) -> Result<(), NoMemory>
+    requires lengths { length row.words.now ≡ length row.cols.now }
+    requires rising { AllPairs (λ p q. p < q) row.cols.now }
+    requires most { b.now.cols ≤ 2 ^ 24 }
+    requires mask { IfSome mask (λ mask. mask.bitmap.now.cols ≡ 1) }
+    requires room { HaveRoom scratch.old.bits.items scratch.old.sums.items }
+    requires none { AreClear scratch.old.bits.items }
+    requires done { done ≤ length row.cols.now }
+    requires terms { AreFirstTerms semiring.multiply (entries_along row.index row.cols.now row.words.now) b.now
+        scratch.old.terms.items done }
+    ensures row { OnOk result (HasOpenRow semiring.add.op row.entry.index
+        (kept_terms (lets_marked mask.entry) (terms_of_row semiring.multiply
+        (entries_along row.entry.index row.entry.cols.now row.entry.words.now) b.now))
+        lists.old lists.new) }
+    ensures room { OnOk result (HaveRoom scratch.new.bits.items scratch.new.sums.items) }
+    ensures none { OnOk result (AreClear scratch.new.bits.items) }
+{
+    add_in_places(scratch, row, done, b, semiring)?;
+    let Scratch { bits, sums, .. } = scratch;
+    keep_bits(bits, mask);
+    let count = bits.len();
+    gather(lists, bits, sums, &(0..count))
+}
+
+/// Makes the sums those of the row of the product with B that a row of A gives, where the terms are the products of the
+/// first `done` entries of the row.
+fn add_in_places(
     scratch: &mut Scratch,
     row: Row<'_>,
     done: usize,
@@ -193,11 +230,11 @@ pub(crate) fn sum_in_places(
     requires done { done ≤ length row.cols.now }
     requires terms { AreFirstTerms semiring.multiply (entries_along row.index row.cols.now row.words.now) b.now
         scratch.old.terms.items done }
-    ensures row { OnOk result (HasOpenRow semiring.add.op row.entry.index
+    ensures sums { OnOk result (AreColumnSums semiring.add.op
         (terms_of_row semiring.multiply (entries_along row.entry.index row.entry.cols.now row.entry.words.now) b.now)
-        lists.old lists.new) }
+        scratch.new.bits.items scratch.new.sums.items) }
     ensures room { OnOk result (HaveRoom scratch.new.bits.items scratch.new.sums.items) }
-    ensures none { OnOk result (AreClear scratch.new.bits.items) }
+    ensures inside { OnOk result (b.now.cols ≤ length scratch.new.sums.items) }
 {
     let Scratch {
         terms,
@@ -209,9 +246,10 @@ pub(crate) fn sum_in_places(
     } = scratch;
     fit(bits, sums, b.cols())?;
     if exceeds_columns(row.cols.len(), b) {
-        return sum_many(lists, bits, sums, marks, row, b, hints, semiring);
+        return sum_many(bits, sums, marks, row, b, hints, semiring);
     }
-    sum_densely(lists, bits, sums, terms, row, done, b, hints, semiring)
+    sum_densely(bits, sums, terms, row, done, b, hints, semiring);
+    Ok(())
 }
 
 /// Puts the sums of the terms, whose columns are among so many, behind the inner indices and words. Where there are

@@ -11,9 +11,10 @@ loop-part-preserved c =
     let bits = from / 64 in
     let whole : from ≡ 64 * bits = omega arith in
     let made : length c.loop-part.made.items ≡ 64 * bits = omega arith in
-    let long : length c.append_united.new.made.items ≡ length c.loop-part.made.items + (past - from) = c.in_ok-append_united.ensures.length ∙ ap (λ n. length c.loop-part.made.items + n) (part_long a from past (omega arith)) in
-    (omega arith,
-    united-append op.kind op.domain c.args.left.now c.args.right.now a c.args.b.now c.loop-part.made.items
-    c.append_united.new.made.items bits (past - from) made long
-    c.in_ok-append_united.ensures.before
-    (λ k within. rw (← whole, ← rest_is c.args.left.now bits, ← rest_is c.args.right.now bits) (c.in_ok-append_united.ensures.words k (rw (part_long a from past (omega arith)) within))) c.loop-part.invariant.1)
+    let long : length c.append_united.new.made.items ≡ length c.loop-part.made.items + (past - from) = c.in_ok-append_united.ensures.length ∙ ap (λ n. length c.loop-part.made.items + n) (part_long a from past (omega arith)) in (
+      omega arith,
+      united-append op.kind op.domain c.args.left.now c.args.right.now a c.args.b.now c.loop-part.made.items
+          c.append_united.new.made.items bits (past - from) made long
+          c.in_ok-append_united.ensures.before
+          (λ k within. rw (← whole, ← rest_is c.args.left.now bits, ← rest_is c.args.right.now bits) (c.in_ok-append_united.ensures.words k (rw (part_long a from past (omega arith)) within))) c.loop-part.invariant.1,
+    )

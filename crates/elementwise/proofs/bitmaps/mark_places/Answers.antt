@@ -30,6 +30,6 @@ returns-then-base-words-clause-bits c =
     let f : ℕ → Bool = λ k. passes_by c.args.op c.args.s (k / c.args.cols) (k % c.args.cols) (get_or words k 0) in
     let long = s.invariant.long in
     λ k below. marked s.bits at c.passing_bits-then-base-words.result f (length words % 64) (omega arith) (omega arith)
-        (λ k less. s.invariant.made k (omega arith)) (λ k within. c.passing_bits-then-base-words.ensures k (rw (part_long words base (length words) (omega arith)) (omega arith))
-        ∙ ap (λ word. passes_by c.args.op c.args.s ((base + k) / c.args.cols) ((base + k) % c.args.cols) word) (part_word words base (length words - base) k (omega arith))
-        ∙ ap f (omega arith)) k (omega arith)
+    (λ k less. s.invariant.made k (omega arith)) (λ k within. c.passing_bits-then-base-words.ensures k (rw (part_long words base (length words) (omega arith)) (omega arith))
+    ∙ ap (λ word. passes_by c.args.op c.args.s ((base + k) / c.args.cols) ((base + k) % c.args.cols) word) (part_word words base (length words - base) k (omega arith))
+    ∙ ap f (omega arith)) k (omega arith)

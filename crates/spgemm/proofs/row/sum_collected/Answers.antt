@@ -1,8 +1,9 @@
-use Rattle.std.proofs.Common.{◌<◌, arith, subst, sym}
+use Rattle.std.proofs.Common.{OnOk, ◌<◌, arith, subst, sym}
 use Rattle.std.specs.List.{All}
 use Rattle.store.specs.Fibers.{entries_along}
+use Rattle.spgemm.specs.Products.{HasOpenRow}
 use Rattle.spgemm.specs.Terms.{terms_of_row}
-use Rattle.spgemm.proofs.Kept.{all_terms, terms_inside}
+use Rattle.spgemm.proofs.Kept.{all_terms, kept_all, terms_inside}
 use Rattle.spgemm.proofs.Rows.{open_of}
 use Rattle.spgemm.proofs.row.sum_collected.Goals as goal
 
@@ -20,3 +21,9 @@ returns-clause-row c =
     let all = all_terms mul c.args.row.index c.args.row.cols.now c.args.row.words.now c.args.b.now c.collect_terms.new.scratch.terms.items c.in_ok-done.done c.requires.lengths (omega (arith, c.if-done-row.false)) c.in_ok-done.ensures.terms in
     open_of c.sum_terms.result c.args.semiring.add.op c.args.row.index c.collect_terms.new.scratch.terms.items (terms_of_row mul (entries_along c.args.row.index c.args.row.cols.now c.args.row.words.now) c.args.b.now)
     c.args.lists.now c.sum_terms.new.lists all c.sum_terms.ensures.row
+
+pub returns-then-done-row-clause-row : goal.returns-then-done-row-clause-row
+returns-then-done-row-clause-row c =
+    let op = c.args.semiring.add.op in
+    let terms = terms_of_row c.args.semiring.multiply (entries_along c.args.row.index c.args.row.cols.now c.args.row.words.now) c.args.b.now in
+    subst (λ ts. OnOk c.sum_in_places.result (HasOpenRow op c.args.row.index ts c.args.lists.now c.sum_in_places.new.lists)) (kept_all terms) c.sum_in_places.ensures.row
