@@ -42,7 +42,7 @@ fn append_zipped(made: &mut Vec<u64>, op: BinaryOp, a: &[u64], b: &[u64]) -> Res
         ≡ made.old.items ++ zip_with (eval_of op.kind op.domain) a.now b.now) }
 {
     let done = made.len();
-    made.extend_from_slice(a)?;
+    made.resize(done + a.len(), 0)?;
     zip_words(op, a, b, &mut made[done..]);
     Ok(())
 }
@@ -101,7 +101,7 @@ fn append_united(
         (slice_index b.now k)) }
 {
     let done = made.len();
-    made.extend_from_slice(a)?;
+    made.resize(done + a.len(), 0)?;
     unite_present(op, left, right, a, b, &mut made[done..]);
     Ok(())
 }
