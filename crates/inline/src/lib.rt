@@ -1,6 +1,8 @@
 //! A runner that does all work on the calling thread, when a store is asked for.
 #![tactic(auto)]
 
+#[cfg(test)]
+mod forms;
 mod inline;
 #[cfg(test)]
 mod tests;
