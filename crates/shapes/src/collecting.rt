@@ -61,7 +61,7 @@ pub(crate) fn collect_listed(
     ensures words { IfOk result (λ block. (i j : ℕ) → range.start ≤ i → i < range.end → block_content block i j
         ≡ extracted a.now.rows a.now.cols (These rows.now) (These cols.now) (content_of a.now) i j) }
 {
-    let looks = looks_in(a, range.end - range.start);
+    let looks = entries_in(a, &rows[range.start as usize..range.end as usize]);
     let places = Places::new(alloc, a.cols(), cols, looks)?;
     let mut entries = Vec::new(alloc);
     for index in range.start..range.end {
@@ -71,9 +71,14 @@ pub(crate) fn collect_listed(
     gather(alloc, entries, None, range, cols.len() as u64)
 }
 
-/// About how many entries so many rows have.
-fn looks_in(a: &Sparse, rows: u64) -> usize {
-    (a.nvals().saturating_mul(rows) / a.rows().max(1)) as usize
+/// How many entries rows have in all. They are counted, since an estimate would make hints for many columns where the
+/// rows that are listed have no entry.
+fn entries_in(a: &Sparse, rows: &[u64]) -> usize {
+    let mut count: usize = 0;
+    for row in rows {
+        count = count.saturating_add(a.row(*row).0.len());
+    }
+    count
 }
 
 /// Puts what a row has at listed columns, as entries of another row, behind the entries.
