@@ -1,5 +1,5 @@
-//! Words of two lists combined, in memory of their own. They are made part by part, so that a part stays in the first
-//! cache between the time when its memory is taken and the operator.
+//! Words of two lists combined, in memory of their own. They are made part by part, so that a part stays in the cache
+//! between the time when its memory is cleared and the operator.
 ghost use Rattle.std.specs.Prelude.{◌≡◌, ◌<◌, ◌+◌, ◌*◌, ◌++◌, ℕ, IfOk, OnOk, length, slice_index};
 ghost use Rattle.algebra.specs.Operators.{eval_of};
 ghost use Rattle.lanes.specs.Bits.{has_bit, united_at};
@@ -10,8 +10,9 @@ use lanes::{unite_present, zip_words};
 use model::NoMemory;
 use std::alloc::Global;
 
-/// How many words a part has: those of whole words of bits.
-const PART: usize = 512;
+/// How many words a part has: those of whole words of bits. Each part costs a call by the operator, and smaller ones
+/// gained nothing where all lists lie in the second cache.
+const PART: usize = 4096;
 
 /// What the operator gives for the words of both lists in the same place.
 pub(crate) fn zipped(
@@ -65,7 +66,7 @@ pub(crate) fn united(
         (slice_index b.now k)) }
 {
     let mut made = Vec::with_capacity(alloc, a.len())?;
-    for part in 0..a.len() / PART + 1 {
+    for part in 0..a.len().div_ceil(PART) {
         let from = part * PART;
         let past = a.len().min(from + PART);
         let bits = from / 64;

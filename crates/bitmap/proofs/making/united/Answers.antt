@@ -6,7 +6,7 @@ pub loop-part-preserved : goal.loop-part-preserved
 loop-part-preserved c =
     let op = c.args.op in
     let a = c.args.a.now in
-    let from = c.loop-part.part * 512 in
+    let from = c.loop-part.part * 4096 in
     let past = c.min-past.result in
     let bits = from / 64 in
     let whole : from ≡ 64 * bits = omega arith in
