@@ -22,6 +22,7 @@ pub mod ResultLaws
 pub mod Rows
 pub mod RunLaws
 pub mod SettlesLaws
+pub mod SortedLaws
 pub mod StepLaws
 pub mod StoredLaws
 pub mod TextLaws

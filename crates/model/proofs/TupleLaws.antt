@@ -1,19 +1,14 @@
--- Tuples in order: one place after another, and each place at most once.
-use Rattle.std.proofs.Common.{◌≡◌, ℕ, zero, suc, ◌≤◌, ◌&&◌, not, Bool, true, false, eqb, List, [], ◌∷◌, length, get_or, Ordering, refl, sym, ◌∙◌, subst, inl, inr, arith}
-use Rattle.std.specs.Prelude.{pos}
-use Rattle.std.specs.List.{All, AllPairs, filter, list_all}
-use Rattle.std.specs.List.Sorted.{IsPermutation, IsSortedByKey, IsStableByKey}
-use Rattle.std.specs.Ordering.{is_lt, nat_cmp, ordering_then}
+-- Entries of tuples in order: positions that are listed at most once.
+use Rattle.std.proofs.Common.{◌≡◌, ℕ, zero, suc, ◌≤◌, ◌&&◌, not, true, false, eqb, List, [], ◌∷◌, map, length, refl, sym, ◌∙◌, subst, inl, inr, arith}
+use Rattle.std.specs.List.{All, AllPairs, list_all}
 use Rattle.std.proofs.lemmas.Bool.{and_parts, cases_Bool}
 use Rattle.std.proofs.lemmas.Bool.Decides.{nat_tests}
-use Rattle.std.proofs.lemmas.Cmp.{nat_cmp_total, on_total, then_total}
-use Rattle.std.proofs.lemmas.List.Elements.{All-head, All-tail, filter_agree}
-use Rattle.std.proofs.lemmas.List.Sorted.{ranks_by, sorted_far}
-use Rattle.model.specs.declared.shape.Place.{Place}
-use Rattle.model.specs.declared.shape.Place.TheVariants as place
+use Rattle.std.proofs.lemmas.List.Elements.{All-head, All-tail}
+use Rattle.algebra.specs.declared.domain.Domain.TheVariants.{Uint64}
+use Rattle.model.specs.Builds.{AreEntriesOf, are_apart, are_single, entry_of, same_place, words_at}
+use Rattle.model.specs.declared.entry.Entry.{Entry}
 use Rattle.model.specs.declared.tuples.Tuple.{Tuple}
-use Rattle.model.specs.Builds.{AreSortedFrom, IsNotBehind, are_single, same_place, tuples_at}
-use Rattle.model.specs.Object.{col_of, row_of}
+use Rattle.model.specs.Entries.{IsNotBehind, same_position}
 
 -- ---- lists in which each element is related to all later ones
 
@@ -30,133 +25,104 @@ pairs_cons R x xs h t zero (suc j) d below within = h j d (omega arith)
 pairs_cons R x xs h t (suc i) zero d below within = absurd (omega arith)
 pairs_cons R x xs h t (suc i) (suc j) d below within = t i j d (omega arith) (omega arith)
 
--- ---- tuples that are sorted by their places
+-- ---- positions that are listed once
 
-abbrev pub position_of : Tuple → ℕ × ℕ
-position_of t = (row_of t.place, col_of t.place)
+-- where the first two differ, the first is of no other's position
+rest_apart : (e f : Entry) (fs : List Entry) → AllPairs IsNotBehind (e ∷ f ∷ fs) → same_position e f ≡ false
+    → list_all (λ g. not (same_position e g)) fs ≡ true
+rest_apart e f [] order other = refl
+rest_apart e f (g ∷ fs) order other =
+    let first = pairs_head IsNotBehind e (f ∷ g ∷ fs) order in
+    let before : IsNotBehind e f = All-head (IsNotBehind e) f (g ∷ fs) first in
+    let second = pairs_tail IsNotBehind e (f ∷ g ∷ fs) order in
+    let behind : IsNotBehind f g = All-head (IsNotBehind f) g fs (pairs_head IsNotBehind f (g ∷ fs) second) in
+    let away : same_position e g ≡ false = grind (arith, nat_tests) in
+    let others : AllPairs IsNotBehind (e ∷ g ∷ fs) = pairs_cons IsNotBehind e (g ∷ fs) (All-tail (IsNotBehind e) f (g ∷ fs) first) (pairs_tail IsNotBehind f (g ∷ fs) second) in
+    rw away (rest_apart e g fs others away)
 
-abbrev pub position_cmp : ℕ × ℕ → ℕ × ℕ → Ordering
-position_cmp p q = ordering_then (nat_cmp p.0 q.0) (nat_cmp p.1 q.1)
+-- the first two of more are of two positions
+pub apart_next : (e f : Entry) (fs : List Entry) → AllPairs IsNotBehind (e ∷ f ∷ fs) → same_position e f ≡ false
+    → are_apart (e ∷ f ∷ fs) ≡ are_apart (f ∷ fs)
+apart_next e f fs order other = rw (other, rest_apart e f fs order other) refl
 
-ties_is : (i j row col : ℕ)
-    → (not (is_lt (ordering_then (nat_cmp i row) (nat_cmp j col))) && not (is_lt (ordering_then (nat_cmp row i) (nat_cmp col j)))) ≡ (eqb i row && eqb j col)
-ties_is i j row col = grind (arith, nat_tests)
-
-behind_is : (t u : Tuple) → is_lt (position_cmp (position_of u) (position_of t)) ≡ false → IsNotBehind t u
-behind_is t u h = grind (arith, nat_tests)
-
-order_from_sorted : (ts : List Tuple) → IsSortedByKey position_of position_cmp ts → AllPairs IsNotBehind ts
-order_from_sorted ts sorted i j d below within =
-    let total = then_total (on_total (λ (p : ℕ × ℕ). p.0) nat_cmp_total) (on_total (λ (p : ℕ × ℕ). p.1) nat_cmp_total) in
-    let far = sorted_far (λ x y. is_lt (position_cmp (position_of x) (position_of y))) (ranks_by total position_of) ts sorted i j d (omega arith) within in
-    behind_is (get_or ts i d) (get_or ts j d) far
-
--- a stable sort keeps the tuples of each position in their order
-tuples_at-sorted : (ts sorted : List Tuple) → IsStableByKey position_of position_cmp ts sorted → (i j : ℕ)
-    → tuples_at sorted i j ≡ tuples_at ts i j
-tuples_at-sorted ts sorted stable i j =
-    let tie : Tuple → Bool = λ t. not (is_lt (position_cmp (i, j) (position_of t))) && not (is_lt (position_cmp (position_of t) (i, j))) in
-    let is : Tuple → Bool = λ t. eqb i (row_of t.place) && eqb j (col_of t.place) in
-    let kept : filter tie sorted ≡ filter tie ts = stable (record { place = place.Two i j; value = pos 0 }) in
-    let one = filter_agree tie is (λ t. ties_is i j (row_of t.place) (col_of t.place)) sorted in
-    let two = filter_agree tie is (λ t. ties_is i j (row_of t.place) (col_of t.place)) ts in
-    sym one ∙ kept ∙ two
-
-pub are_sorted_from : (ts sorted : List Tuple) → IsPermutation ts sorted
-    → IsSortedByKey position_of position_cmp sorted → IsStableByKey position_of position_cmp ts sorted
-    → AreSortedFrom ts sorted
-are_sorted_from ts sorted moved rise stable = record {
-  same = moved;
-  order = order_from_sorted sorted rise;
-  stable = tuples_at-sorted ts sorted stable;
-}
-
--- ---- places that are listed once
-
--- where the first two differ, the first is of no other's place
-rest_apart : (t u : Tuple) (us : List Tuple) → AllPairs IsNotBehind (t ∷ u ∷ us) → same_place t.place u.place ≡ false
-    → list_all (λ v. not (same_place t.place v.place)) us ≡ true
-rest_apart t u [] order other = refl
-rest_apart t u (v ∷ us) order other =
-    let first = pairs_head IsNotBehind t (u ∷ v ∷ us) order in
-    let before : IsNotBehind t u = All-head (IsNotBehind t) u (v ∷ us) first in
-    let second = pairs_tail IsNotBehind t (u ∷ v ∷ us) order in
-    let behind : IsNotBehind u v = All-head (IsNotBehind u) v us (pairs_head IsNotBehind u (v ∷ us) second) in
-    let away : same_place t.place v.place ≡ false = grind (arith, nat_tests) in
-    let others : AllPairs IsNotBehind (t ∷ v ∷ us) = pairs_cons IsNotBehind t (v ∷ us) (All-tail (IsNotBehind t) u (v ∷ us) first) (pairs_tail IsNotBehind u (v ∷ us) second) in
-    rw away (rest_apart t v us others away)
-
--- the first two of more are of two places
-pub single_next : (t u : Tuple) (us : List Tuple) → AllPairs IsNotBehind (t ∷ u ∷ us)
-    → same_place t.place u.place ≡ false → are_single (t ∷ u ∷ us) ≡ are_single (u ∷ us)
-single_next t u us order other = rw (other, rest_apart t u us order other) refl
-
--- no tuple of a place is there, where each is of another
-at_none : (p : Place) (ts : List Tuple) → list_all (λ u. not (same_place p u.place)) ts ≡ true
-    → tuples_at ts (row_of p) (col_of p) ≡ []
-at_none p [] h = refl
-at_none p (u ∷ us) h =
-    elim (cases_Bool (same_place p u.place)) [
+-- no word of a position is there, where each entry is of another
+at_none : (e : Entry) (fs : List Entry) → list_all (λ f. not (same_position e f)) fs ≡ true
+    → words_at fs e.row e.col ≡ []
+at_none e [] h = refl
+at_none e (f ∷ fs) h =
+    elim (cases_Bool (same_position e f)) [
       | inl same ↦ let no : false ≡ true = rw same at h in cc
-      | inr other ↦ let rest : list_all (λ u. not (same_place p u.place)) us ≡ true = rw other at h in rw other (at_none p us rest)
+      | inr other ↦ let rest : list_all (λ f. not (same_position e f)) fs ≡ true = rw other at h in rw other (at_none e fs rest)
     ]
 
-none_at : (p : Place) (ts : List Tuple) → tuples_at ts (row_of p) (col_of p) ≡ []
-    → list_all (λ u. not (same_place p u.place)) ts ≡ true
-none_at p [] h = refl
-none_at p (u ∷ us) h =
-    elim (cases_Bool (same_place p u.place)) [
-      | inl same ↦ let no : u ∷ tuples_at us (row_of p) (col_of p) ≡ [] = rw same at h in cc
-      | inr other ↦ let rest : tuples_at us (row_of p) (col_of p) ≡ [] = rw other at h in rw other (none_at p us rest)
+none_at : (e : Entry) (fs : List Entry) → words_at fs e.row e.col ≡ []
+    → list_all (λ f. not (same_position e f)) fs ≡ true
+none_at e [] h = refl
+none_at e (f ∷ fs) h =
+    elim (cases_Bool (same_position e f)) [
+      | inl same ↦ let no : f.word ∷ words_at fs e.row e.col ≡ [] = rw same at h in cc
+      | inr other ↦ let rest : words_at fs e.row e.col ≡ [] = rw other at h in rw other (none_at e fs rest)
     ]
 
--- places are listed once where at most one tuple is at each
-few_from_single : (ts : List Tuple) → are_single ts ≡ true → (i j : ℕ) → length (tuples_at ts i j) ≤ 1
-few_from_single [] h i j = omega arith
-few_from_single (t ∷ ts) h i j =
-    let both = and_parts (list_all (λ u. not (same_place t.place u.place)) ts) (are_single ts) h in
-    let rest = few_from_single ts both.1 i j in
-    elim (cases_Bool (eqb i (row_of t.place) && eqb j (col_of t.place))) [
+-- positions are listed once where each has at most one word
+few_from_apart : (es : List Entry) → are_apart es ≡ true → (i j : ℕ) → length (words_at es i j) ≤ 1
+few_from_apart [] h i j = omega arith
+few_from_apart (e ∷ es) h i j =
+    let both = and_parts (list_all (λ f. not (same_position e f)) es) (are_apart es) h in
+    let rest = few_from_apart es both.1 i j in
+    elim (cases_Bool (eqb i e.row && eqb j e.col)) [
       | inl at ↦
-          let row : i ≡ row_of t.place = grind (arith, nat_tests) in
-          let col : j ≡ col_of t.place = grind (arith, nat_tests) in
-          let none : tuples_at ts i j ≡ [] = rw (row, col) (at_none t.place ts both.0) in
+          let row : i ≡ e.row = grind (arith, nat_tests) in
+          let col : j ≡ e.col = grind (arith, nat_tests) in
+          let none : words_at es i j ≡ [] = rw (row, col) (at_none e es both.0) in
           rw (at, none) (omega arith)
       | inr away ↦ rw away rest
     ]
 
-fewer : (t : Tuple) (ts : List Tuple) (i j : ℕ) → length (tuples_at ts i j) ≤ length (tuples_at (t ∷ ts) i j)
-fewer t ts i j =
-    elim (cases_Bool (eqb i (row_of t.place) && eqb j (col_of t.place))) [ inl at ↦ rw at (omega arith) | inr away ↦ rw away (omega arith) ]
+fewer : (e : Entry) (es : List Entry) (i j : ℕ) → length (words_at es i j) ≤ length (words_at (e ∷ es) i j)
+fewer e es i j =
+    elim (cases_Bool (eqb i e.row && eqb j e.col)) [ inl at ↦ rw at (omega arith) | inr away ↦ rw away (omega arith) ]
 
-nothing : (ts : List Tuple) → length ts ≤ 0 → ts ≡ []
+nothing : (words : List ℕ) → length words ≤ 0 → words ≡ []
 nothing [] h = refl
-nothing (t ∷ ts) h = absurd (omega arith)
+nothing (word ∷ words) h = absurd (omega arith)
 
-single_from_few : (ts : List Tuple) → ((i j : ℕ) → length (tuples_at ts i j) ≤ 1) → are_single ts ≡ true
-single_from_few [] h = refl
-single_from_few (t ∷ ts) h =
-    let row = row_of t.place in
-    let col = col_of t.place in
-    let here : (eqb row row && eqb col col) ≡ true = grind (arith, nat_tests) in
-    let one : length (t ∷ tuples_at ts row col) ≤ 1 = rw here at (h row col) in
-    let none = nothing (tuples_at ts row col) (omega arith) in
-    let rest = single_from_few ts (λ i j. (let less = fewer t ts i j in let most = h i j in omega arith)) in
-    rw (none_at t.place ts none, rest) refl
+apart_from_few : (es : List Entry) → ((i j : ℕ) → length (words_at es i j) ≤ 1) → are_apart es ≡ true
+apart_from_few [] h = refl
+apart_from_few (e ∷ es) h =
+    let here : same_position e e ≡ true = grind (arith, nat_tests) in
+    let one : length (e.word ∷ words_at es e.row e.col) ≤ 1 = rw here at (h e.row e.col) in
+    let none = nothing (words_at es e.row e.col) (omega arith) in
+    let rest = apart_from_few es (λ i j. (let less = fewer e es i j in let most = h i j in omega arith)) in
+    rw (none_at e es none, rest) refl
 
 -- so the order of the list does not matter
-pub single_sorted : (ts sorted : List Tuple) → AreSortedFrom ts sorted → are_single sorted ≡ are_single ts
-single_sorted ts sorted from =
-    elim (cases_Bool (are_single sorted)) [
+apart_sorted : (es sorted : List Entry) → ((i j : ℕ) → words_at sorted i j ≡ words_at es i j)
+    → are_apart sorted ≡ are_apart es
+apart_sorted es sorted stable =
+    elim (cases_Bool (are_apart sorted)) [
       | inl once ↦
-          let few = few_from_single sorted once in
-          once ∙ sym (single_from_few ts (λ i j. subst (λ us. length us ≤ 1) (from.stable i j) (few i j)))
+          let few = few_from_apart sorted once in
+          once ∙ sym (apart_from_few es (λ i j. subst (λ ws. length ws ≤ 1) (stable i j) (few i j)))
       | inr twice ↦
-          elim (cases_Bool (are_single ts)) [
+          elim (cases_Bool (are_apart es)) [
             | inl once ↦
-                let few = few_from_single ts once in
-                let other = single_from_few sorted (λ i j. subst (λ us. length us ≤ 1) (sym (from.stable i j)) (few i j)) in
+                let few = few_from_apart es once in
+                let other = apart_from_few sorted (λ i j. subst (λ ws. length ws ≤ 1) (sym (stable i j)) (few i j)) in
                 other ∙ sym once
             | inr neither ↦ twice ∙ sym neither
           ]
     ]
+
+-- entries are of one position where their tuples are
+others_apart : (t : Tuple) (ts : List Tuple)
+    → list_all (λ f. not (same_position (entry_of Uint64 t) f)) (map (entry_of Uint64) ts) ≡ list_all (λ u. not (same_place t.place u.place)) ts
+others_apart t [] = refl
+others_apart t (u ∷ us) = rw (others_apart t us) refl
+
+apart_single : (ts : List Tuple) → are_apart (map (entry_of Uint64) ts) ≡ are_single ts
+apart_single [] = refl
+apart_single (t ∷ ts) = rw (others_apart t ts, apart_single ts) refl
+
+pub single_sorted : (ts : List Tuple) (sorted : List Entry) → AreEntriesOf ts sorted → are_apart sorted ≡ are_single ts
+single_sorted ts sorted from = apart_sorted (map (entry_of Uint64) ts) sorted from.stable ∙ apart_single ts

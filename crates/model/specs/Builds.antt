@@ -1,9 +1,10 @@
 -- Maps that are built of lists of values at positions (GrB_Matrix_build, GrB_Vector_build).
-use Rattle.std.specs.Prelude.{ℕ, ◌≡◌, ◌<◌, ◌≤◌, ◌⊎◌, ◌==◌, ◌&&◌, not, Bool, true, List, [], ◌∷◌, map, filter, fold}
+use Rattle.std.specs.Prelude.{ℕ, ◌≡◌, ◌==◌, ◌&&◌, not, Bool, true, List, [], ◌∷◌, map, filter, fold}
 use Rattle.std.specs.Prelude.{Option, Some, None}
 use Rattle.std.specs.List.{AllPairs, list_all}
 use Rattle.std.specs.List.Sorted.{IsPermutation}
 use Rattle.algebra.specs.declared.domain.Domain.{Domain}
+use Rattle.algebra.specs.declared.domain.Domain.TheVariants.{Uint64}
 use Rattle.algebra.specs.declared.operator_names.OpName.{OpName}
 use Rattle.algebra.specs.Operators.{eval_of}
 use Rattle.algebra.specs.Value.{is_value_of, word_of}
@@ -11,7 +12,7 @@ use Rattle.model.specs.declared.entry.Entry.{Entry}
 use Rattle.model.specs.declared.shape.Place.{Place}
 use Rattle.model.specs.declared.shape.Shape.{Shape}
 use Rattle.model.specs.declared.tuples.Tuple.{Tuple}
-use Rattle.model.specs.Entries.{entry_at}
+use Rattle.model.specs.Entries.{IsNotBehind, entry_at, same_position}
 use Rattle.model.specs.Object.{Content, col_of, is_inside, is_of_kind, row_of}
 
 -- the words that are listed at a position, in the order of the list
@@ -49,20 +50,17 @@ abbrev pub are_single : List Tuple → Bool
 are_single [] = true
 are_single (t ∷ ts) = list_all (λ u. not (same_place t.place u.place)) ts && are_single ts
 
--- the tuples of one position
-abbrev pub tuples_at : List Tuple → ℕ → ℕ → List Tuple
-tuples_at tuples i j = filter (λ t. (i == row_of t.place) && (j == col_of t.place)) tuples
+-- no two entries are of one position
+abbrev pub are_apart : List Entry → Bool
+are_apart [] = true
+are_apart (e ∷ es) = list_all (λ f. not (same_position e f)) es && are_apart es
 
--- one tuple's position stands before another's, row by row, or is the same
-abbrev pub IsNotBehind : Tuple → Tuple → Type 0
-IsNotBehind t u = (row_of t.place < row_of u.place)
-    ⊎ ((row_of t.place ≡ row_of u.place) × (col_of t.place ≤ col_of u.place))
-
--- tuples row by row are those of a list; those of one position are in its order
-pub record AreSortedFrom (tuples sorted : List Tuple) : Type 0 where
-  pub same : IsPermutation tuples sorted
-  pub order : AllPairs IsNotBehind sorted
-  pub stable : (i j : ℕ) → tuples_at sorted i j ≡ tuples_at tuples i j
+-- the entries of tuples, row by row, with their values modulo 2 ^ 64; those of one position are in the
+-- order of the tuples
+pub record AreEntriesOf (tuples : List Tuple) (entries : List Entry) : Type 0 where
+  pub same : IsPermutation (map (entry_of Uint64) tuples) entries
+  pub order : AllPairs IsNotBehind entries
+  pub stable : (i j : ℕ) → words_at entries i j ≡ words_at (map (entry_of Uint64) tuples) i j
 
 -- each has as many indices as a shape has dimensions
 abbrev pub are_of_kind : Shape → List Tuple → Bool

@@ -1,6 +1,6 @@
 -- Lists of entries in row-major order: the maps that they stand for, and the entries of a map.
-use Rattle.std.specs.Prelude.{ℕ, zero, suc, ◌+◌, ◌-◌, ◌<◌, ◌≡◌, ◌⊎◌, ◌&&◌, ◌==◌, if◌then◌else◌, List, [], ◌∷◌, Some}
-use Rattle.std.specs.Prelude.{None}
+use Rattle.std.specs.Prelude.{ℕ, zero, suc, ◌+◌, ◌-◌, ◌<◌, ◌≤◌, ◌≡◌, ◌⊎◌, ◌&&◌, ◌==◌, if◌then◌else◌, Bool, List, []}
+use Rattle.std.specs.Prelude.{◌∷◌, Some, None}
 use Rattle.std.specs.Option.{option_map}
 use Rattle.std.specs.List.{All, AllPairs, filter_map, flat_map}
 use Rattle.model.specs.declared.entry.Entry.{Entry}
@@ -14,6 +14,14 @@ word_at (e ∷ es) i j = if (i == e.row) && (j == e.col) then Some e.word else w
 -- e stands before f, row by row
 abbrev pub Precedes : Entry → Entry → Type 0
 Precedes e f = (e.row < f.row) ⊎ ((e.row ≡ f.row) × (e.col < f.col))
+
+-- e stands before f, row by row, or at the same position
+abbrev pub IsNotBehind : Entry → Entry → Type 0
+IsNotBehind e f = (e.row < f.row) ⊎ ((e.row ≡ f.row) × (e.col ≤ f.col))
+
+-- both are of one row and column
+abbrev pub same_position : Entry → Entry → Bool
+same_position e f = (e.row == f.row) && (e.col == f.col)
 
 -- each entry stands before all later ones, so there is at most one at a position
 abbrev pub InOrder : List Entry → Type 0

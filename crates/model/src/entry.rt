@@ -1,4 +1,6 @@
 //! Entries of objects.
+ghost use Rattle.std.specs.Prelude.{◌≡◌};
+ghost use Rattle.model.specs.Entries.{same_position};
 
 /// A stored value of a matrix or a vector: its row and column, from 0, and the word of the value.
 /// A vector's entries stand in column 0.
@@ -7,4 +9,14 @@ pub struct Entry {
     pub row: u64,
     pub col: u64,
     pub word: u64,
+}
+
+impl Entry {
+    /// Whether another entry is of the same row and column.
+    #[inline(always)]
+    pub fn shares_position(&self, other: &Entry) -> bool
+        ensures { result ≡ same_position self.now other.now }
+    {
+        self.row == other.row && self.col == other.col
+    }
 }

@@ -1,11 +1,14 @@
 //! Lists of values at positions.
-ghost use Rattle.std.specs.Prelude.{◌≡◌, IfOk};
+ghost use Rattle.std.specs.Prelude.{◌≡◌, IfOk, map};
 ghost use Rattle.std.specs.List.{AllPairs};
-ghost use Rattle.model.specs.Builds.{AreSortedFrom, IsNotBehind, are_inside, are_of_kind, are_single, are_values_of};
-ghost use Rattle.model.specs.Builds.{same_place};
+ghost use Rattle.algebra.specs.declared.domain.Domain.TheVariants.{Uint64};
+ghost use Rattle.model.specs.Builds.{AreEntriesOf, are_apart, are_inside, are_of_kind, are_single, are_values_of};
+ghost use Rattle.model.specs.Builds.{entry_of};
+ghost use Rattle.model.specs.Entries.{IsNotBehind};
 
-use crate::{NoMemory, Place, Shape};
+use crate::{Entry, NoMemory, Place, Shape};
 use algebra::Domain;
+use std::alloc::Global;
 use std::marker::Model;
 
 /// A value at a position (a tuple of `GrB_Matrix_build`).
@@ -19,29 +22,31 @@ pub struct Tuple {
 #[derive(Drop)]
 pub struct TupleList {
     items: Vec<Tuple>,
-    sorted: Vec<Tuple>,
+
+    // As entries, which are half as large as tuples, so that sorting moves less.
+    sorted: Vec<Entry>,
 }
 
 impl Model for TupleList {
     ghost use Rattle.std.specs.Prelude.{List};
-    ghost use Rattle.model.specs.Builds.{AreSortedFrom};
+    ghost use Rattle.model.specs.Builds.{AreEntriesOf};
     ghost use Rattle.model.specs.declared.tuples.Tuple.{Tuple};
 
     ghost Value = { List Tuple };
 
     ghost view = { λ l. l.items.items };
 
-    ghost invariant = { λ l. AreSortedFrom l.items.items l.sorted.items };
+    ghost invariant = { λ l. AreEntriesOf l.items.items l.sorted.items };
 }
 
 impl TupleList {
-    /// These tuples. It keeps a copy of them by rows and columns, which it sorts, in linear time where
-    /// they come so already.
+    /// These tuples. It keeps their entries by rows and columns, which it sorts, in linear time where they
+    /// come so already.
     pub fn new(items: Vec<Tuple>) -> Result<TupleList, NoMemory>
         ensures { IfOk result (λ tuples. tuples ≡ items.items) }
     {
-        let mut sorted = items.clone()?;
-        sorted.sort_by_key(|tuple| (tuple.place.row(), tuple.place.col()))?;
+        let mut sorted = entries_of(*items.allocator(), &items)?;
+        sorted.sort_by_key(|entry| (entry.row, entry.col))?;
         Ok(TupleList { items, sorted })
     }
 
@@ -52,9 +57,10 @@ impl TupleList {
         self.items.as_slice()
     }
 
-    /// The tuples by rows and columns, those of one position in the order of their list.
-    pub fn sorted(&self) -> &[Tuple]
-        ensures { AreSortedFrom self.now result.now }
+    /// The entries of the tuples by rows and columns, those of one position in the order of the tuples'
+    /// list. Their words are the values modulo 2^64, which for values of a domain are its words.
+    pub fn sorted(&self) -> &[Entry]
+        ensures { AreEntriesOf self.now result.now }
     {
         self.sorted.as_slice()
     }
@@ -108,27 +114,35 @@ fn are_values_of(domain: Domain, tuples: &[Tuple]) -> bool
         .all(|tuple| domain.word_of(tuple.value).is_some())
 }
 
-/// Whether no two tuples that stand row by row are of one position. Those of one stand side by side.
-fn are_apart(sorted: &[Tuple]) -> bool
+/// The entries of tuples, with their values modulo 2^64.
+fn entries_of(alloc: Global, tuples: &[Tuple]) -> Result<Vec<Entry>, NoMemory>
+    ensures { IfOk result (λ entries. entries.items ≡ map (entry_of Uint64) tuples.now) }
+{
+    let entries = tuples
+        .iter()
+        .map(|tuple| Entry {
+            row: tuple.place.row(),
+            col: tuple.place.col(),
+            word: Domain::Uint64.wrapped(tuple.value),
+        })
+        .collect(alloc)?;
+    Ok(entries)
+}
+
+/// Whether no two entries that stand row by row are of one position. Those of one stand side by side.
+fn are_apart(sorted: &[Entry]) -> bool
     requires { AllPairs IsNotBehind sorted.now }
-    ensures { result ≡ are_single sorted.now }
+    ensures { result ≡ are_apart sorted.now }
 {
     let Some((first, rest)) = sorted.split_first() else {
         return true;
     };
     let mut last = *first;
-    for tuple in rest {
-        if is_same_place(last.place, tuple.place) {
+    for entry in rest {
+        if last.shares_position(entry) {
             return false;
         }
-        last = *tuple;
+        last = *entry;
     }
     true
-}
-
-/// Whether two places are the same row and column.
-fn is_same_place(a: Place, b: Place) -> bool
-    ensures { result ≡ same_place a b }
-{
-    a.row() == b.row() && a.col() == b.col()
 }

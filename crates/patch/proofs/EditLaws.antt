@@ -11,16 +11,15 @@ use Rattle.std.proofs.lemmas.List.Sorted.{ranks_by, sorted_far}
 use Rattle.std.proofs.lemmas.List.Sums.{fold-append}
 use Rattle.model.specs.Builds.{gathered, joined_all, words_at}
 use Rattle.model.specs.declared.entry.Entry.{Entry}
-use Rattle.model.specs.Entries.{entry_at}
+use Rattle.model.specs.Entries.{IsNotBehind, entry_at}
 use Rattle.model.specs.Object.{Content}
+use Rattle.model.proofs.SortedLaws.{behind_is, position_cmp, ties_is}
 use Rattle.store.specs.Stored.{AreIn}
 use Rattle.store.proofs.Order.{all_pairs_from_map, all_pairs_map}
 use Rattle.masks.specs.Masks.{has_word}
 use Rattle.patch.specs.declared.edits.Edit.{Edit}
 use Rattle.patch.specs.declared.edits.Edit.TheVariants.{Set, Remove}
 use Rattle.patch.specs.Edits.{IsInside, edited, edited_once, place_of, removal_entry, set_entry}
-use Rattle.patch.specs.Runs.{IsNotBehind}
-use Rattle.patch.proofs.GatherLaws.{behind_is, position_cmp, ties_is}
 
 -- what a position has after an edit, by what it had
 abbrev after_one : ℕ → ℕ → Option ℕ → Edit → Option ℕ

@@ -1,21 +1,19 @@
 -- What entries make, in any order, as they lie, and where those of one position are joined.
-use Rattle.std.proofs.Common.{◌≡◌, ℕ, ◌<◌, ◌≤◌, ◌&&◌, not, Bool, true, false, eqb, List, [], ◌∷◌, map, get_or, Option, Ordering, refl, sym, ◌∙◌, ap, inl, inr, arith}
-use Rattle.std.specs.List.{All, AllPairs, filter}
-use Rattle.std.specs.List.Sorted.{IsSortedByKey, IsStableByKey}
-use Rattle.std.specs.Ordering.{is_lt, nat_cmp, ordering_then}
+use Rattle.std.proofs.Common.{◌≡◌, ℕ, ◌<◌, ◌≤◌, ◌&&◌, true, false, eqb, List, [], ◌∷◌, get_or, Option, refl, sym, ◌∙◌, ap, inl, inr, arith}
+use Rattle.std.specs.List.{All, AllPairs}
+use Rattle.std.specs.List.Sorted.{IsStableByKey}
 use Rattle.std.proofs.lemmas.Bool.{cases_Bool}
 use Rattle.std.proofs.lemmas.Bool.Decides.{nat_tests}
-use Rattle.std.proofs.lemmas.Cmp.{nat_cmp_total, on_total, then_total}
-use Rattle.std.proofs.lemmas.List.Elements.{All-cons, All-head, All-map, All-tail, All-weaker, filter_agree}
-use Rattle.std.proofs.lemmas.List.Sorted.{ranks_by, sorted_far}
+use Rattle.std.proofs.lemmas.List.Elements.{All-cons, All-head, All-map, All-tail, All-weaker}
 use Rattle.algebra.specs.declared.operator_names.OpName.{OpName}
 use Rattle.model.specs.Builds.{gathered, joined, joined_all, words_at}
 use Rattle.model.specs.declared.entry.Entry.{Entry}
-use Rattle.model.specs.Entries.{InOrder, Precedes, entry_at, word_at}
+use Rattle.model.specs.Entries.{InOrder, IsNotBehind, Precedes, entry_at, word_at}
+use Rattle.model.proofs.SortedLaws.{position_cmp, position_of, words_at-sorted}
 use Rattle.store.specs.Stored.{AreIn, along, transposed}
 use Rattle.store.proofs.Contents.{transposed_twice, word_at-transposed}
 use Rattle.store.proofs.Order.{all_from_map, all_pairs_cons, all_pairs_head, all_pairs_nil, all_pairs_tail}
-use Rattle.patch.specs.Runs.{IsNotBehind, runs_from, runs_of}
+use Rattle.patch.specs.Runs.{runs_from, runs_of}
 
 -- ---- entries that are joined
 
@@ -202,39 +200,9 @@ along_order first past cols es order inside =
       | inr many ↦ rw many order
     ]
 
--- ---- entries in order
+-- ---- entries that are sorted
 
-abbrev pub position_of : Entry → ℕ × ℕ
-position_of e = (e.row, e.col)
-
-abbrev pub position_cmp : ℕ × ℕ → ℕ × ℕ → Ordering
-position_cmp p q = ordering_then (nat_cmp p.0 q.0) (nat_cmp p.1 q.1)
-
-pub ties_is : (i j row col : ℕ)
-    → (not (is_lt (ordering_then (nat_cmp i row) (nat_cmp j col))) && not (is_lt (ordering_then (nat_cmp row i) (nat_cmp col j)))) ≡ (eqb i row && eqb j col)
-ties_is i j row col = grind (arith, nat_tests)
-
-pub behind_is : (e f : Entry) → is_lt (position_cmp (position_of f) (position_of e)) ≡ false → IsNotBehind e f
-behind_is e f h = grind (arith, nat_tests)
-
-pub order_from_sorted : (es : List Entry) → IsSortedByKey position_of position_cmp es → AllPairs IsNotBehind es
-order_from_sorted es sorted i j d below within =
-    let total = then_total (on_total (λ (p : ℕ × ℕ). p.0) nat_cmp_total) (on_total (λ (p : ℕ × ℕ). p.1) nat_cmp_total) in
-    let far = sorted_far (λ x y. is_lt (position_cmp (position_of x) (position_of y))) (ranks_by total position_of) es sorted i j d (omega arith) within in
-    behind_is (get_or es i d) (get_or es j d) far
-
--- a stable sort keeps the words of each position in their order
-words_at-sorted : (es sorted : List Entry) → IsStableByKey position_of position_cmp es sorted → (i j : ℕ)
-    → words_at sorted i j ≡ words_at es i j
-words_at-sorted es sorted stable i j =
-    let tie : Entry → Bool = λ e. not (is_lt (position_cmp (i, j) (position_of e))) && not (is_lt (position_cmp (position_of e) (i, j))) in
-    let is : Entry → Bool = λ e. eqb i e.row && eqb j e.col in
-    let kept : filter tie sorted ≡ filter tie es = stable (entry_at i j 0) in
-    let one = filter_agree tie is (λ e. ties_is i j e.row e.col) sorted in
-    let two = filter_agree tie is (λ e. ties_is i j e.row e.col) es in
-    ap (map (λ (e : Entry). e.word)) (sym one ∙ kept ∙ two)
-
--- so what entries make does not change with the order of the list
+-- what entries make does not change with the order of the list
 pub gathered-sorted : (joins : Option OpName) (es sorted : List Entry)
     → IsStableByKey position_of position_cmp es sorted → (i j : ℕ) → gathered joins sorted i j ≡ gathered joins es i j
 gathered-sorted joins es sorted stable i j = ap (joined_all joins) (words_at-sorted es sorted stable i j)

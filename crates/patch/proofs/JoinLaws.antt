@@ -9,13 +9,13 @@ use Rattle.std.proofs.lemmas.List.Quantifiers.{all_pairs_push}
 use Rattle.algebra.specs.declared.operator_names.OpName.{OpName}
 use Rattle.model.specs.Builds.{joined}
 use Rattle.model.specs.declared.entry.Entry.{Entry}
-use Rattle.model.specs.Entries.{entry_at}
+use Rattle.model.specs.Entries.{IsNotBehind, entry_at}
 use Rattle.store.specs.declared.lists.FiberEnd.{FiberEnd}
 use Rattle.store.specs.Fibers.{AreFlat, end_at, entries_along, entries_from, last_end, outers}
 use Rattle.store.proofs.CloseLaws.{close_fiber, closed}
 use Rattle.store.proofs.FlatLaws.{flat_none}
 use Rattle.store.proofs.Order.{all_pairs_cons, all_pairs_head, all_pairs_nil, all_pairs_tail, all_pairs_across}
-use Rattle.patch.specs.Runs.{IsNotBehind, runs_from}
+use Rattle.patch.specs.Runs.{runs_from}
 
 -- ---- the fibers so far
 

@@ -1,13 +1,9 @@
 -- Entries in order, of which those of one position are joined into one.
-use Rattle.std.specs.Prelude.{◌≡◌, ◌<◌, ◌≤◌, ◌⊎◌, ◌&&◌, ◌==◌, if◌then◌else◌, List, [], ◌∷◌, Option}
+use Rattle.std.specs.Prelude.{◌&&◌, ◌==◌, if◌then◌else◌, List, [], ◌∷◌, Option}
 use Rattle.algebra.specs.declared.operator_names.OpName.{OpName}
 use Rattle.model.specs.Builds.{joined}
 use Rattle.model.specs.declared.entry.Entry.{Entry}
 use Rattle.model.specs.Entries.{entry_at}
-
--- an entry's position stands before another's, row by row, or is the same
-abbrev pub IsNotBehind : Entry → Entry → Type 0
-IsNotBehind e f = (e.row < f.row) ⊎ ((e.row ≡ f.row) × (e.col ≤ f.col))
 
 -- an entry and those behind it, of which neighbours of one position are joined
 unfoldable pub runs_from : Option OpName → Entry → List Entry → List Entry

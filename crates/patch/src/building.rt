@@ -1,14 +1,14 @@
 //! Stores that are built of tuples.
-ghost use Rattle.std.specs.Prelude.{◌≡◌, ℕ, IfOk, map, true};
+ghost use Rattle.std.specs.Prelude.{◌≡◌, ℕ, IfOk, true};
 ghost use Rattle.std.specs.Option.{option_map};
 ghost use Rattle.algebra.specs.OperatorNames.{op_named};
-ghost use Rattle.model.specs.Builds.{are_inside, are_values_of, built, entry_of};
+ghost use Rattle.model.specs.Builds.{are_inside, are_values_of, built};
 ghost use Rattle.model.specs.Object.{cols_of, rows_of};
 ghost use Rattle.store.specs.Stored.{content_of};
 
 use crate::runs::block_of_sorted;
 use algebra::{BinaryOp, Domain};
-use model::{Entry, NoMemory, Shape, Tuple, TupleList};
+use model::{NoMemory, Shape, TupleList};
 use std::alloc::Global;
 use store::Store;
 
@@ -30,22 +30,8 @@ pub fn build(
         ≡ built (option_map op_named dup) domain tuples.now i j) }
 {
     let (rows, cols) = (shape.rows(), shape.cols());
-    let entries = entries_of(alloc, tuples.sorted(), domain)?;
+    // The words of the entries are those of the domain already, since the values are.
+    let entries = Vec::from_slice(alloc, tuples.sorted())?;
     let block = block_of_sorted(alloc, entries, dup, 0..rows, cols)?;
     Ok(Store::from_block(rows, block))
-}
-
-/// The entries of tuples, with words of a domain.
-fn entries_of(alloc: Global, tuples: &[Tuple], domain: Domain) -> Result<Vec<Entry>, NoMemory>
-    ensures { IfOk result (λ entries. entries.items ≡ map (entry_of domain) tuples.now) }
-{
-    let entries = tuples
-        .iter()
-        .map(|tuple| Entry {
-            row: tuple.place.row(),
-            col: tuple.place.col(),
-            word: domain.wrapped(tuple.value),
-        })
-        .collect(alloc)?;
-    Ok(entries)
 }

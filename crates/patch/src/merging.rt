@@ -1,9 +1,9 @@
 //! Many edits of a store at once.
 ghost use Rattle.std.specs.Prelude.{◌≡◌, ℕ, IfOk, OnErr, OnOk, map};
 ghost use Rattle.std.specs.List.{All, AllPairs};
+ghost use Rattle.model.specs.Entries.{IsNotBehind};
 ghost use Rattle.store.specs.Stored.{content_of};
 ghost use Rattle.patch.specs.Edits.{IsInside, edited, removal_entry, set_entry};
-ghost use Rattle.patch.specs.Runs.{IsNotBehind};
 
 use crate::Edit;
 use crate::runs::block_of_sorted;

@@ -1,12 +1,13 @@
 //! Fibers of entries that come in order.
-ghost use Rattle.std.specs.Prelude.{◌≡◌, ℕ, ◌&&◌, ◌==◌, IfOk};
+ghost use Rattle.std.specs.Prelude.{◌≡◌, ℕ, IfOk};
 ghost use Rattle.std.specs.List.{AllPairs};
 ghost use Rattle.std.specs.Option.{option_map};
 ghost use Rattle.algebra.specs.OperatorNames.{op_named};
 ghost use Rattle.model.specs.Builds.{gathered, joined};
+ghost use Rattle.model.specs.Entries.{IsNotBehind};
 ghost use Rattle.store.specs.Fibers.{AreFlat, end_at, entries_in};
 ghost use Rattle.store.specs.Stored.{AreIn, block_content};
-ghost use Rattle.patch.specs.Runs.{IsNotBehind, runs_of};
+ghost use Rattle.patch.specs.Runs.{runs_of};
 
 use crate::along::lay_along;
 use algebra::BinaryOp;
@@ -58,7 +59,7 @@ fn join_runs(
     let mut words = Vec::with_capacity(alloc, entries.len())?;
     let mut last = *first;
     for entry in rest {
-        if are_at_one_position(&last, entry) {
+        if last.shares_position(entry) {
             last.word = join(joins, last.word, entry.word);
         } else {
             inner.push_reserved(last.col);
@@ -84,14 +85,6 @@ fn end_of(entry: &Entry, end: usize) -> FiberEnd
         outer: entry.row,
         end,
     }
-}
-
-/// Whether two entries stand in the same row and column.
-#[inline(always)]
-fn are_at_one_position(a: &Entry, b: &Entry) -> bool
-    ensures { result ≡ ((a.now.row == b.now.row) && (a.now.col == b.now.col)) }
-{
-    a.row == b.row && a.col == b.col
 }
 
 /// What two words of one position make.

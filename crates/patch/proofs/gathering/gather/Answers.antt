@@ -6,8 +6,9 @@ use Rattle.std.proofs.lemmas.Result.{IfOk-weaker}
 use Rattle.algebra.specs.OperatorNames.{op_named}
 use Rattle.model.specs.Builds.{gathered}
 use Rattle.model.specs.declared.entry.Entry.{Entry}
+use Rattle.model.proofs.SortedLaws.{order_from_sorted, position_of}
 use Rattle.store.specs.Stored.{Block, block_content}
-use Rattle.patch.proofs.GatherLaws.{gathered-sorted, order_from_sorted, position_of}
+use Rattle.patch.proofs.GatherLaws.{gathered-sorted}
 use Rattle.patch.proofs.gathering.gather.Goals as goal
 
 pub block_of_sorted-requires-clause-order : goal.block_of_sorted-requires-clause-order

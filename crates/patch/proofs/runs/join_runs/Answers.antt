@@ -6,12 +6,12 @@ use Rattle.std.proofs.lemmas.List.{drop_more}
 use Rattle.std.specs.Option.{option_map}
 use Rattle.algebra.specs.OperatorNames.{op_named}
 use Rattle.model.specs.declared.entry.Entry.{Entry}
-use Rattle.model.specs.Entries.{entry_at}
+use Rattle.model.specs.Entries.{IsNotBehind, entry_at}
 use Rattle.store.proofs.FlatLaws.{flat_none}
-use Rattle.patch.specs.Runs.{IsNotBehind, runs_of}
+use Rattle.patch.specs.Runs.{runs_of}
 use Rattle.patch.proofs.JoinLaws.{AreOpen, open_first, open_same, open_more, open_next, open_end, no_runs}
 use Rattle.patch.proofs.runs.join_runs.Goals as goal
-use Rattle.patch.proofs.runs.join_runs.Goals.{then-are_at_one_position, else-are_at_one_position, then-entry-last+in_ok-push, else-entry-last}
+use Rattle.patch.proofs.runs.join_runs.Goals.{then-shares_position, else-shares_position, then-entry-last+in_ok-push, else-entry-last}
 
 no_entries : (es : List Entry) → length es ≡ 0 → es ≡ []
 no_entries [] none = refl
@@ -51,18 +51,18 @@ loop-entry-preserved c =
     let left = drop (k + 1) c.in-Some.rest.now in
     let all = runs_of joins c.args.entries.now in
     let opened : AreOpen joins ends inner words last (e ∷ left) all = rw (drop_more c.in-Some.rest.now k (entry_at 0 0 0) c.loop-entry-test.true) at here.opened in
-    elim c.if-are_at_one_position.branch [
-      | then-are_at_one_position w ↦ rw (w.ends-is, w.inner-is, w.words-is, w.last-is, w.join.ensures) (record {
-        opened = open_same joins ends inner words last e left all opened (sym c.are_at_one_position.ensures ∙ w.if-are_at_one_position.true);
+    elim c.if-shares_position.branch [
+      | then-shares_position w ↦ rw (w.ends-is, w.inner-is, w.words-is, w.last-is, w.join.ensures) (record {
+        opened = open_same joins ends inner words last e left all opened (sym c.shares_position.ensures ∙ w.if-shares_position.true);
         inner_room = let room = here.inner_room in omega arith;
         words_room = let room = here.words_room in omega arith;
       })
-      | else-are_at_one_position w ↦
-          let other = sym c.are_at_one_position.ensures ∙ w.if-are_at_one_position.false in
+      | else-shares_position w ↦
+          let other = sym c.shares_position.ensures ∙ w.if-shares_position.false in
           let one = w.push_reserved.ensures in
-          let two = w.push_reserved-else-are_at_one_position.ensures in
+          let two = w.push_reserved-else-shares_position.ensures in
           let inner_room : vec_len w.push_reserved.new.self + (length c.in-Some.rest.now - (k + 1)) < vec_capacity w.push_reserved.new.self = (let room = here.inner_room in let long = one.len in let same = one.capacity in omega arith) in
-          let words_room : vec_len w.push_reserved-else-are_at_one_position.new.self + (length c.in-Some.rest.now - (k + 1)) < vec_capacity w.push_reserved-else-are_at_one_position.new.self = (let room = here.words_room in let long = two.len in let same = two.capacity in omega arith) in
+          let words_room : vec_len w.push_reserved-else-shares_position.new.self + (length c.in-Some.rest.now - (k + 1)) < vec_capacity w.push_reserved-else-shares_position.new.self = (let room = here.words_room in let long = two.len in let same = two.capacity in omega arith) in
           let long : vec_len w.push_reserved.new.self ≡ length (inner ++ last.col ∷ []) = (let ok = w.push_reserved.new.self.ok in let is = ap length one.items in omega arith) in
           elim w.if-entry-last.branch [
             | then-entry-last+in_ok-push v ↦ rw (w.ends-is, w.inner-is, w.words-is, w.last-is, v.ends-is) (record {
