@@ -2,12 +2,12 @@ pub mod ColumnFibers
 pub mod ColumnPlaces
 pub mod Counts
 pub mod Extracts
+pub mod FewLaws
 pub mod FillLaws
 pub mod Gathering
 pub mod Going
 pub mod ListLaws
 pub mod Made
-pub mod OutsideLaws
 pub mod PickLaws
 pub mod PlaceLaws
 pub mod RowWords

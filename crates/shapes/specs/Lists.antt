@@ -23,6 +23,10 @@ pub record AreOnce (first past : ℕ) (has : ℕ → Bool) (list : List ℕ) : T
 abbrev pub spread : List ℕ → List ℕ → ℕ → Content
 spread rows cols word = λ i j. if has_index rows i && has_index cols j then Some word else None
 
+-- a map, but at the rows that a list has another
+abbrev pub with_rows : List ℕ → Content → Content → Content
+with_rows list new old = λ i j. if has_index list i then new i j else old i j
+
 -- the lists have a word at each of some rows of one column, which is one fiber
 pub record IsFilledColumn (rows : List ℕ) (word : ℕ) (lists : FiberLists) : Type 0 where
   pub flat : AreFlat lists.ends.items lists.inner.items lists.words.items

@@ -9,8 +9,8 @@ ghost use Rattle.shapes.specs.Named.{AreMembers, IsNamed, Names};
 ghost use Rattle.shapes.specs.Rows.{HasRow, HasRowOf, IsRowOf};
 ghost use Rattle.shapes.specs.Sides.{HasKept, on_side, one_side};
 
+use crate::few::{few_named, put_few};
 use crate::members::Members;
-use crate::outside::{few_named, keep_outside};
 use crate::rows::{put_row, walk_rows};
 use masks::{Joining, join_rows};
 use model::{IndexList, NoMemory};
@@ -20,7 +20,8 @@ use store::{FiberLists, Row, RowBlock, Sparse};
 
 /// The rows of a block at the positions that lists of rows and of columns name, and at the others those
 /// of a store. `:` is never written out, and in both lists costs nothing. Else its time is that of the
-/// entries of both in these rows, each with a search in both lists at the most.
+/// entries of both in these rows, each with a search in both lists at the most. Where few rows are named,
+/// the store's others are copied as they lie.
 pub fn put_rows(
     alloc: Global,
     old: &Sparse,
@@ -56,9 +57,12 @@ pub fn put_rows(
         let new = Sparse::from_block(past, new);
         keep_side(alloc, &new, &named, true, first..past)?
     };
+    let inside = Sparse::from_block(past, inside);
+    if let Some(listed) = few_named(old, &named, first..past) {
+        return put_few(alloc, old, &inside, &named, listed, first..past);
+    }
     let outside = keep_side(alloc, old, &named, false, first..past)?;
     let outside = Sparse::from_block(past, outside);
-    let inside = Sparse::from_block(past, inside);
     join_rows(alloc, &outside, &inside, Joining::Right, first..past)
 }
 
@@ -129,9 +133,6 @@ fn keep_side(
         → block_content block i j ≡ one_side inside size a.now.cols rows cols (content_of a.now) i j) }
 {
     let (first, past) = (range.start, range.end);
-    if !inside && let Some(listed) = few_named(a, named, first..past) {
-        return keep_outside(alloc, a, named, listed, first, past);
-    }
     let count = a.fibers_in(first..past).len();
     let mut lists = FiberLists::with_capacity(alloc, count)?;
     let mut rest = walk_rows(a, range);

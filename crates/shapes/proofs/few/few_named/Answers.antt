@@ -1,7 +1,7 @@
 -- What the members have in the range, the list names there.
 use Rattle.std.proofs.Common.{◌∙◌}
 use Rattle.shapes.proofs.ListLaws.{sorted_has}
-use Rattle.shapes.proofs.outside.few_named.Goals as goal
+use Rattle.shapes.proofs.few.few_named.Goals as goal
 
 pub returns-clause-part : goal.returns-clause-part
 returns-clause-part c rows cols size named =
