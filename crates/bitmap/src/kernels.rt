@@ -1,5 +1,6 @@
 //! What is done to all words of a bitmap at once, 64 places to a word of bits.
-ghost use Rattle.std.specs.Prelude.{◌≡◌, ◌*◌, ◌/◌, ◌+◌, ℕ, if◌then◌else◌, IfOk, None, Some, length, map, slice_index};
+ghost use Rattle.std.specs.Prelude.{◌≡◌, ◌<◌, ◌≤◌, ◌*◌, ◌/◌, ◌+◌, ◌^◌, ℕ, if◌then◌else◌, IfOk, None, Some, false};
+ghost use Rattle.std.specs.Prelude.{length, map, slice_index};
 ghost use Rattle.std.specs.Option.{option_map};
 ghost use Rattle.algebra.specs.Operators.{answer_domain, eval_of};
 ghost use Rattle.algebra.specs.Value.{cast_of};
@@ -25,6 +26,28 @@ impl Bitmap {
             → slice_index result.now (place_of self.now.cols i j) ≡ word }
     {
         &self.words
+    }
+
+    /// The bitmap with these words at the places whose bits are set, row by row. It takes both lists over, and no
+    /// memory. The bits are counted, 64 at once.
+    pub fn of_bits(rows: u64, cols: u64, bits: Vec<u64>, words: Vec<u64>) -> Bitmap
+        requires small { rows * cols ≤ 2 ^ 24 }
+        requires words { length words.items ≡ rows * cols }
+        requires bits { length bits.items ≡ rows * cols / 64 + 1 }
+        requires none_behind { (at : ℕ) → rows * cols ≤ at → has_bit bits.items at ≡ false }
+        ensures rows { result.rows ≡ rows }
+        ensures cols { result.cols ≡ cols }
+        ensures content { (i j : ℕ) → i < rows → j < cols → word_at result.entries i j
+            ≡ (if has_bit bits.items (place_of cols i j) then Some (slice_index words.items (place_of cols i j))
+            else None) }
+    {
+        Bitmap {
+            rows,
+            cols,
+            count: count_ones(&bits),
+            bits,
+            words,
+        }
     }
 
     /// A bitmap with entries at the same positions, whose words are others: one for each place, row by row.

@@ -232,7 +232,7 @@ pub(crate) fn sum_many(
 }
 
 /// Sets the bits of the places that are marked, and no others.
-fn set_marked(bits: &mut [u64], marks: &[bool])
+pub(crate) fn set_marked(bits: &mut [u64], marks: &[bool])
     requires { length marks.now ≡ 64 * length bits.old }
     ensures length { length bits.new ≡ length bits.old }
     ensures bits { (at : ℕ) → at < length marks.now → has_bit bits.new at ≡ slice_index_or marks.now at false }
