@@ -3,6 +3,7 @@ ghost use Rattle.std.specs.Prelude.{◌≡◌, ℕ, ◌<◌, ◌≤◌, ◌*◌,
 ghost use Rattle.std.specs.Option.{option_or};
 ghost use Rattle.model.specs.Entries.{entries_of};
 ghost use Rattle.model.specs.Object.{with_entry, without_entry, IsWithin};
+ghost use Rattle.store.specs.Forms.{of_bitmap};
 
 use crate::forms::{into_bitmap, put_into, sparse_of};
 use crate::{RowBlock, Sparse};
@@ -253,7 +254,8 @@ impl Store {
         }
     }
 
-    /// Keeps a store as a bitmap from now on, where it has entries at many of its positions and there is memory for it.
+    /// Keeps a store as a bitmap from now on, where it has entries at many of its positions, and a column that has few
+    /// as lists. Where there is no memory for that, it stays as it is.
     pub fn settle(&mut self, alloc: Global)
         ensures { self.new ≡ self.old }
     {
@@ -262,21 +264,40 @@ impl Store {
         *self = store.settled(alloc);
     }
 
-    /// The store as a bitmap, where it has entries at many of its positions and there is memory for it.
+    /// The store in the form that suits it, where there is memory for that.
     fn settled(self, alloc: Global) -> Store
         ensures { result ≡ self }
     {
-        let sparse = match self.kept {
-            Kept::Sparse(sparse) => sparse,
-            Kept::Bitmap(bitmap) => return Store::from_bitmap(bitmap),
-        };
-        if !is_bitmap_better(&sparse) {
-            return Store::from_sparse(sparse);
+        match self.kept {
+            Kept::Sparse(sparse) => settled_lists(alloc, sparse),
+            Kept::Bitmap(bitmap) => settled_bitmap(alloc, bitmap),
         }
-        match into_bitmap(alloc, sparse) {
-            Ok(bitmap) => Store::from_bitmap(bitmap),
-            Err(sparse) => Store::from_sparse(sparse),
-        }
+    }
+}
+
+/// The store that lists are: a bitmap, where many positions have an entry and there is memory for it.
+fn settled_lists(alloc: Global, sparse: Sparse) -> Store
+    ensures { result ≡ sparse }
+{
+    if !is_bitmap_better(&sparse) {
+        return Store::from_sparse(sparse);
+    }
+    match into_bitmap(alloc, sparse) {
+        Ok(bitmap) => Store::from_bitmap(bitmap),
+        Err(sparse) => Store::from_sparse(sparse),
+    }
+}
+
+/// The store that a bitmap is: lists, where it is a column with few entries and there is memory for them.
+fn settled_bitmap(alloc: Global, bitmap: Bitmap) -> Store
+    ensures { result ≡ of_bitmap bitmap }
+{
+    if bitmap.cols() != 1 || bitmap.rows() / TIMES <= bitmap.nvals() {
+        return Store::from_bitmap(bitmap);
+    }
+    match sparse_of(alloc, &bitmap) {
+        Ok(sparse) => Store::from_sparse(sparse),
+        Err(NoMemory) => Store::from_bitmap(bitmap),
     }
 }
 
