@@ -43,14 +43,19 @@ pub mask-fits : (out : Out Signature) (op : Operation Signature) → operation_f
     → (rows_of mask.shape ≡ rows_of out.c.shape) × (cols_of mask.shape ≡ cols_of out.c.shape)
 mask-fits out op accepted mask is = same_shape-rows mask.shape out.c.shape (rw is at (accepted-mask out op accepted))
 
--- the accumulator, where there is one, is offered
+-- the accumulator, where there is one, accumulates words of the output
+accumulator-passes : (out : Out Signature) (op : Operation Signature) → operation_fault out op ≡ None
+    → (name : OpName) → out.accum ≡ Some name → accumulates out.c.domain name ≡ true
+accumulator-passes out op accepted name is = rw is at (accepted-accumulator out op accepted)
+
+-- ..and is offered
 pub accumulator-offered : (out : Out Signature) (op : Operation Signature) → operation_fault out op ≡ None
     → (name : OpName) → out.accum ≡ Some name → offers name.kind name.domain ≡ true
 accumulator-offered out op accepted name is =
     let domain = out.c.domain in
-    let passes : accumulates domain name ≡ true = rw is at (accepted-accumulator out op accepted) in
     (and_parts (offers name.kind name.domain) (same_domain name.domain domain)
-    (and_parts (offers name.kind name.domain && same_domain name.domain domain) (same_domain (answer_domain name.kind name.domain) domain) passes).0).0
+    (and_parts (offers name.kind name.domain && same_domain name.domain domain) (same_domain (answer_domain name.kind name.domain) domain)
+    (accumulator-passes out op accepted name is)).0).0
 
 -- ---- operations that transpose no input
 
@@ -111,7 +116,11 @@ module _ (task : Task) where
       × (cols_of mask.signature.shape ≡ cols_of task.out.c.signature.shape)
   task-mask mask is = mask-fits known_out known task.accepted mask.signature (ap (option_map known_of) is)
 
-  -- the accumulator, where there is one, is offered
+  -- the accumulator, where there is one, accumulates words of the output
+  pub task-accumulates : (op : OpName) → task.out.accum ≡ Some op → accumulates task.out.c.signature.domain op ≡ true
+  task-accumulates op is = accumulator-passes known_out known task.accepted op is
+
+  -- ..and is offered
   pub task-accumulator : (op : OpName) → task.out.accum ≡ Some op → offers op.kind op.domain ≡ true
   task-accumulator op is = accumulator-offered known_out known task.accepted op is
 

@@ -1,21 +1,156 @@
--- A task that writes all of its output leaves there what it computes.
-use Rattle.std.proofs.Common.{◌≡◌, ◌∙◌, ℕ, None, refl}
+-- What a task that writes all of its output along bitmaps leaves there.
+use Rattle.std.proofs.Common.{◌≡◌, ◌∙◌, ℕ, ◌<◌, ◌*◌, ◌&&◌, true, is_some, ltb, get_or, Bor, List, Option, Some, None, Result, Ok, Err, refl, sym, ap, inl, inr, arith}
+use Rattle.std.specs.Prelude.{IfOk, IfSome}
+use Rattle.std.proofs.lemmas.Bool.{and_parts, cases_Bool}
+use Rattle.std.proofs.lemmas.Bool.Decides.{nat_tests}
+use Rattle.algebra.proofs.Casts.{cast_own}
+use Rattle.algebra.specs.declared.binary.BinaryOp.{BinaryOp}
+use Rattle.algebra.specs.declared.domain.Domain.{Domain}
+use Rattle.algebra.specs.declared.operator_names.OpName.{OpName}
+use Rattle.algebra.specs.OperatorNames.{op_named}
+use Rattle.algebra.specs.Operators.{answer_domain, eval_of, offers}
+use Rattle.algebra.specs.Value.{IsWordOf, cast_of, same_domain}
+use Rattle.bitmap.specs.Bitmaps.{Held, place_of}
+use Rattle.bitmap.proofs.PlaceLaws.{place_inside}
+use Rattle.kernel.specs.declared.bitmaps.Writing.{Writing}
+use Rattle.kernel.specs.declared.bitmaps.Writing.TheVariants.{Anew, Over}
 use Rattle.kernel.specs.declared.task.Task.{Task}
-use Rattle.kernel.specs.Bitmaps.{WritesAll}
+use Rattle.kernel.specs.Bitmaps.{HasAll, IsAnew, WritesAll, left_by}
 use Rattle.kernel.specs.Inputs.{object_of}
-use Rattle.kernel.specs.Spread.{computed_in}
+use Rattle.kernel.specs.Spread.{computed_in, spread}
 use Rattle.kernel.specs.Tasks.{operation_of, out_of}
-use Rattle.kernel.proofs.Accepted.{straight-means}
+use Rattle.kernel.proofs.Accepted.{straight-means, task-accumulates}
+use Rattle.kernel.proofs.MaskLaws.{landed-spread, written_all}
+use Rattle.kernel.proofs.Spread.{spread-accumulated}
+use Rattle.model.specs.ElementWise.{of_either}
+use Rattle.model.specs.declared.call.Region.{Region}
+use Rattle.model.specs.Entries.{IsInside, word_at}
+use Rattle.model.specs.Fault.{accumulates}
 use Rattle.model.specs.Lent.{operation_lent}
-use Rattle.model.specs.Operations.{region_written}
-use Rattle.model.specs.WriteBack.{result_of}
+use Rattle.model.specs.Indices.{All}
+use Rattle.model.specs.Object.{Content, cols_of, rows_of, signature_of}
+use Rattle.model.specs.Operations.{computed, is_written_by, region_written}
+use Rattle.model.specs.Regions.{cols_in, filled, is_listed, rows_in}
+use Rattle.model.specs.WriteBack.{accumulated, result_of}
+use Rattle.model.proofs.ObjectLaws.{cast_content-words, same_domain-true}
 use Rattle.model.proofs.OldLaws.{region-renamed}
+use Rattle.store.proofs.Content.{nothing_outside}
+use Rattle.store.specs.Stored.{Stored, content_of}
 
-pub all-written : (task : Task) → WritesAll task.out → region_written (operation_lent task.operation) ≡ None
-    → (i j : ℕ) → result_of (out_of task) (operation_of task) i j ≡ computed_in (out_of task) (operation_of task) i j
-all-written task writes region i j =
+all-anew : (task : Task) → WritesAll task.out Anew → region_written (operation_lent task.operation) ≡ None
+    → (i j : ℕ) → computed_in (out_of task) (operation_of task) i j ≡ result_of (out_of task) (operation_of task) i j
+all-anew task writes region i j =
     let out = out_of task in
     let op = operation_of task in
     let none : region_written op ≡ None = region-renamed object_of (operation_lent task.operation) ∙ region in
     let mask : out.mask ≡ None = rw writes.mask refl in
-    straight-means out op task.straight i j ∙ rw (mask, writes.complement, writes.accum, none) refl
+    sym (straight-means out op task.straight i j ∙ rw (mask, writes.complement, writes.writing_is, none) refl)
+
+-- a function of one word alone that changes none accumulates
+either-accumulated : (f : ℕ → ℕ) (op : OpName) (old new : Option ℕ) → ((word : ℕ) → old ≡ Some word → f word ≡ word)
+    → ((word : ℕ) → new ≡ Some word → f word ≡ word)
+    → of_either f f (eval_of op.kind op.domain) old new ≡ accumulated op old new
+either-accumulated f op None None olds news = refl
+either-accumulated f op (Some x) None olds news = ap Some (olds x refl)
+either-accumulated f op None (Some y) olds news = ap Some (news y refl)
+either-accumulated f op (Some x) (Some y) olds news = refl
+
+-- a cast from an accumulator's domain to that of its answer changes no word of the output's
+answer_own : (domain : Domain) (op : OpName) → accumulates domain op ≡ true → (word : ℕ) → IsWordOf domain word
+    → cast_of op.domain (answer_domain op.kind op.domain) word ≡ word
+answer_own domain op passes word is =
+    let parts = and_parts (offers op.kind op.domain && same_domain op.domain domain) (same_domain (answer_domain op.kind op.domain) domain) passes in
+    let from : op.domain ≡ domain = same_domain-true op.domain domain (and_parts (offers op.kind op.domain) (same_domain op.domain domain) parts.0).1 in
+    let to : answer_domain op.kind op.domain ≡ domain = same_domain-true (answer_domain op.kind op.domain) domain parts.1 in
+    ap (λ (d : Domain). cast_of op.domain d word) to ∙ ap (λ (d : Domain). cast_of d domain word) from ∙ cast_own domain word is
+
+module _ (task : Task) (old : Bor Held) (op : BinaryOp) (writes : WritesAll task.out (Over old op)) where
+  held_is : (i j : ℕ) → word_at old.now.entries i j ≡ (out_of task).c.content i j
+  held_is i j = ap (λ (s : Stored). content_of s i j) writes.writing_is.1
+
+  accumulated_is : (i j : ℕ)
+      → accumulated (op_named op) ((out_of task).c.content i j) (computed_in (out_of task) (operation_of task) i j)
+      ≡ result_of (out_of task) (operation_of task) i j
+  accumulated_is i j =
+      let out = out_of task in
+      let ops = operation_of task in
+      let mask : out.mask ≡ None = rw writes.mask refl in
+      let some : is_some out.accum ≡ true = rw writes.writing_is.0 refl in
+      let lands : written_all out (spread out ops) i j ≡ accumulated (op_named op) (out.c.content i j) (spread out ops i j) = rw (mask, writes.complement, writes.writing_is.0) refl in
+      ap (accumulated (op_named op) (out.c.content i j)) (spread-accumulated out ops some i j)
+      ∙ sym (straight-means out ops task.straight i j ∙ (landed-spread out (is_written_by out.c.shape ops) (computed_in out ops) i j ∙ lands))
+
+  all-over : (i j : ℕ) (word : Option ℕ) → word ≡ computed_in (out_of task) (operation_of task) i j
+      → left_by (Over old op) i j word ≡ result_of (out_of task) (operation_of task) i j
+  all-over i j word same =
+      let out = out_of task in
+      let t = computed (signature_of out.c) (operation_of task) in
+      let alone : ℕ → ℕ = cast_of op.domain (answer_domain op.kind op.domain) in
+      let own = answer_own out.c.domain (op_named op) (task-accumulates task (op_named op) writes.writing_is.0) in
+      ap (λ (o : Option ℕ). of_either alone alone (eval_of op.kind op.domain) o word) (held_is i j)
+      ∙ (ap (of_either alone alone (eval_of op.kind op.domain) (out.c.content i j)) same
+      ∙ (either-accumulated alone (op_named op) (out.c.content i j) (computed_in out (operation_of task) i j)
+      (λ w is. own w (task.out.c.is_object.words i j w is))
+      (λ w is. own w (cast_content-words t.domain out.c.domain t.content i j w is))
+      ∙ accumulated_is i j))
+
+-- what is left of a bitmap that has all that is computed
+pub all-written : (task : Task) (writing : Writing) (had made : Held) → WritesAll task.out writing
+    → (IsAnew writing → region_written (operation_lent task.operation) ≡ None)
+    → HasAll (rows_of task.out.c.signature.shape) (cols_of task.out.c.signature.shape)
+    (computed_in (out_of task) (operation_of task)) had
+    → made.rows ≡ had.rows → made.cols ≡ had.cols
+    → ((i j : ℕ) → word_at made.entries i j ≡ left_by writing i j (word_at had.entries i j))
+    → HasAll (rows_of task.out.c.signature.shape) (cols_of task.out.c.signature.shape)
+    (result_of (out_of task) (operation_of task)) made
+all-written task Anew had made writes region has rows cols left = record {
+  rows_are = rows ∙ has.rows_are;
+  cols_are = cols ∙ has.cols_are;
+  words = λ i j. left i j ∙ (has.words i j ∙ all-anew task writes (region tt) i j);
+}
+all-written task (Over old op) had made writes region has rows cols left = record {
+  rows_are = rows ∙ has.rows_are;
+  cols_are = cols ∙ has.cols_are;
+  words = λ i j. left i j ∙ all-over task old op writes i j (word_at had.entries i j) (has.words i j);
+}
+
+-- ---- bitmaps that are found
+
+-- one that has all of a map has all of one that is the same
+pub if_same : {E : Type 0} (result : Result (Option Held) E) (rows cols rows' cols' : ℕ) (c d : Content)
+    → rows ≡ rows' → cols ≡ cols' → ((i j : ℕ) → c i j ≡ d i j)
+    → IfOk result (λ found. IfSome found (HasAll rows cols c))
+    → IfOk result (λ found. IfSome found (HasAll rows' cols' d))
+if_same (Ok (Some b)) rows cols rows' cols' c d same_rows same_cols same has = record {
+  rows_are = has.rows_are ∙ same_rows;
+  cols_are = has.cols_are ∙ same_cols;
+  words = λ i j. has.words i j ∙ same i j;
+}
+if_same (Ok None) rows cols rows' cols' c d same_rows same_cols same has = has
+if_same (Err e) rows cols rows' cols' c d same_rows same_cols same has = has
+
+listed_all : (m n i j : ℕ) → is_listed m n All All i j ≡ (ltb i m && ltb j n)
+listed_all m n i j =
+    elim (cases_Bool (ltb i m)) [
+      | inl row ↦ elim (cases_Bool (ltb j n)) [ inl col ↦ rw (row, col) refl | inr past ↦ rw (row, past) refl ]
+      | inr below ↦ rw below refl
+    ]
+
+-- a word at each place is one at each position
+pub filled-all : (rows cols word : ℕ) (region : Region) (words : List ℕ) (made : Held)
+    → rows_in region ≡ All → cols_in region ≡ All
+    → made.rows ≡ rows → made.cols ≡ cols → IsInside made.rows made.cols made.entries
+    → ((at : ℕ) → at < rows * cols → get_or words at 0 ≡ word)
+    → ((i j : ℕ) → i < rows → j < cols → word_at made.entries i j ≡ Some (get_or words (place_of cols i j) 0))
+    → HasAll rows cols (filled rows cols (rows_in region) (cols_in region) word) made
+filled-all rows cols word region words made all_rows all_cols rows_are cols_are inside each content = record {
+  rows_are = rows_are;
+  cols_are = cols_are;
+  words = λ i j. rw (all_rows, all_cols, listed_all rows cols i j) (elim (cases_Bool (ltb i rows && ltb j cols)) [
+    | inl here ↦
+        let i_in : i < rows = grind (arith, nat_tests) in
+        let j_in : j < cols = grind (arith, nat_tests) in
+        rw here (content i j i_in j_in ∙ ap Some (each (place_of cols i j) (place_inside rows cols i j i_in j_in)))
+    | inr out ↦ rw out (nothing_outside made.rows made.cols made.entries i j inside (rw (rows_are, cols_are) out))
+  ]);
+}

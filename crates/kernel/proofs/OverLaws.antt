@@ -1,11 +1,14 @@
 -- Operations whose output's old content is beside the stores of the other roles.
-use Rattle.std.proofs.Common.{◌≡◌, ◌∙◌, ℕ, Bool, Bor, true, false, if◌then◌else◌, Option, Some, None, refl, subst, sym}
+use Rattle.std.proofs.Common.{◌≡◌, ◌∙◌, ℕ, Bool, Bor, true, false, if◌then◌else◌, Option, Some, None, Result, refl, subst, sym}
+use Rattle.std.specs.Prelude.{IfOk, IfSome}
+use Rattle.bitmap.specs.Bitmaps.{Held}
 use Rattle.calls.specs.declared.role.Role.{Role}
 use Rattle.calls.specs.declared.role.Role.TheVariants.{Old, Mask, First, Second}
 use Rattle.calls.specs.declared.role.Roles.{Roles}
 use Rattle.calls.specs.Recipes.{known_by_role}
 use Rattle.calls.specs.Stores.{IsStoreOf}
 use Rattle.kernel.specs.declared.task.Task.{Task}
+use Rattle.kernel.specs.Bitmaps.{HasAll}
 use Rattle.kernel.specs.Blocks.{AgreesUnder, HasShape}
 use Rattle.kernel.specs.Overs.{IsUnwritten, beside}
 use Rattle.kernel.specs.Spread.{spread}
@@ -20,7 +23,7 @@ use Rattle.model.specs.declared.call.Out.{Out}
 use Rattle.model.specs.declared.shape.Signature.{Signature}
 use Rattle.model.specs.Fault.{operation_fault}
 use Rattle.model.specs.Object.{Object, cols_of, rows_of}
-use Rattle.model.specs.WriteBack.{mask_set, reads_old}
+use Rattle.model.specs.WriteBack.{mask_set, reads_old, result_of}
 use Rattle.store.specs.Stored.{Block, Stored}
 
 -- an old store that is there is read, and fits
@@ -80,3 +83,13 @@ unwritten-task task mask out op rows block same_out same_op set agrees =
     } in
     subst (λ (o : Out Object). IsUnwritten o op 0 rows block) same_out
     (subst (λ (p : Operation Object). IsUnwritten (out_of task) p 0 rows block) same_op here)
+
+-- a bitmap of all that a task leaves is one of all that is left
+pub bitmap-over : {E : Type 0} (result : Result (Option Held) E) (task : Task) (out : Out Object) (op : Operation Object)
+    → out_of task ≡ out → operation_of task ≡ op
+    → IfOk result (λ found. IfSome found (HasAll (rows_of (out_of task).c.shape) (cols_of (out_of task).c.shape)
+    (result_of (out_of task) (operation_of task))))
+    → IfOk result (λ found. IfSome found (HasAll (rows_of out.c.shape) (cols_of out.c.shape) (result_of out op)))
+bitmap-over result task out op same_out same_op has =
+    subst (λ (p : Operation Object). IfOk result (λ found. IfSome found (HasAll (rows_of out.c.shape) (cols_of out.c.shape) (result_of out p)))) same_op
+    (subst (λ (o : Out Object). IfOk result (λ found. IfSome found (HasAll (rows_of o.c.shape) (cols_of o.c.shape) (result_of o (operation_of task))))) same_out has)

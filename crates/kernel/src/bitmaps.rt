@@ -5,45 +5,131 @@ ghost use Rattle.algebra.specs.IndexOperators.{offers_index, takes_index};
 ghost use Rattle.algebra.specs.Operators.{offers};
 ghost use Rattle.algebra.specs.Value.{IsWordOf, are_compatible};
 ghost use Rattle.kernel.specs.Accepts.{Accepts};
-ghost use Rattle.kernel.specs.Bitmaps.{HasAll, WritesAll};
+ghost use Rattle.kernel.specs.Bitmaps.{FitsOver, HasAll, IsAnew, WritesAll, left_by};
+ghost use Rattle.kernel.specs.Factors.{AreFactors, cols_of_product, inner_of, rows_of_product};
 ghost use Rattle.kernel.specs.Inputs.{known_of, object_of};
+ghost use Rattle.kernel.specs.Spread.{computed_in};
 ghost use Rattle.kernel.specs.Tasks.{operation_of, out_of};
 ghost use Rattle.model.specs.ElementWise.{applied, selected};
 ghost use Rattle.model.specs.Entries.{word_at};
+ghost use Rattle.model.specs.Indices.{All};
 ghost use Rattle.model.specs.Lent.{operation_lent};
 ghost use Rattle.model.specs.Object.{cast_content, cols_of, in_domain, rows_of};
-ghost use Rattle.model.specs.Operations.{combined, computed_of_one, computed_of_two, operation as computed};
+ghost use Rattle.model.specs.Operations.{combined, computed_of_one, computed_of_two, multiplied};
+ghost use Rattle.model.specs.Operations.{operation as computed};
 ghost use Rattle.model.specs.Operations.{region_put, region_written};
+ghost use Rattle.model.specs.Regions.{cols_in, filled, rows_in};
 ghost use Rattle.model.specs.Renamed.{renamed_operation};
 ghost use Rattle.model.specs.Table.{is_offered, offers_one, offers_two, plan_of, plan_of_one, plan_of_two};
 ghost use Rattle.model.specs.WriteBack.{result_of};
+ghost use Rattle.store.specs.Stored.{content_of};
 
 use crate::computing::answer_of;
 use crate::input::Input;
+use crate::output::accumulator_of;
 use crate::task::Task;
-use algebra::{Domain, FunctionName, IndexName, OpName};
+use algebra::{BinaryOp, Domain, FunctionName, IndexName, OpName, SemiringName};
 use bitmap::Bitmap;
-use calls::{OneInput, Positions, Signature, TwoInputs};
+use calls::{OneInput, Positions, Region, Shape, Signature, TwoInputs};
 use elementwise::{apply_bitmap, select_bitmap};
 use model::{Lent, NoMemory};
+use spgemm::{multiply_bitmap, suits_bitmap};
 use std::alloc::Global;
 use store::Form;
 
-/// All that a task leaves in its output, where it writes all of that and its operation goes along bitmaps.
+/// How a task along bitmaps leaves what it computes in all of its output.
+#[derive(Clone, Copy)]
+enum Writing<'a> {
+    /// In the place of what was there.
+    Anew,
+    /// Accumulated with what was there, by an operator.
+    Over { old: &'a Bitmap, op: BinaryOp },
+}
+
+/// All that a task leaves in its output, where no mask keeps some of that as it was, and it goes along bitmaps.
 pub(crate) fn task_bitmap(alloc: Global, task: &Task<'_>) -> Result<Option<Bitmap>, NoMemory>
     ensures { IfOk result (λ found. IfSome found
         (HasAll (rows_of task.now.out.c.signature.shape) (cols_of task.now.out.c.signature.shape)
         (result_of (out_of task.now) (operation_of task.now)))) }
 {
-    if !writes_all(task) {
+    let Some(writing) = writing_of(task) else {
         return Ok(None);
-    }
+    };
+    let Some(computed) = computed_bitmap(alloc, task, writing)? else {
+        return Ok(None);
+    };
+    let written = write(alloc, writing, computed)?;
+    Ok(Some(written))
+}
+
+/// What a task computes, in the output's domain.
+fn computed_bitmap(
+    alloc: Global,
+    task: &Task<'_>,
+    writing: Writing<'_>,
+) -> Result<Option<Bitmap>, NoMemory>
+    ensures all { IfOk result (λ found. IfSome found
+        (HasAll (rows_of task.now.out.c.signature.shape) (cols_of task.now.out.c.signature.shape)
+        (computed_in (out_of task.now) (operation_of task.now)))) }
+    ensures region { IfOk result (λ found. IfSome found (λ _. IsAnew writing.entry
+        → region_written (operation_lent task.now.operation) ≡ None)) }
+{
     let c = task.out.c.signature;
-    let Some(bitmap) = operation_bitmap(alloc, c, task.operation)? else {
+    let Some(bitmap) = answers_bitmap(alloc, task, writing)? else {
         return Ok(None);
     };
     let from = answer_of(c, task.operation);
     Ok(Some(bitmap_in_domain(bitmap, from, c.domain)))
+}
+
+/// What a task computes, in the domain of its answers.
+fn answers_bitmap(
+    alloc: Global,
+    task: &Task<'_>,
+    writing: Writing<'_>,
+) -> Result<Option<Bitmap>, NoMemory>
+    ensures all { IfOk result (λ found. IfSome found
+        (HasAll (rows_of task.now.out.c.signature.shape) (cols_of task.now.out.c.signature.shape)
+        (computed task.now.out.c.signature (operation_of task.now)))) }
+    ensures region { IfOk result (λ found. IfSome found (λ _. IsAnew writing.entry
+        → region_written (operation_lent task.now.operation) ≡ None)) }
+{
+    let c = task.out.c.signature;
+    match writing {
+        Writing::Anew => operation_bitmap(alloc, c, task.operation),
+        Writing::Over { .. } => accumulated_bitmap(alloc, c, task.operation),
+    }
+}
+
+/// How a task writes all of its output; None where a mask keeps some of that, or what it accumulates with is no bitmap.
+fn writing_of<'a>(task: &Task<'a>) -> Option<Writing<'a>>
+    ensures { IfSome result (WritesAll task.now.out) }
+{
+    let out = &task.out;
+    if out.mask.is_some() || out.desc.complement {
+        return None;
+    }
+    let Some(op) = accumulator_of(task) else {
+        return Some(Writing::Anew);
+    };
+    match out.c.store.form() {
+        Form::Bitmap(old) => Some(Writing::Over { old, op }),
+        Form::Sparse(_) => None,
+    }
+}
+
+/// What is left where a bitmap was computed.
+fn write(alloc: Global, writing: Writing<'_>, computed: Bitmap) -> Result<Bitmap, NoMemory>
+    requires { FitsOver writing computed }
+    ensures rows { IfOk result (λ b. b.rows ≡ computed.rows) }
+    ensures cols { IfOk result (λ b. b.cols ≡ computed.cols) }
+    ensures content { IfOk result (λ b. (i j : ℕ) → word_at b.entries i j
+        ≡ left_by writing.entry i j (word_at computed.entries i j)) }
+{
+    match writing {
+        Writing::Anew => Ok(computed),
+        Writing::Over { old, op } => Bitmap::unite(alloc, old, &computed, op),
+    }
 }
 
 /// A bitmap of words of one domain in another, in the same memory.
@@ -59,12 +145,23 @@ fn bitmap_in_domain(mut bitmap: Bitmap, from: Domain, to: Domain) -> Bitmap
     bitmap
 }
 
-/// Whether a task keeps nothing of what its output had.
-fn writes_all(task: &Task<'_>) -> bool
-    ensures { result ≡ true → WritesAll task.now.out }
+/// What an operation computes that is accumulated, in the domain of its answers, where it goes along bitmaps.
+fn accumulated_bitmap(
+    alloc: Global,
+    c: Signature,
+    operation: Lent<'_, Input<'_>>,
+) -> Result<Option<Bitmap>, NoMemory>
+    requires accepts { Accepts (plan_of c (renamed_operation known_of (operation_lent operation))) c }
+    requires offered { is_offered (operation_lent operation) ≡ true }
+    ensures { IfOk result (λ found. IfSome found (HasAll (rows_of c.shape) (cols_of c.shape)
+        (computed c (renamed_operation object_of (operation_lent operation.entry))))) }
 {
-    let out = &task.out;
-    out.mask.is_none() && !out.desc.complement && out.accum.is_none()
+    match operation {
+        Lent::Fill { value, region } => {
+            filled_bitmap(alloc, c.shape, region, c.domain.wrapped(value))
+        }
+        operation => operation_bitmap(alloc, c, operation),
+    }
 }
 
 /// What an operation computes, in the domain of its answers, where it goes along bitmaps. It has no region.
@@ -121,7 +218,7 @@ fn two_bitmap(
         (computed_of_two computes (object_of a.entry) (object_of b.entry)))) }
 {
     match computes {
-        TwoInputs::Multiply { .. } => Ok(None),
+        TwoInputs::Multiply { form, semiring } => multiplied_bitmap(alloc, form, semiring, a, b),
         TwoInputs::Combine { positions, op } => combined_bitmap(alloc, positions, op, a, b),
     }
 }
@@ -207,5 +304,75 @@ fn combined_bitmap(
             let made = Bitmap::intersect(alloc, left, right, op)?;
             Ok(Some(made))
         }
+    }
+}
+
+/// The product of a vector that is a bitmap and a matrix of lists, where that is better made as a bitmap.
+fn multiplied_bitmap(
+    alloc: Global,
+    form: model::Form,
+    semiring: SemiringName,
+    a: Input<'_>,
+    b: Input<'_>,
+) -> Result<Option<Bitmap>, NoMemory>
+    requires factors { AreFactors form a.store.now b.store.now }
+    requires offered { offers_two (TwoInputs.Multiply form semiring) ≡ true }
+    ensures { IfOk result (λ found. IfSome found
+        (HasAll (rows_of_product form a.entry.store.now b.entry.store.now) (cols_of_product form b.entry.store.now)
+        (multiplied form semiring (inner_of form a.entry.store.now) (content_of a.entry.store.now)
+        (content_of b.entry.store.now)))) }
+{
+    let model::Form::VectorMatrix = form else {
+        return Ok(None);
+    };
+    let (Form::Bitmap(vector), Form::Sparse(matrix)) = (a.store.form(), b.store.form()) else {
+        return Ok(None);
+    };
+    if !suits_bitmap(vector, matrix) {
+        return Ok(None);
+    }
+    let Some(semiring) = semiring.resolve() else {
+        unreachable!();
+    };
+    let made = multiply_bitmap(alloc, vector, matrix, semiring)?;
+    Ok(Some(made))
+}
+
+/// The greatest number of positions of a bitmap.
+const MOST_PLACES: u64 = 1 << 24;
+
+/// A word at all positions of a shape, where a region has these and they aren't too many.
+fn filled_bitmap(
+    alloc: Global,
+    shape: Shape,
+    region: &Region,
+    word: u64,
+) -> Result<Option<Bitmap>, NoMemory>
+    ensures { IfOk result (λ found. IfSome found (HasAll (rows_of shape) (cols_of shape)
+        (filled (rows_of shape) (cols_of shape) (rows_in region.now) (cols_in region.now) word))) }
+{
+    let (rows, cols) = (shape.rows(), shape.cols());
+    let places = rows.saturating_mul(cols);
+    if !has_all(region) || places > MOST_PLACES {
+        return Ok(None);
+    }
+    let words = vec![in alloc; word; places as usize]?;
+    let Ok(bitmap) = Bitmap::full(alloc, rows, cols, words) else {
+        return Err(NoMemory);
+    };
+
+    // A bitmap has no entry outside its shape.
+    prove_eq!(bitmap.rows(), rows);
+    Ok(Some(bitmap))
+}
+
+/// Whether a region names all rows and columns.
+fn has_all(region: &Region) -> bool
+    ensures rows { result ≡ true → rows_in region.now ≡ All }
+    ensures cols { result ≡ true → cols_in region.now ≡ All }
+{
+    match region {
+        Region::One(rows) => rows.listed().is_none(),
+        Region::Two(rows, cols) => rows.listed().is_none() && cols.listed().is_none(),
     }
 }

@@ -1,11 +1,12 @@
 //! Operations that take over what their output had.
-ghost use Rattle.std.specs.Prelude.{◌≡◌, ◌<◌, ◌≤◌, ℕ, IfOk, true};
+ghost use Rattle.std.specs.Prelude.{◌≡◌, ◌<◌, ◌≤◌, ℕ, IfOk, IfSome, None, true};
 ghost use Rattle.std.specs.Option.{option_map};
 ghost use Rattle.algebra.specs.OperatorNames.{op_named};
 ghost use Rattle.calls.specs.Recipes.{known_by_role, meaning, operation_with, out_with};
 ghost use Rattle.calls.specs.Straight.{IsStraight};
 ghost use Rattle.calls.specs.declared.role.Role.{Role as AnyRole};
 ghost use Rattle.calls.specs.declared.role.Role.TheVariants.{Mask as MaskRole};
+ghost use Rattle.kernel.specs.Bitmaps.{HasAll};
 ghost use Rattle.kernel.specs.Blocks.{HasShape};
 ghost use Rattle.kernel.specs.Overs.{IsUnwritten, beside};
 ghost use Rattle.kernel.specs.Takes.{Takes, map_in};
@@ -14,10 +15,12 @@ ghost use Rattle.model.specs.Object.{Content, cols_of, rows_of};
 ghost use Rattle.model.specs.WriteBack.{mask_set};
 ghost use Rattle.store.specs.Stored.{content_of};
 
+use crate::bitmaps::task_bitmap;
 use crate::computing::computed_rows;
 use crate::output::mask_of;
 use crate::piece::taken;
 use algebra::BinaryOp;
+use bitmap::Bitmap;
 use calls::{Accepted, Roles};
 use masks::{Mask, MaskTest, StoredMask, write_into};
 use model::NoMemory;
@@ -25,7 +28,7 @@ use std::alloc::Global;
 use store::{RowBlock, Store};
 
 /// All rows of what an operation leaves, of the stores that take its roles and of what its output had, which is taken
-/// over: where few entries are written, they are put into it.
+/// over: where few entries are written, they are put into it. Where it goes along bitmaps, all is made anew.
 pub fn computed_over(
     alloc: Global,
     accepted: &Accepted,
@@ -40,6 +43,9 @@ pub fn computed_over(
     ensures content { IfOk result (λ store. (i j : ℕ) → content_of store i j
         ≡ meaning accepted.now.out accepted.now.operation (λ role. map_in (beside old stores.now role)) i j) }
 {
+    if let Some(bitmap) = bitmap_over(alloc, accepted, &old, stores)? {
+        return Ok(Store::from_bitmap(bitmap));
+    }
     let mut old = old;
     let t = unwritten_rows(alloc, accepted, &old, stores)?;
     let mask = mask_in(accepted, stores.mask);
@@ -74,6 +80,30 @@ fn unwritten_rows(
     let task = taken(accepted, stores, &unread);
     let mask = mask_of(&task);
     computed_rows(alloc, &task, mask, 0..shape.rows())
+}
+
+/// All that an operation on the stores that take its roles leaves, where it goes along bitmaps.
+fn bitmap_over(
+    alloc: Global,
+    accepted: &Accepted,
+    old: &Store,
+    stores: &Roles<&Store>,
+) -> Result<Option<Bitmap>, NoMemory>
+    requires straight { IsStraight accepted.now.out.desc }
+    requires inputs { (role : AnyRole) → Takes (known_by_role accepted.now.out accepted.now.operation role)
+        (beside old.now stores.now role) }
+    ensures { IfOk result (λ found. IfSome found
+        (HasAll (rows_of accepted.now.out.c.shape) (cols_of accepted.now.out.c.shape)
+        (meaning accepted.now.out accepted.now.operation (λ role. map_in (beside old.now stores.now role))))) }
+{
+    let shape = accepted.out.c.shape;
+    let unread = Store::new(alloc, shape.rows(), shape.cols());
+    let stores = Roles {
+        old: Some(old),
+        ..*stores
+    };
+    let task = taken(accepted, stores, &unread);
+    task_bitmap(alloc, &task)
 }
 
 /// The positions that an accepted operation writes, by the store of its mask.

@@ -20,7 +20,7 @@ use crate::input::Input;
 use crate::moving::{resized, transposed};
 use crate::task::{Task, task_rows};
 use calls::{Accepted, Computation, Operation, Out, Patch, Recipe, Roles, Signature, TwoInputs};
-use model::{Lent, NoMemory};
+use model::{Form, Lent, NoMemory};
 use patch::apply_edits;
 use std::alloc::Global;
 use std::ops::Range;
@@ -122,7 +122,9 @@ fn computed_piece(
         && range.end == shape.rows()
         && let Some(bitmap) = task_bitmap(alloc, &task)?
     {
-        return Ok(Block::Whole(Store::from_bitmap(bitmap)));
+        let mut store = Store::from_bitmap(bitmap);
+        store.settle(alloc);
+        return Ok(Block::Whole(store));
     }
     let rows = task_rows(alloc, &task, range)?;
     Ok(Block::Rows(rows))
@@ -189,7 +191,7 @@ fn input(known: Signature, store: Option<&Store>) -> Input<'_>
 
 /// The store of what a recipe gives, of the block that holds all its rows, whose lists it takes over. Where many
 /// positions have an entry, it is kept as a bitmap from here on; but a column that comes whole, as one that was edited
-/// or written in place, keeps its form, and so does a product, whose factors are read as lists.
+/// or written in place, keeps its form, and so does what is likely to be read as lists again.
 pub fn join(alloc: Global, recipe: &Recipe, block: Block) -> Store
     requires { HasAllRows recipe.now block }
     ensures rows { result.rows ≡ rows_of (makes recipe.now).shape }
@@ -202,22 +204,27 @@ pub fn join(alloc: Global, recipe: &Recipe, block: Block) -> Store
         Block::Whole(store) if store.cols() == 1 => return store,
         Block::Whole(store) => store,
     };
-    if !is_product(recipe) {
+    if !stays_listed(recipe) {
         store.settle(alloc);
     }
     store
 }
 
-/// Whether a recipe is of a product.
-fn is_product(recipe: &Recipe) -> bool {
+/// Whether what a recipe leaves stays in lists: a product, whose factors are read as lists; but no product of a vector
+/// and a matrix without a mask, which has a way of its own with bitmaps.
+fn stays_listed(recipe: &Recipe) -> bool {
     let Recipe::Computed(computation) = recipe else {
         return false;
     };
-    match computation.accepted.operation {
-        Operation::OfTwo { computes, .. } => match computes {
-            TwoInputs::Multiply { .. } => true,
-            TwoInputs::Combine { .. } => false,
-        },
-        _ => false,
+    let Operation::OfTwo { computes, .. } = computation.accepted.operation else {
+        return false;
+    };
+    match computes {
+        TwoInputs::Multiply {
+            form: Form::VectorMatrix,
+            ..
+        } => computation.accepted.out.mask.is_some(),
+        TwoInputs::Multiply { .. } => true,
+        TwoInputs::Combine { .. } => false,
     }
 }

@@ -1,39 +1,10 @@
--- What is computed is all that is left, in the output's domain.
-use Rattle.std.proofs.Common.{◌≡◌, ◌∙◌, ap, sym}
-use Rattle.std.specs.Option.{option_map}
-use Rattle.algebra.specs.Value.{cast_of}
-use Rattle.kernel.specs.Tasks.{operation_of}
-use Rattle.kernel.proofs.Accepted.{task-accepts, task-known, task-offered, task-words}
+-- What is computed is written everywhere.
 use Rattle.kernel.proofs.BitmapLaws.{all-written}
-use Rattle.model.specs.declared.call.Operation.{Operation}
-use Rattle.model.specs.declared.shape.Signature.{Signature}
-use Rattle.model.specs.Object.{signature_of}
-use Rattle.model.specs.Renamed.{renamed_operation}
-use Rattle.model.specs.Table.{plan_of}
 use Rattle.kernel.proofs.bitmaps.task_bitmap.Goals as goal
-
-pub operation_bitmap-requires-clause-accepts : goal.operation_bitmap-requires-clause-accepts
-operation_bitmap-requires-clause-accepts c = task-accepts c.args.task.now
-
-pub operation_bitmap-requires-clause-offered : goal.operation_bitmap-requires-clause-offered
-operation_bitmap-requires-clause-offered c = task-offered c.args.task.now
 
 pub returns : goal.returns
 returns c =
-    let task = c.args.task.now in
-    let sig = task.out.c.signature in
-    let domain : c.answer_of-from.result ≡ (plan_of sig (renamed_operation signature_of (operation_of task))).domain =
-    c.answer_of-from.ensures ∙ ap (λ (p : Operation Signature). (plan_of sig p).domain) (sym (task-known task)) in
-    let cast = rw domain at c.bitmap_in_domain.ensures in
-    let from = (plan_of sig (renamed_operation signature_of (operation_of task))).domain in
-    let has = rw c.in-Some.is at c.in_ok-bitmap.ensures.all in
-    let region = rw c.in-Some.is at c.in_ok-bitmap.ensures.region in
-    let writes = c.writes_all.ensures c.if-not-writes_all.false in
-    record {
-      rows_are = cast.rows ∙ has.rows_are;
-      cols_are = cast.cols ∙ has.cols_are;
-      words = λ i j.
-          cast.content i j (λ word is. task-words task i j word (sym (has.words i j) ∙ is))
-          ∙ ap (option_map (cast_of from sig.domain)) (has.words i j)
-          ∙ sym (all-written task writes region i j);
-    }
+    let had = c.in_ok-computed.ensures in
+    let left = c.in_ok-written.ensures in
+    all-written c.args.task.now c.in-Some.writing c.in-Some-2.computed c.in_ok-written.written c.in-Some.ensures
+    (rw c.in-Some-2.is at had.region) (rw c.in-Some-2.is at had.all) left.rows left.cols left.content

@@ -1,0 +1,24 @@
+-- The operation on the stores, the old one among them.
+use Rattle.std.proofs.Common.{◌≡◌, ◌∙◌, Some}
+use Rattle.calls.specs.declared.role.Role.{Role}
+use Rattle.calls.specs.Recipes.{known_by_role, operation_with, out_with}
+use Rattle.kernel.specs.Overs.{beside}
+use Rattle.kernel.specs.Takes.{map_in, maps_in}
+use Rattle.kernel.proofs.OverLaws.{bitmap-over, maps-beside, takes-beside}
+use Rattle.model.specs.Object.{Content}
+use Rattle.kernel.proofs.over.bitmap_over.Goals as goal
+
+pub taken-task-requires-clause-inputs : goal.taken-task-requires-clause-inputs
+taken-task-requires-clause-inputs c =
+    let accepted = c.args.accepted.now in
+    takes-beside (known_by_role accepted.out accepted.operation) c.args.old c.args.stores.now c.requires.inputs
+
+pub returns : goal.returns
+returns c =
+    let accepted = c.args.accepted.now in
+    let maps : Role → Content = λ role. map_in (beside c.args.old.now c.args.stores.now role) in
+    let same : maps_in (record c.args.stores.now { old = Some c.args.old }) ≡ maps = λ x role. maps-beside c.args.old c.args.stores.now role x in
+    bitmap-over c.task_bitmap.result c.taken-task.result (out_with accepted.out maps) (operation_with accepted.operation maps)
+    (c.taken-task.ensures.out ∙ (λ x. out_with accepted.out (same x)))
+    (c.taken-task.ensures.operation ∙ (λ x. operation_with accepted.operation (same x)))
+    c.task_bitmap.ensures
