@@ -3,8 +3,8 @@ use crate::{Fibers, Sparse};
 use model::NoMemory;
 use std::alloc::Global;
 
-/// For each row how many rows before it have entries, as hints for `Sparse::row_near`; or nothing. Any hint serves there
-/// and changes no answer, so no contract says which these are.
+/// For each row how many rows before it have entries, as hints for `Sparse::row_near`; or nothing. Any hint serves
+/// there and changes no answer, so no contract says which these are.
 #[derive(Drop)]
 pub struct RowHints {
     before: Vec<u32>,
