@@ -5,7 +5,7 @@ use Rattle.model.specs.declared.entry.Entry.{Entry}
 use Rattle.model.specs.declared.memory.NoMemory.{NoMemory}
 use Rattle.store.specs.declared.lists.FiberLists.{FiberLists}
 use Rattle.store.specs.Stored.{Block, Stored}
-use Rattle.spgemm.specs.Columns.{IsColumnBlock}
+use Rattle.spgemm.specs.Columns.{AreRowSums, IsColumnBlock}
 use Rattle.spgemm.specs.Dense.{AreColumnSums, AreMarkedSums}
 use Rattle.spgemm.specs.Slots.{AreSlotSums}
 use Rattle.spgemm.specs.Products.{HasSums}
@@ -85,3 +85,8 @@ same_column (Ok block) own semiring keeps first past a u here name kind domain =
   cols = here.cols;
   words = λ i j low high. here.words i j low high ∙ rw (name, kind, domain) refl;
 }
+
+pub same_row_sums : (own semiring : Semiring) (a u : Stored) (bits words : List ℕ) → AreRowSums own a u bits words
+    → own.add.kind ≡ semiring.add.kind → own.multiply.kind ≡ semiring.multiply.kind
+    → own.multiply.domain ≡ semiring.multiply.domain → AreRowSums semiring a u bits words
+same_row_sums own semiring a u bits words here name kind domain = record { sums_are = λ i. here.sums_are i ∙ rw (name, kind, domain) refl }

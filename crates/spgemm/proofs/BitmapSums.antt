@@ -32,7 +32,7 @@ no_sum op mul row b col past =
     let terms = terms_of_row mul row b in
     ap (reduce (apply op)) (words_at-none col terms (All-weaker (λ t. t.col < b.cols) (λ t. t.col ≢ col) (λ t less is. absurd (omega arith)) terms (terms_inside mul row b)))
 
-no_word : (bit : Bool) (word : ℕ) → cond bit (Some word) None ≡ None → bit ≡ false
+pub no_word : (bit : Bool) (word : ℕ) → cond bit (Some word) None ≡ None → bit ≡ false
 no_word true word is = absurd (cc)
 no_word false word is = refl
 
