@@ -2,6 +2,7 @@
 ghost use Rattle.std.specs.Prelude.{◌≡◌, ℕ, IfOk, IfSome, None, Some, true};
 ghost use Rattle.algebra.specs.Functions.{function_domain, offers_function, takes};
 ghost use Rattle.algebra.specs.IndexOperators.{offers_index, takes_index};
+ghost use Rattle.algebra.specs.OperatorNames.{semiring_named};
 ghost use Rattle.algebra.specs.Operators.{offers};
 ghost use Rattle.algebra.specs.Value.{IsWordOf, are_compatible};
 ghost use Rattle.kernel.specs.Accepts.{Accepts};
@@ -10,6 +11,7 @@ ghost use Rattle.kernel.specs.Factors.{AreFactors, cols_of_product, inner_of, ro
 ghost use Rattle.kernel.specs.Inputs.{known_of, object_of};
 ghost use Rattle.kernel.specs.Spread.{computed_in};
 ghost use Rattle.kernel.specs.Tasks.{operation_of, out_of};
+ghost use Rattle.model.specs.declared.call.Form.TheVariants.{MatrixVector, VectorMatrix};
 ghost use Rattle.model.specs.ElementWise.{applied, selected};
 ghost use Rattle.model.specs.Entries.{word_at};
 ghost use Rattle.model.specs.Indices.{All};
@@ -28,14 +30,14 @@ use crate::computing::answer_of;
 use crate::input::Input;
 use crate::output::accumulator_of;
 use crate::task::Task;
-use algebra::{BinaryOp, Domain, FunctionName, IndexName, OpName, SemiringName};
+use algebra::{BinaryOp, Domain, FunctionName, IndexName, OpName, Semiring, SemiringName};
 use bitmap::Bitmap;
 use calls::{OneInput, Positions, Region, Shape, Signature, TwoInputs};
 use elementwise::{apply_bitmap, select_bitmap};
 use model::{Lent, NoMemory};
-use spgemm::{multiply_bitmap, suits_bitmap};
+use spgemm::{multiply_bitmap, multiply_by_bitmap, suits_bitmap, suits_rows};
 use std::alloc::Global;
-use store::Form;
+use store::{Form, Store};
 
 /// How a task along bitmaps leaves what it computes in all of its output.
 #[derive(Clone, Copy)]
@@ -307,7 +309,8 @@ fn combined_bitmap(
     }
 }
 
-/// The product of a vector that is a bitmap and a matrix of lists, where that is better made as a bitmap.
+/// The product of a vector that is a bitmap and a matrix of lists, or the other way round, where that is better made as
+/// a bitmap.
 fn multiplied_bitmap(
     alloc: Global,
     form: model::Form,
@@ -322,19 +325,56 @@ fn multiplied_bitmap(
         (multiplied form semiring (inner_of form a.entry.store.now) (content_of a.entry.store.now)
         (content_of b.entry.store.now)))) }
 {
-    let model::Form::VectorMatrix = form else {
-        return Ok(None);
+    let Some(semiring) = semiring.resolve() else {
+        unreachable!();
     };
-    let (Form::Bitmap(vector), Form::Sparse(matrix)) = (a.store.form(), b.store.form()) else {
+    match form {
+        model::Form::VectorMatrix => multiply_vector(alloc, semiring, a.store, b.store),
+        model::Form::MatrixVector => multiply_by_vector(alloc, semiring, a.store, b.store),
+        model::Form::MatrixMatrix => Ok(None),
+    }
+}
+
+/// The product of a vector and a matrix.
+fn multiply_vector(
+    alloc: Global,
+    semiring: Semiring,
+    u: &Store,
+    a: &Store,
+) -> Result<Option<Bitmap>, NoMemory>
+    requires vector { u.now.cols ≡ 1 }
+    requires inner { u.now.rows ≡ a.now.rows }
+    ensures { IfOk result (λ found. IfSome found (HasAll a.now.cols 1
+        (multiplied VectorMatrix (semiring_named semiring) u.now.rows (content_of u.now) (content_of a.now)))) }
+{
+    let (Form::Bitmap(vector), Form::Sparse(matrix)) = (u.form(), a.form()) else {
         return Ok(None);
     };
     if !suits_bitmap(vector, matrix) {
         return Ok(None);
     }
-    let Some(semiring) = semiring.resolve() else {
-        unreachable!();
-    };
     let made = multiply_bitmap(alloc, vector, matrix, semiring)?;
+    Ok(Some(made))
+}
+
+/// The product of a matrix and a vector.
+fn multiply_by_vector(
+    alloc: Global,
+    semiring: Semiring,
+    a: &Store,
+    u: &Store,
+) -> Result<Option<Bitmap>, NoMemory>
+    requires inner { a.now.cols ≡ u.now.rows }
+    ensures { IfOk result (λ found. IfSome found (HasAll a.now.rows u.now.cols
+        (multiplied MatrixVector (semiring_named semiring) a.now.cols (content_of a.now) (content_of u.now)))) }
+{
+    let (Form::Sparse(matrix), Form::Bitmap(vector)) = (a.form(), u.form()) else {
+        return Ok(None);
+    };
+    if vector.cols() != 1 || !suits_rows(matrix) {
+        return Ok(None);
+    }
+    let made = multiply_by_bitmap(alloc, matrix, vector, semiring)?;
     Ok(Some(made))
 }
 

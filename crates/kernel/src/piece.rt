@@ -210,8 +210,8 @@ pub fn join(alloc: Global, recipe: &Recipe, block: Block) -> Store
     store
 }
 
-/// Whether what a recipe leaves stays in lists: a product, whose factors are read as lists; but no product of a vector
-/// and a matrix without a mask, which has a way of its own with bitmaps.
+/// Whether what a recipe leaves stays in lists: a product, whose factors are read as lists; but no product with a
+/// vector and without a mask, which has a way of its own with bitmaps.
 fn stays_listed(recipe: &Recipe) -> bool {
     let Recipe::Computed(computation) = recipe else {
         return false;
@@ -221,10 +221,10 @@ fn stays_listed(recipe: &Recipe) -> bool {
     };
     match computes {
         TwoInputs::Multiply {
-            form: Form::VectorMatrix,
+            form: Form::MatrixMatrix,
             ..
-        } => computation.accepted.out.mask.is_some(),
-        TwoInputs::Multiply { .. } => true,
+        } => true,
+        TwoInputs::Multiply { .. } => computation.accepted.out.mask.is_some(),
         TwoInputs::Combine { .. } => false,
     }
 }
