@@ -50,6 +50,8 @@ pub fn write_into(
         }
         (mask, accum, replace) => {
             let block = write_back(alloc, old.as_sparse(alloc)?.get(), t, mask, accum, replace)?;
+
+            // It stays in lists, as a product under a mask does, which the next one under a mask goes along.
             renew(old, block);
             Ok(())
         }
@@ -79,6 +81,7 @@ fn accumulate_into(
     }
     let block = accumulate(alloc, old.as_sparse(alloc)?.get(), t, op)?;
     renew(old, block);
+    settle_column(alloc, old);
     Ok(())
 }
 
@@ -109,6 +112,7 @@ fn write_inside(
     }
     let block = write_over(alloc, old.as_sparse(alloc)?.get(), inside, mask)?;
     renew(old, block);
+    settle_column(alloc, old);
     Ok(())
 }
 
@@ -152,6 +156,16 @@ fn renew(store: &mut Store, block: RowBlock)
     ensures content { (i j : ℕ) → content_of store.new i j ≡ block_content block i j }
 {
     *store = Store::from_block(store.rows(), block);
+}
+
+/// Keeps a store with one column in the form that suits its entries: what fills up step by step, as what a search has
+/// visited does, is soon put into, and asked as a mask, more often than it is read whole.
+fn settle_column(alloc: Global, store: &mut Store)
+    ensures { store.new ≡ store.old }
+{
+    if store.cols() == 1 {
+        store.settle(alloc);
+    }
 }
 
 /// Makes each word of a block what is made of the one that a store with one column has there and of it. It looks each
