@@ -10,7 +10,7 @@ use Rattle.spgemm.specs.Dense.{AreColumnSums, AreMarkedSums}
 use Rattle.spgemm.specs.Slots.{AreSlotSums}
 use Rattle.spgemm.specs.Products.{HasSums}
 use Rattle.spgemm.specs.declared.term.Term.{Term}
-use Rattle.spgemm.specs.Terms.{AreFirstTerms, terms_of_row}
+use Rattle.spgemm.specs.Terms.{AreFirstTerms, kept_terms, terms_of_row}
 
 -- an operator computes by its kind and its domain alone
 pub same_terms : (r : Result ℕ NoMemory) (own semiring : Semiring) (row : List Entry) (b : Stored) (terms : List Term)
@@ -49,6 +49,15 @@ pub same_sums : (own semiring : Semiring) (row : List Entry) (b : Stored) (bits 
     → own.multiply.kind ≡ semiring.multiply.kind → own.multiply.domain ≡ semiring.multiply.domain
     → AreColumnSums semiring.add.op (terms_of_row semiring.multiply row b) bits words
 same_sums own semiring row b bits words here kind domain multiply_kind multiply_domain =
+    let terms : terms_of_row own.multiply row b ≡ terms_of_row semiring.multiply row b = rw (multiply_kind, multiply_domain) refl in
+    record { sums_are = λ col within. here.sums_are col within ∙ rw (kind, domain, terms) refl }
+
+pub same_kept_sums : (own semiring : Semiring) (keeps : ℕ → Bool) (row : List Entry) (b : Stored) (bits words : List ℕ)
+    → AreColumnSums own.add.op (kept_terms keeps (terms_of_row own.multiply row b)) bits words
+    → own.add.op.kind ≡ semiring.add.op.kind → own.add.op.domain ≡ semiring.add.op.domain
+    → own.multiply.kind ≡ semiring.multiply.kind → own.multiply.domain ≡ semiring.multiply.domain
+    → AreColumnSums semiring.add.op (kept_terms keeps (terms_of_row semiring.multiply row b)) bits words
+same_kept_sums own semiring keeps row b bits words here kind domain multiply_kind multiply_domain =
     let terms : terms_of_row own.multiply row b ≡ terms_of_row semiring.multiply row b = rw (multiply_kind, multiply_domain) refl in
     record { sums_are = λ col within. here.sums_are col within ∙ rw (kind, domain, terms) refl }
 

@@ -24,7 +24,7 @@ use store::{FiberLists, Row, RowHints, Sparse};
 /// what stands at one that wasn't met is no sum. Where `met` is given, most columns were met, as all below it
 /// were, and a branch is faster.
 #[inline(always)]
-fn add_at(
+pub(crate) fn add_at(
     bits: &mut [u64],
     sums: &mut [u64],
     col: usize,

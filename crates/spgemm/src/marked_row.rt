@@ -1,12 +1,14 @@
 //! The row of a product with a vector, of which a bitmap as a mask keeps a part.
-ghost use Rattle.std.specs.Prelude.{◌≡◌, ◌<◌, length, OnOk};
+ghost use Rattle.std.specs.Prelude.{◌≡◌, ◌<◌, ◌≤◌, ◌^◌, length, OnOk};
 ghost use Rattle.std.specs.List.{AllPairs};
 ghost use Rattle.store.specs.Fibers.{entries_along};
 ghost use Rattle.spgemm.specs.Dense.{AreClear, HaveRoom};
 ghost use Rattle.spgemm.specs.Keeping.{keeps_marked};
 ghost use Rattle.spgemm.specs.Products.{HasOpenRow, HasRow};
-ghost use Rattle.spgemm.specs.Terms.{kept_terms, terms_of_row};
+ghost use Rattle.spgemm.specs.Terms.{AreFirstTerms, kept_terms, terms_of_row};
 
+use crate::dense::fit;
+use crate::few_kept::{keeps_few, read_columns, sum_few};
 use crate::row::{Scratch, collect_terms, sum_in_places, sum_terms};
 use crate::term::Term;
 use algebra::Semiring;
@@ -40,8 +42,7 @@ pub(crate) fn multiply_marked_row(
 
 /// Puts the sums of the row of the product with B that a row of A gives, at the columns that the mask lets through,
 /// behind the inner indices and words. Of products that are listed, those at other columns are dropped before the rest
-/// is sorted or added; of sums that have a place for each column, those at other columns are dropped before they are
-/// gathered.
+/// is sorted or added.
 fn sum_marked(
     lists: &mut FiberLists,
     scratch: &mut Scratch,
@@ -62,10 +63,51 @@ fn sum_marked(
 {
     let done = collect_terms(scratch, row, b, semiring)?;
     if done < row.cols.len() {
-        return sum_in_places(lists, scratch, row, done, b, Some(mask), semiring);
+        return sum_marked_places(lists, scratch, row, done, b, mask, semiring);
     }
     keep_marked_terms(&mut scratch.terms, mask);
     sum_terms(lists, scratch, b.cols(), semiring)
+}
+
+/// What `sum_marked` does in a place for each column, where the terms are the products of the first `done` entries of
+/// the row. Where the mask keeps few columns, products at others are never added; else their sums are dropped before
+/// they are gathered.
+fn sum_marked_places(
+    lists: &mut FiberLists,
+    scratch: &mut Scratch,
+    row: Row<'_>,
+    done: usize,
+    b: &Sparse,
+    mask: MarkedMask<'_>,
+    semiring: Semiring,
+) -> Result<(), NoMemory>
+    requires mask { mask.bitmap.now.cols ≡ 1 }
+    requires lengths { length row.words.now ≡ length row.cols.now }
+    requires rising { AllPairs (λ p q. p < q) row.cols.now }
+    requires most { b.now.cols ≤ 2 ^ 24 }
+    requires room { HaveRoom scratch.old.bits.items scratch.old.sums.items }
+    requires none { AreClear scratch.old.bits.items }
+    requires done { done ≤ length row.cols.now }
+    requires terms { AreFirstTerms semiring.multiply (entries_along row.index row.cols.now row.words.now) b.now
+        scratch.old.terms.items done }
+    ensures { OnOk result (HasOpenRow semiring.add.op row.entry.index
+        (kept_terms (keeps_marked mask.entry) (terms_of_row semiring.multiply
+        (entries_along row.entry.index row.entry.cols.now row.entry.words.now) b.now))
+        lists.old lists.new) }
+{
+    let Scratch {
+        bits,
+        sums,
+        kept,
+        hints,
+        ..
+    } = scratch;
+    fit(bits, sums, b.cols())?;
+    read_columns(kept, mask, bits.len())?;
+    if keeps_few(kept, b.cols()) {
+        return sum_few(lists, bits, sums, kept, row, b, hints, semiring);
+    }
+    sum_in_places(lists, scratch, row, done, b, Some(mask), semiring)
 }
 
 /// Of terms it keeps those at columns that the mask lets through, in order.

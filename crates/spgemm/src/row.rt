@@ -21,14 +21,16 @@ use std::alloc::Global;
 use store::{FiberLists, Row, RowHints, Sparse};
 
 /// Memory that serves one row after another: terms, and sums with a place for each column, each with a bit, and
-/// where there are many products with a mark, that says whether there is one; hints where the rows of B lie; and how
-/// many products the rows had since one whose products span many columns. Between rows no bit is set.
+/// where there are many products with a mark, that says whether there is one; bits of the columns that a mask keeps;
+/// hints where the rows of B lie; and how many products the rows had since one whose products span many columns.
+/// Between rows no bit of a sum is set.
 #[derive(Drop)]
 pub(crate) struct Scratch {
     pub(crate) terms: Vec<Term>,
     pub(crate) bits: Vec<u64>,
     pub(crate) sums: Vec<u64>,
     pub(crate) marks: Vec<bool>,
+    pub(crate) kept: Vec<u64>,
     pub(crate) hints: RowHints,
     pub(crate) compact: usize,
 }
@@ -44,6 +46,7 @@ impl Scratch {
             bits: Vec::new(alloc),
             sums: Vec::new(alloc),
             marks: Vec::new(alloc),
+            kept: Vec::new(alloc),
             hints,
             compact: 0,
         }
