@@ -13,7 +13,9 @@ mod present;
 mod unary;
 
 pub use binary::{unite_words, zip_words};
-pub use bits::{and_words, clear_bit, count_ones, full_words, has_bit, or_words, packed, set_bit};
+pub use bits::{
+    and_words, clear_bit, count_ones, full_words, has_bit, or_words, packed, set_bit, set_bit_by,
+};
 pub use bound::{bind_first, bind_second};
 pub use casts::cast_words;
 pub use monoid::fold_words;

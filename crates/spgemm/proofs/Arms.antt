@@ -11,6 +11,7 @@ use Rattle.spgemm.specs.Slots.{AreSlotSums}
 use Rattle.spgemm.specs.Products.{HasSums}
 use Rattle.spgemm.specs.declared.term.Term.{Term}
 use Rattle.spgemm.specs.Terms.{AreFirstTerms, kept_terms, terms_of_row}
+use Rattle.spgemm.specs.Truths.{AreTruths}
 
 -- an operator computes by its kind and its domain alone
 pub same_terms : (r : Result ℕ NoMemory) (own semiring : Semiring) (row : List Entry) (b : Stored) (terms : List Term)
@@ -60,6 +61,18 @@ pub same_kept_sums : (own semiring : Semiring) (keeps : ℕ → Bool) (row : Lis
 same_kept_sums own semiring keeps row b bits words here kind domain multiply_kind multiply_domain =
     let terms : terms_of_row own.multiply row b ≡ terms_of_row semiring.multiply row b = rw (multiply_kind, multiply_domain) refl in
     record { sums_are = λ col within. here.sums_are col within ∙ rw (kind, domain, terms) refl }
+
+pub same_truths : (own semiring : Semiring) (row : List Entry) (b : Stored) (bits trues : List ℕ)
+    → AreTruths own.add.op (terms_of_row own.multiply row b) bits trues
+    → own.add.op.kind ≡ semiring.add.op.kind → own.add.op.domain ≡ semiring.add.op.domain
+    → own.multiply.kind ≡ semiring.multiply.kind → own.multiply.domain ≡ semiring.multiply.domain
+    → AreTruths semiring.add.op (terms_of_row semiring.multiply row b) bits trues
+same_truths own semiring row b bits trues here kind domain multiply_kind multiply_domain =
+    let terms : terms_of_row own.multiply row b ≡ terms_of_row semiring.multiply row b = rw (multiply_kind, multiply_domain) refl in
+    record {
+      sums_are = λ col within. here.sums_are col within ∙ rw (kind, domain, terms) refl;
+      others_are = here.others_are;
+    }
 
 pub same_slot_sums : (own semiring : Semiring) (slots : List ℕ) (row : List Entry) (b : Stored)
     (sums : List (Option ℕ)) → AreSlotSums own.add.op slots (terms_of_row own.multiply row b) sums

@@ -14,6 +14,7 @@ use crate::many::{exceeds_columns, sum_many};
 use crate::span::{most_collected, pays, span_of};
 use crate::sums::sum_runs;
 use crate::term::Term;
+use crate::truths::{are_truths, sum_truths};
 use algebra::Semiring;
 use masks::MarkedMask;
 use model::NoMemory;
@@ -21,15 +22,16 @@ use std::alloc::Global;
 use store::{FiberLists, Row, RowHints, Sparse};
 
 /// Memory that serves one row after another: terms, and sums with a place for each column, each with a bit, and
-/// where there are many products with a mark, that says whether there is one; bits of the columns that a mask keeps;
-/// hints where the rows of B lie; and how many products the rows had since one whose products span many columns.
-/// Between rows no bit of a sum is set.
+/// where there are many products with a mark, that says whether there is one, or a bit, that says whether it is true;
+/// bits of the columns that a mask keeps; hints where the rows of B lie; and how many products the rows had since one
+/// whose products span many columns. Between rows no bit is set that says where a sum is.
 #[derive(Drop)]
 pub(crate) struct Scratch {
     pub(crate) terms: Vec<Term>,
     pub(crate) bits: Vec<u64>,
     pub(crate) sums: Vec<u64>,
     pub(crate) marks: Vec<bool>,
+    pub(crate) trues: Vec<u64>,
     pub(crate) kept: Vec<u64>,
     pub(crate) hints: RowHints,
     pub(crate) compact: usize,
@@ -46,6 +48,7 @@ impl Scratch {
             bits: Vec::new(alloc),
             sums: Vec::new(alloc),
             marks: Vec::new(alloc),
+            trues: Vec::new(alloc),
             kept: Vec::new(alloc),
             hints,
             compact: 0,
@@ -244,11 +247,15 @@ fn add_in_places(
         bits,
         sums,
         marks,
+        trues,
         hints,
         ..
     } = scratch;
     fit(bits, sums, b.cols())?;
     if exceeds_columns(row.cols.len(), b) {
+        if are_truths(semiring) {
+            return sum_truths(bits, sums, trues, row, b, hints, semiring);
+        }
         return sum_many(bits, sums, marks, row, b, hints, semiring);
     }
     sum_densely(bits, sums, terms, row, done, b, hints, semiring);
