@@ -1,8 +1,11 @@
 pub mod Gaps
+pub mod ItemLaws
 pub mod LineLaws
 pub mod LoadLaws
 pub mod Names
+pub mod NumberLaws
 pub mod ReadLaws
 pub mod RowLaws
 pub mod Silence
 pub mod Splits
+pub mod TupleLaws

@@ -1,11 +1,8 @@
 -- Words that are read one after the other.
-use Rattle.std.proofs.Common.{◌≡◌, ◌∙◌, ℕ, ◌+◌, List, [], ◌∷◌, ◌++◌, Option, Some, None, ap, refl, sym, arith, length, ◌==◌, false}
+use Rattle.std.proofs.Common.{◌≡◌, ◌∙◌, ℕ, List, [], ◌∷◌, ◌++◌, Option, Some, None, ap, refl, sym}
 use Rattle.std.specs.Option.{option_and_then, option_map}
-use Rattle.std.specs.List.{count_by, slice_split}
-use Rattle.std.proofs.lemmas.Bool.Decides.{nat_tests}
-use Rattle.std.proofs.lemmas.List.Splits.{length-slice_split}
 use Rattle.std.proofs.lemmas.List.{append_assoc}
-use Rattle.model.specs.Grammar.{all_read, tuple_of}
+use Rattle.model.specs.Grammar.{all_read}
 
 -- what was read, and then what is read of the others
 abbrev pub behind : {A : Type 0} → List A → Option (List A) → Option (List A)
@@ -41,16 +38,3 @@ pub read-none : {A : Type 0} (read : List ℕ → Option A) (done : List A) (wor
     → read word ≡ None
     → behind done (all_read read (word ∷ words)) ≡ None
 read-none read done word words is = rw is refl
-
--- a word of four items or more is no tuple
-pub tuple_of-four_items : (word rest last others first second third : List ℕ)
-    → slice_split (λ b. b == 44) word ≡ first ∷ slice_split (λ b. b == 44) rest
-    → slice_split (λ b. b == 44) rest ≡ second ∷ slice_split (λ b. b == 44) last
-    → slice_split (λ b. b == 44) last ≡ third ∷ slice_split (λ b. b == 44) others
-    → tuple_of word ≡ None
-unfolding tuple_of
-tuple_of-four_items word rest last others first second third e f g =
-    let count : length (slice_split (λ b. b == 44) others) ≡ count_by (λ b. b == 44) others + 1 = length-slice_split (λ b. b == 44) others in
-    let two : (length (slice_split (λ b. b == 44) word) == 2) ≡ false = rw (e, f, g) (grind (arith, nat_tests)) in
-    let three : (length (slice_split (λ b. b == 44) word) == 3) ≡ false = rw (e, f, g) (grind (arith, nat_tests)) in
-    rw (two, three) refl

@@ -1,11 +1,14 @@
 //! Lists of indices and of tuples.
-ghost use Rattle.std.specs.Prelude.{◌≡◌, map};
+ghost use Rattle.std.specs.Prelude.{◌≡◌, ◌<◌, IfSome, [], drop, length, map};
 ghost use Rattle.std.specs.List.{list_all};
+ghost use Rattle.std.specs.Option.{option_map, option_map_or};
 ghost use Rattle.lines.specs.Meaning.{IsRead, IsSaid};
-ghost use Rattle.model.specs.Grammar.{all_read, are_alike, indices_of, items_of, number_of, tuple_of, tuples_of};
+ghost use Rattle.model.specs.Grammar.{all_read, are_alike, indices_of, items_of, nth_word, number_of, tuple_of};
+ghost use Rattle.model.specs.Grammar.{tuples_of, value_of_word};
 ghost use Rattle.model.specs.Object.{same_length};
 
 use crate::kinds::cut;
+use crate::words::{SAFE_DIGITS, leading_digits};
 use crate::{LineFault, words};
 use model::{IndexList, Place, Tuple, TupleList};
 use std::alloc::Global;
@@ -27,20 +30,54 @@ fn numbers(alloc: Global, word: &[u8]) -> Result<Vec<u64>, LineFault>
     ensures { IsRead (λ numbers. numbers.items) (all_read number_of (items_of word.now)) result }
 {
     let mut numbers = Vec::new(alloc);
-    let mut rest = word;
-    while let Some((item, others)) = cut(b',', rest) {
-        numbers.push(number(item)?)?;
-        rest = others;
+    let mut left = Some(word);
+    while let Some(rest) = left {
+        let Some((number, others)) = leading_number(rest) else {
+            return Err(LineFault::Syntax);
+        };
+        numbers.push(number)?;
+        left = others;
     }
-    numbers.push(number(rest)?)?;
     Ok(numbers)
 }
 
-/// A number, or the fault that a word is none.
-fn number(word: &[u8]) -> Result<u64, LineFault>
-    ensures { IsSaid (number_of word.now) result }
+/// The number before the first comma of a word, and what stands behind that comma, if there is one.
+#[inline(always)]
+fn leading_number(word: &[u8]) -> Option<(u64, Option<&[u8]>)>
+    ensures number { option_map (λ item. item.0) result ≡ number_of (nth_word (items_of word.now) 0) }
+    ensures others { IfSome result (λ item. drop 1 (items_of word.now)
+        ≡ option_map_or (λ rest. items_of rest.now) item.1 []) }
+    ensures shorter { IfSome result (λ item. IfSome item.1 (λ rest. length rest.now < length word.now)) }
 {
-    words::number(word).ok_or(LineFault::Syntax)
+    let (value, count) = leading_digits(word);
+    if count == 0 {
+        return None;
+    }
+    if count == word.len() {
+        return Some((value, None));
+    }
+    if word[count] == b',' {
+        return Some((value, Some(&word[count + 1..])));
+    }
+    if count < SAFE_DIGITS {
+        return None;
+    }
+    long_leading_number(word)
+}
+
+/// The same where more digits may stand before the comma than 64 bits hold.
+#[cold]
+#[inline(never)]
+fn long_leading_number(word: &[u8]) -> Option<(u64, Option<&[u8]>)>
+    ensures number { option_map (λ item. item.0) result ≡ number_of (nth_word (items_of word.now) 0) }
+    ensures others { IfSome result (λ item. drop 1 (items_of word.now)
+        ≡ option_map_or (λ rest. items_of rest.now) item.1 []) }
+    ensures shorter { IfSome result (λ item. IfSome item.1 (λ rest. length rest.now < length word.now)) }
+{
+    match cut(b',', word) {
+        Some((first, rest)) => Some((words::number(first)?, Some(rest))),
+        None => Some((words::number(word)?, None)),
+    }
 }
 
 /// Tuples, of which all have as many indices.
@@ -74,22 +111,30 @@ fn tuple_or_fault(word: &[u8]) -> Result<Tuple, LineFault>
 }
 
 /// A word that writes one index or two, and a value, with commas between them.
-#[tactic(auto, unfolding(model::specs::Grammar::tuple_of))]
 fn tuple(word: &[u8]) -> Option<Tuple>
     ensures { result ≡ tuple_of word.now }
 {
-    let (first, rest) = cut(b',', word)?;
-    let Some((second, value)) = cut(b',', rest) else {
-        let place = Place::One(words::number(first)?);
-        let value = words::value(rest)?;
-        return Some(Tuple { place, value });
+    let (first, rest) = leading_number(word)?;
+    let rest = rest?;
+    let Some((second, last)) = leading_number(rest) else {
+        // A value below zero is no number.
+        return tuple_at(Place::One(first), rest);
     };
-    if let Some(_) = cut(b',', value) {
-        return None;
+    match last {
+        Some(value) => tuple_at(Place::Two(first, second), value),
+        None => {
+            let place = Place::One(first);
+            let value = i128::from(second);
+            Some(Tuple { place, value })
+        }
     }
-    let row = words::number(first)?;
-    let place = Place::Two(row, words::number(second)?);
-    let value = words::value(value)?;
+}
+
+/// A tuple of a place and of the value that a word writes.
+fn tuple_at(place: Place, word: &[u8]) -> Option<Tuple>
+    ensures { result ≡ option_map (λ value. record { place = place; value = value }) (value_of_word word.now) }
+{
+    let value = words::value(word)?;
     Some(Tuple { place, value })
 }
 

@@ -1,7 +1,7 @@
 //! The words of a line, and what each says alone.
 ghost use Rattle.std.specs.Prelude.{◌≡◌, ◌+◌, ◌-◌, ◌*◌, ◌<◌, ◌≤◌, ◌^◌, ◌==◌, ◌||◌, map, length, filter, not};
 ghost use Rattle.std.specs.Prelude.{IsTrue, if◌then◌else◌, ◌&&◌, nat_le, neg_ℤ, pos, ◌++◌, ◌∷◌, []};
-ghost use Rattle.std.specs.Prelude.{MatchResult, OnOk, false, true};
+ghost use Rattle.std.specs.Prelude.{MatchResult, OnOk, false, slice_index, take, true};
 ghost use Rattle.std.specs.List.{list_all};
 ghost use Rattle.std.specs.Option.{option_map};
 ghost use Rattle.model.specs.Grammar.{digits_value, domain_of, is_blank, is_digit, is_letter, is_name, is_number};
@@ -12,6 +12,9 @@ use crate::LineFault;
 use algebra::Domain;
 use model::{LONGEST_LINE, LONGEST_NAME, NoMemory};
 use smallvec::SmallVec;
+
+/// So many digits write less than 2^64, whichever they are.
+pub(crate) const SAFE_DIGITS: usize = 19;
 
 /// Whether a byte parts words.
 pub const fn is_blank(byte: u8) -> bool
@@ -91,30 +94,57 @@ fn are_name_bytes(word: &[u8]) -> bool
 }
 
 /// A word that is a number: 1 to 20 digits, below 2^64.
+#[inline]
 #[tactic(auto, unfolding(model::specs::Grammar::number_of))]
 pub fn number(word: &[u8]) -> Option<u64>
     ensures { result ≡ number_of word.now }
 {
-    match digits(word) {
-        Some(value) if value < 1 << 64 => Some(value as u64),
-        _ => None,
-    }
-}
-
-/// The number that a word of 1 to 20 digits writes.
-fn digits(word: &[u8]) -> Option<u128>
-    ensures { result ≡ (if is_number word.now then Some (digits_value word.now) else None) }
-{
-    if word.is_empty() {
+    let (value, count) = leading_digits(word);
+    if count == 0 {
         return None;
     }
-    if word.len() < 20 {
-        return short_value(word).map(u128::from);
+    if count == word.len() {
+        return Some(value);
     }
-    if is_number(word) {
-        Some(digits_value(word))
-    } else {
-        None
+    if count < SAFE_DIGITS {
+        return None;
+    }
+    long_number(word)
+}
+
+/// The number that the first digits of a word write, as far as they are safe, and how many those are.
+#[inline(always)]
+pub(crate) fn leading_digits(word: &[u8]) -> (u64, usize)
+    ensures exact { result.0 ≡ digits_value (take result.1 word.now) }
+    ensures digits { list_all is_digit (take result.1 word.now) ≡ true }
+    ensures within { result.1 ≤ length word.now }
+    ensures few { result.1 ≤ SAFE_DIGITS }
+    ensures ended { result.1 < SAFE_DIGITS → result.1 < length word.now
+        → is_digit (slice_index word.now result.1) ≡ false }
+{
+    let mut value = 0;
+    for (count, byte) in word.iter().enumerate() {
+        if count == SAFE_DIGITS || !byte.is_ascii_digit() {
+            return (value, count);
+        }
+        value = value * 10 + u64::from(*byte - b'0');
+    }
+    (value, word.len())
+}
+
+/// The number that a word of any length writes. Its digits may need more than 64 bits, so most words don't come here.
+#[cold]
+#[inline(never)]
+#[tactic(auto, unfolding(model::specs::Grammar::number_of))]
+fn long_number(word: &[u8]) -> Option<u64>
+    ensures { result ≡ number_of word.now }
+{
+    if !is_number(word) {
+        return None;
+    }
+    match digits_value(word) {
+        value if value < 1 << 64 => Some(value as u64),
+        _ => None,
     }
 }
 
@@ -143,21 +173,6 @@ fn digits_value(word: &[u8]) -> u128
     value
 }
 
-/// The number that fewer digits write, where all bytes are digits; in half as many bits, and read once.
-fn short_value(word: &[u8]) -> Option<u64>
-    requires { length word.now < 20 }
-    ensures { result ≡ (if list_all is_digit word.now then Some (digits_value word.now) else None) }
-{
-    let mut value = 0;
-    for byte in word {
-        if !byte.is_ascii_digit() {
-            return None;
-        }
-        value = value * 10 + u64::from(*byte - b'0');
-    }
-    Some(value)
-}
-
 /// A word that is a value: a number below 2^64, or one from -2^63 on behind a `-`.
 #[tactic(auto, unfolding(model::specs::Grammar::value_of_word))]
 pub fn value(word: &[u8]) -> Option<i128>
@@ -171,11 +186,12 @@ pub fn value(word: &[u8]) -> Option<i128>
 }
 
 /// The value of the digits behind a `-`.
+#[tactic(auto, unfolding(model::specs::Grammar::number_of))]
 fn negative(word: &[u8]) -> Option<i128>
     ensures { result ≡ (if is_number word.now && nat_le (digits_value word.now) (2 ^ 63)
         then Some (neg_ℤ (pos (digits_value word.now))) else None) }
 {
-    match digits(word) {
+    match number(word) {
         Some(magnitude) if magnitude <= 1 << 63 => Some(-(magnitude as i128)),
         _ => None,
     }
