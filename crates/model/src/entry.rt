@@ -1,5 +1,5 @@
 //! Entries of objects.
-ghost use Rattle.std.specs.Prelude.{◌≡◌};
+ghost use Rattle.std.specs.Prelude.{◌≡◌, ◌+◌, ◌*◌, ◌^◌};
 ghost use Rattle.model.specs.Entries.{same_position};
 
 /// A stored value of a matrix or a vector: its row and column, from 0, and the word of the value.
@@ -18,5 +18,15 @@ impl Entry {
         ensures { result ≡ same_position self.now other.now }
     {
         self.row == other.row && self.col == other.col
+    }
+
+    /// The position as one number, by which entries stand row by row. Two such numbers are compared without
+    /// a branch, unlike two pairs of a row and a column.
+    #[inline(always)]
+    pub fn key(&self) -> u128
+        ensures { result ≡ self.now.row * 2 ^ 64 + self.now.col }
+    {
+        let (row, col) = (self.row, self.col);
+        u128::from(row) << 64 | u128::from(col)
     }
 }

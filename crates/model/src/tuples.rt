@@ -1,6 +1,6 @@
 //! Lists of values at positions.
-ghost use Rattle.std.specs.Prelude.{◌≡◌, IfOk, map};
-ghost use Rattle.std.specs.List.{AllPairs};
+ghost use Rattle.std.specs.Prelude.{◌≡◌, ◌<◌, ◌^◌, IfOk, map};
+ghost use Rattle.std.specs.List.{All, AllPairs};
 ghost use Rattle.algebra.specs.declared.domain.Domain.TheVariants.{Uint64};
 ghost use Rattle.model.specs.Builds.{AreEntriesOf, are_apart, are_inside, are_of_kind, are_single, are_values_of};
 ghost use Rattle.model.specs.Builds.{entry_of};
@@ -46,7 +46,7 @@ impl TupleList {
         ensures { IfOk result (λ tuples. tuples ≡ items.items) }
     {
         let mut sorted = entries_of(*items.allocator(), &items)?;
-        sorted.sort_by_key(|entry| (entry.row, entry.col))?;
+        sorted.sort_by_key(Entry::key)?;
         Ok(TupleList { items, sorted })
     }
 
@@ -116,7 +116,8 @@ fn are_values_of(domain: Domain, tuples: &[Tuple]) -> bool
 
 /// The entries of tuples, with their values modulo 2^64.
 fn entries_of(alloc: Global, tuples: &[Tuple]) -> Result<Vec<Entry>, NoMemory>
-    ensures { IfOk result (λ entries. entries.items ≡ map (entry_of Uint64) tuples.now) }
+    ensures items { IfOk result (λ entries. entries.items ≡ map (entry_of Uint64) tuples.now) }
+    ensures cols { IfOk result (λ entries. All (λ e. e.col < 2 ^ 64) entries.items) }
 {
     let entries = tuples
         .iter()

@@ -1,10 +1,11 @@
 -- Edits of a map, at each position: the last one there stands.
-use Rattle.std.proofs.Common.{◌≡◌, ◌⊎◌, ℕ, ◌<◌, ◌≤◌, ◌&&◌, not, Bool, true, false, cond, eqb, List, [], ◌∷◌, ◌++◌, map, get_or, take, drop, take-append-drop, Option, None, Some, refl, sym, ◌∙◌, ap, inl, inr, arith}
+use Rattle.std.proofs.Common.{◌≡◌, ◌⊎◌, Ordering, ℕ, ◌<◌, ◌≤◌, ◌&&◌, not, Bool, true, false, cond, eqb, List, [], ◌∷◌, ◌++◌, map, get_or, take, drop, take-append-drop, Option, None, Some, refl, sym, ◌∙◌, ap, inl, inr, arith}
 use Rattle.std.specs.Prelude.{OnErr, Result, Ok, Err}
 use Rattle.std.specs.List.{All, AllPairs, filter, fold}
 use Rattle.std.specs.List.Sorted.{IsSortedByKey, IsStableByKey}
-use Rattle.std.specs.Ordering.{is_lt}
+use Rattle.std.specs.Ordering.{is_lt, nat_cmp, ordering_then}
 use Rattle.std.proofs.lemmas.Bool.{cases_Bool, ne_eqb}
+use Rattle.std.proofs.lemmas.Bool.Decides.{nat_tests}
 use Rattle.std.proofs.lemmas.Cmp.{nat_cmp_total, on_total, then_total}
 use Rattle.std.proofs.lemmas.List.Elements.{All-head, All-map, All-tail, All-weaker, filter_agree}
 use Rattle.std.proofs.lemmas.List.Sorted.{ranks_by, sorted_far}
@@ -13,7 +14,6 @@ use Rattle.model.specs.Builds.{gathered, joined_all, words_at}
 use Rattle.model.specs.declared.entry.Entry.{Entry}
 use Rattle.model.specs.Entries.{IsNotBehind, entry_at}
 use Rattle.model.specs.Object.{Content}
-use Rattle.model.proofs.SortedLaws.{behind_is, position_cmp, ties_is}
 use Rattle.store.specs.Stored.{AreIn}
 use Rattle.store.proofs.Order.{all_pairs_from_map, all_pairs_map}
 use Rattle.masks.specs.Masks.{has_word}
@@ -85,6 +85,16 @@ edited-again es k b c some i j =
     rw whole at (edited-twice (take k es) (drop k es) b c i j (some i j))
 
 -- ---- edits in another order
+
+abbrev pub position_cmp : ℕ × ℕ → ℕ × ℕ → Ordering
+position_cmp p q = ordering_then (nat_cmp p.0 q.0) (nat_cmp p.1 q.1)
+
+ties_is : (i j row col : ℕ)
+    → (not (is_lt (ordering_then (nat_cmp i row) (nat_cmp j col))) && not (is_lt (ordering_then (nat_cmp row i) (nat_cmp col j)))) ≡ (eqb i row && eqb j col)
+ties_is i j row col = grind (arith, nat_tests)
+
+behind_is : (e f : Entry) → is_lt (position_cmp (f.row, f.col) (e.row, e.col)) ≡ false → IsNotBehind e f
+behind_is e f h = grind (arith, nat_tests)
 
 -- whether an edit is of a position
 abbrev is_at : ℕ → ℕ → Edit → Bool

@@ -1,7 +1,8 @@
 -- What entries make, in any order, as they lie, and where those of one position are joined.
-use Rattle.std.proofs.Common.{◌≡◌, ℕ, ◌<◌, ◌≤◌, ◌&&◌, true, false, eqb, List, [], ◌∷◌, get_or, Option, refl, sym, ◌∙◌, ap, inl, inr, arith}
+use Rattle.std.proofs.Common.{◌≡◌, ℕ, ◌^◌, ◌<◌, ◌≤◌, ◌&&◌, true, false, eqb, List, [], ◌∷◌, get_or, Option, refl, sym, ◌∙◌, ap, inl, inr, arith}
 use Rattle.std.specs.List.{All, AllPairs}
 use Rattle.std.specs.List.Sorted.{IsStableByKey}
+use Rattle.std.specs.Ordering.{nat_cmp}
 use Rattle.std.proofs.lemmas.Bool.{cases_Bool}
 use Rattle.std.proofs.lemmas.Bool.Decides.{nat_tests}
 use Rattle.std.proofs.lemmas.List.Elements.{All-cons, All-head, All-map, All-tail, All-weaker}
@@ -9,7 +10,7 @@ use Rattle.algebra.specs.declared.operator_names.OpName.{OpName}
 use Rattle.model.specs.Builds.{gathered, joined, joined_all, words_at}
 use Rattle.model.specs.declared.entry.Entry.{Entry}
 use Rattle.model.specs.Entries.{InOrder, IsNotBehind, Precedes, entry_at, word_at}
-use Rattle.model.proofs.SortedLaws.{position_cmp, position_of, words_at-sorted}
+use Rattle.model.proofs.SortedLaws.{IsNarrow, key_of, words_at-sorted}
 use Rattle.store.specs.Stored.{AreIn, along, transposed}
 use Rattle.store.proofs.Contents.{transposed_twice, word_at-transposed}
 use Rattle.store.proofs.Order.{all_from_map, all_pairs_cons, all_pairs_head, all_pairs_nil, all_pairs_tail}
@@ -202,7 +203,12 @@ along_order first past cols es order inside =
 
 -- ---- entries that are sorted
 
+pub are_narrow : (first past cols : ℕ) (es : List Entry) → cols < 2 ^ 64 → AreIn first past cols es → All IsNarrow es
+are_narrow first past cols es fits inside =
+    All-weaker (λ e. ((first ≤ e.row) × (e.row < past)) × (e.col < cols)) IsNarrow (λ e p. (let col = p.1 in omega arith)) es inside
+
 -- what entries make does not change with the order of the list
-pub gathered-sorted : (joins : Option OpName) (es sorted : List Entry)
-    → IsStableByKey position_of position_cmp es sorted → (i j : ℕ) → gathered joins sorted i j ≡ gathered joins es i j
-gathered-sorted joins es sorted stable i j = ap (joined_all joins) (words_at-sorted es sorted stable i j)
+pub gathered-sorted : (joins : Option OpName) (es sorted : List Entry) → All IsNarrow es → All IsNarrow sorted
+    → IsStableByKey key_of nat_cmp es sorted → (i j : ℕ) → gathered joins sorted i j ≡ gathered joins es i j
+gathered-sorted joins es sorted before after stable i j =
+    ap (joined_all joins) (words_at-sorted es sorted before after stable i j)

@@ -29,6 +29,6 @@ pub fn gather(
     ensures words { IfOk result (λ block. (i j : ℕ) → block_content block i j
         ≡ gathered (option_map op_named joins) entries.items i j) }
 {
-    entries.sort_by_key(|entry| (entry.row, entry.col))?;
+    entries.sort_by_key(Entry::key)?;
     block_of_sorted(alloc, entries, joins, range, cols)
 }

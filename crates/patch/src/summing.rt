@@ -71,7 +71,7 @@ fn sum_list(
     ensures words { IfOk result (λ block. (i j : ℕ) → block_content block i j
         ≡ gathered (Some (sum_in_file domain)) list.items i j) }
 {
-    list.sort_unstable_by_key(|entry| (entry.row, entry.col));
+    list.sort_unstable_by_key(Entry::key);
     block_of_sorted(alloc, list, Some(sum_in_file(domain)), 0..rows, cols)
 }
 

@@ -2,11 +2,10 @@ use Rattle.std.proofs.Common.{◌∙◌, List, ap, rules}
 use Rattle.std.specs.List.Sorted.{IsStableByKey}
 use Rattle.std.proofs.lemmas.Fn.{always_returns_same}
 use Rattle.std.proofs.lemmas.List.Sorted.{All-permutation}
-use Rattle.model.proofs.SortedLaws.{position_cmp}
 use Rattle.store.specs.Stored.{content_of}
 use Rattle.patch.specs.declared.edits.Edit.{Edit}
 use Rattle.patch.specs.Edits.{IsInside, edited, place_of}
-use Rattle.patch.proofs.EditLaws.{edited-sorted, order_of_sorted}
+use Rattle.patch.proofs.EditLaws.{edited-sorted, order_of_sorted, position_cmp}
 use Rattle.patch.proofs.edits.apply_edits.Goals as goal
 use Rattle.patch.proofs.edits.apply_edits.Goals.{then-len-le-FEW_EDITS+in_ok-apply, else-len-le-FEW_EDITS+in_ok-sort_by_key+in_ok-merge_into}
 
