@@ -11,6 +11,7 @@ ghost use Rattle.spgemm.specs.Products.{HasOpenRow};
 ghost use Rattle.spgemm.specs.Terms.{AreFirstTerms, term_at, terms_of_row, times_row};
 ghost use Rattle.spgemm.specs.declared.term.Term.{Term};
 
+use crate::ahead::{look_from, pays_ahead};
 use crate::span::{Reach, widened_by_row, words_between};
 use crate::sums::push_sum;
 use crate::term::Term;
@@ -192,11 +193,15 @@ fn add_rows_by(
     ensures bound { 0 < length bits.old → result.span.end ≤ length bits.old }
 {
     let many = sums.len() / COLUMNS_AN_ENTRY;
+    let is_ahead = pays_ahead(row.cols.len() - from, b);
     let mut full = 0;
     let mut last = 0;
     let mut ends = (u64::MAX, 0);
     let mut count: usize = 0;
     for k in from..row.cols.len() {
+        if is_ahead {
+            count = count.saturating_add(look_from(row.cols, k, b, hints, last));
+        }
         let (cols, words, next) = b.row_near(row.cols[k], hints.of(row.cols[k], last));
         last = next;
         ends = widened_by_row(ends, cols);

@@ -10,6 +10,7 @@ ghost use Rattle.spgemm.specs.Products.{HasOpenRow};
 ghost use Rattle.spgemm.specs.Terms.{apply, kept_terms, term_at, terms_of_row, times_row};
 ghost use Rattle.spgemm.specs.declared.term.Term.{Term};
 
+use crate::ahead::{look_from, pays_ahead};
 use crate::dense::{add_at, gather};
 use algebra::{Semiring, with_semiring};
 use lanes::{count_ones, has_bit};
@@ -97,7 +98,7 @@ fn add_products(
 }
 
 /// Adds the products of a row of A with B at the columns that are kept, each entry times the row of B that its column
-/// names. No bit is set yet.
+/// names. No bit is set yet. It answers about how many products there are, or 0 where it didn't look ahead.
 #[tactic(auto, using(crate::proofs::Arms::same_kept_sums))]
 fn add_rows(
     bits: &mut [u64],
@@ -107,7 +108,7 @@ fn add_rows(
     b: &Sparse,
     hints: &RowHints,
     semiring: Semiring,
-)
+) -> usize
     requires room { HaveRoom bits.old sums.old }
     requires kept { length kept.now ≡ length bits.old }
     requires lengths { length row.words.now ≡ length row.cols.now }
@@ -133,7 +134,7 @@ fn add_rows_by(
     b: &Sparse,
     hints: &RowHints,
     semiring: Semiring,
-)
+) -> usize
     requires room { HaveRoom bits.old sums.old }
     requires kept { length kept.now ≡ length bits.old }
     requires lengths { length row.words.now ≡ length row.cols.now }
@@ -142,12 +143,18 @@ fn add_rows_by(
     ensures { AreColumnSums semiring.add.op (kept_terms (has_bit kept.now) (terms_of_row semiring.multiply
         (entries_along row.entry.index row.entry.cols.now row.entry.words.now) b.now)) bits.new sums.new }
 {
+    let is_ahead = pays_ahead(row.cols.len(), b);
     let mut last = 0;
+    let mut count: usize = 0;
     for k in 0..row.cols.len() {
+        if is_ahead {
+            count = count.saturating_add(look_from(row.cols, k, b, hints, last));
+        }
         let (cols, words, next) = b.row_near(row.cols[k], hints.of(row.cols[k], last));
         last = next;
         add_products(bits, sums, kept, row.words[k], cols, words, semiring);
     }
+    count
 }
 
 /// Puts the sums of the row of the product with B that a row of A gives, at the columns that are kept, behind the inner
@@ -172,7 +179,10 @@ pub(crate) fn sum_few(
         (entries_along row.entry.index row.entry.cols.now row.entry.words.now) b.now))
         lists.old lists.new) }
 {
-    add_rows(bits, sums, kept, row, b, hints, semiring);
+    let products = add_rows(bits, sums, kept, row, b, hints, semiring);
+    let most = products.min(count_ones(kept) as usize);
+    lists.inner.reserve(most)?;
+    lists.words.reserve(most)?;
     let count = bits.len();
     gather(lists, bits, sums, &(0..count))
 }

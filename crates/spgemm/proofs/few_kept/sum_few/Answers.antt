@@ -17,10 +17,11 @@ returns c =
     let row = entries_along c.args.row.index c.args.row.cols.now c.args.row.words.now in
     let terms = terms_of_row mul row b in
     let keeps = has_bit c.args.kept.now in
-    let bits = c.add_rows.new.bits in
-    let words = c.add_rows.new.sums in
+    let bits = c.add_rows-products.new.bits in
+    let words = c.add_rows-products.new.sums in
     let Inside : Term → Type 0 = λ t. t.col < length words in
     let inside : All Inside (kept_terms keeps terms) = All-weaker (λ t. Inside t × (keeps t.col ≡ true)) Inside (λ t p. p.0) (kept_terms keeps terms)
-    (all_kept Inside keeps terms (below_width mul row b (length words) (omega (arith, c.requires.inside, c.add_rows.auto.sums)))) in
+    (all_kept Inside keeps terms (below_width mul row b (length words) (omega (arith, c.requires.inside, c.add_rows-products.auto.sums)))) in
     dense_open_ok c.gather.result op c.args.row.index (kept_terms keeps terms) bits words c.args.lists.now c.gather.new.lists inside
-    c.add_rows.ensures c.gather.ensures.ends c.gather.ensures.inner c.gather.ensures.words
+    c.add_rows-products.ensures c.gather.ensures.ends
+    (rw c.in_ok-reserve.ensures.items at c.gather.ensures.inner) (rw c.in_ok-reserve-2.ensures.items at c.gather.ensures.words)
