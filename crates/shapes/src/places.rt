@@ -23,8 +23,9 @@ pub(crate) struct Places {
         → row_entries store.cols (content_of store) col ≡ [] },
 }
 
-// There are so many marks for each index of the list at the least, which together take as much memory.
-const MARKS: u64 = 8;
+// There are so many marks for each index of the list at the least, which together take twice as much memory: of
+// the columns that aren't listed, at most one in so many has a mark.
+const MARKS: u64 = 16;
 
 impl Places {
     /// The places of a list's columns, for so many looks. It takes time and memory for the list, and for the columns
