@@ -10,9 +10,8 @@ use Rattle.model.specs.declared.entry.Entry.{Entry}
 use Rattle.model.specs.Entries.{count_from, entries_of, entry_at, row_entries}
 use Rattle.model.specs.Object.{Content, without_entry}
 use Rattle.lanes.specs.Bits.{has_bit}
-use Rattle.bitmap.specs.Bitmaps.{held, place_of, word_in}
+use Rattle.bitmap.specs.Bitmaps.{held, place_of, row_part, word_in}
 use Rattle.bitmap.proofs.PlaceLaws.{AgreeBut, IsCleared, IsSet, here_removed, here_set, no_bit, others_removed, others_set}
-use Rattle.bitmap.proofs.WordLaws.{row_part}
 
 -- how many words there are at a position
 abbrev pub one_of : Option ℕ → ℕ

@@ -10,11 +10,10 @@ use Rattle.std.proofs.lemmas.Nat.Bits.{bit_at-zero, bit_at_ones, bit_at_ones_abo
 use Rattle.lanes.specs.Bits.{has_bit}
 use Rattle.model.specs.Entries.{count_from, entries_of, entry_at, row_entries}
 use Rattle.model.specs.Object.{Content, with_entry}
-use Rattle.bitmap.specs.Bitmaps.{HasPlaces, column_entries, entries_down, held, place_of, word_in}
+use Rattle.bitmap.specs.Bitmaps.{HasPlaces, column_entries, entries_down, held, place_of, row_part, word_in}
 use Rattle.bitmap.proofs.ColumnLaws.{column_is}
 use Rattle.bitmap.proofs.CountLaws.{entries_length, entries_most, one_in, one_more, one_of}
 use Rattle.bitmap.proofs.PlaceLaws.{held_is, map_of, place_inside}
-use Rattle.bitmap.proofs.WordLaws.{row_part}
 
 -- ---- bits
 

@@ -42,7 +42,7 @@ zip_with_at f xs ys k same none =
           get_or_past (zip_with f xs ys) k 0 (omega arith) ∙ rw (get_or_past xs k 0 le, get_or_past ys k 0 (omega arith)) (sym none)
     ]
 
-min_one : (a b : ℕ) → a < 2 → b < 2 → eqb (min a b) 1 ≡ (eqb a 1 && eqb b 1)
+pub min_one : (a b : ℕ) → a < 2 → b < 2 → eqb (min a b) 1 ≡ (eqb a 1 && eqb b 1)
 min_one a b a_small b_small = grind (arith, nat_tests)
 
 max_one : (a b : ℕ) → a < 2 → b < 2 → eqb (max a b) 1 ≡ (eqb a 1 || eqb b 1)

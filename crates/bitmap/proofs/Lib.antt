@@ -8,4 +8,5 @@ pub mod OverLaws
 pub mod PartLaws
 pub mod PlaceLaws
 pub mod PlacedEntries
+pub mod RowLaws
 pub mod WordLaws

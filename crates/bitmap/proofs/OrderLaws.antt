@@ -3,11 +3,11 @@ use Rattle.std.proofs.Common.{◌≡◌, ℕ, zero, suc, ◌+◌, ◌<◌, ◌�
 use Rattle.std.specs.Option.{option_map}
 use Rattle.std.specs.List.{All, AllPairs, cons_option, flat_map}
 use Rattle.std.proofs.lemmas.List.Elements.{All-append, All-cons, All-head, All-nil, All-tail, All-weaker}
+use Rattle.bitmap.specs.Bitmaps.{row_part}
 use Rattle.model.specs.declared.entry.Entry.{Entry}
 use Rattle.model.specs.Entries.{InOrder, IsInside, Precedes, count_from, entries_of, entry_at, row_entries}
 use Rattle.model.specs.Object.{Content}
 use Rattle.model.proofs.TupleLaws.{pairs_cons, pairs_head, pairs_tail}
-use Rattle.bitmap.proofs.WordLaws.{row_part}
 
 pairs_nil : {X : Type 0} (R : X → X → Type 0) → AllPairs R []
 pairs_nil R i j d below within = absurd (omega arith)

@@ -12,10 +12,9 @@ use Rattle.lanes.proofs.PresentLaws.{ones_more}
 use Rattle.lanes.specs.Bits.{has_bit, present_from, present_words}
 use Rattle.model.specs.declared.entry.Entry.{Entry}
 use Rattle.model.specs.Entries.{count_from, entries_of, entry_at, row_entries}
-use Rattle.bitmap.specs.Bitmaps.{column_entries, held, word_in}
+use Rattle.bitmap.specs.Bitmaps.{column_entries, held, row_part, word_in}
 use Rattle.bitmap.proofs.ColumnLaws.{all_places, bit_here, column_append, column_zero, next_places}
 use Rattle.bitmap.proofs.CountLaws.{count_of, one_in, one_more}
-use Rattle.bitmap.proofs.WordLaws.{row_part}
 
 abbrev pub words_of : List Entry → List ℕ
 words_of es = map (λ e. e.word) es

@@ -1,13 +1,14 @@
 -- The maps that lists of entries stand for: lists one behind the other, and the entries of a map.
 use Rattle.std.proofs.Common.{◌≡◌, ℕ, zero, suc, ◌+◌, true, false, cond, ◌&&◌, eqb, leb, ltb, List, [], ◌∷◌, ◌++◌, Some, None, refl, sym, ◌∙◌, ap, inl, inr, arith}
 use Rattle.std.specs.Option.{option_map}
-use Rattle.std.specs.List.{All, cons_option, filter_map, flat_map}
+use Rattle.std.specs.List.{All, cons_option, flat_map}
 use Rattle.std.proofs.lemmas.Bool.{cases_Bool, cases_eq}
 use Rattle.std.proofs.lemmas.Bool.Decides.{nat_tests}
 use Rattle.std.proofs.lemmas.List.Elements.{All-head, All-tail}
 use Rattle.model.specs.declared.entry.Entry.{Entry}
 use Rattle.model.specs.Entries.{count_from, entries_of, entry_at, row_entries, word_at}
 use Rattle.model.specs.Object.{Content}
+use Rattle.bitmap.specs.Bitmaps.{row_part}
 
 pub word_at-skip : (i j : ℕ) (e : Entry) (es : List Entry) → (eqb i e.row && eqb j e.col) ≡ false
     → word_at (e ∷ es) i j ≡ word_at es i j
@@ -45,10 +46,6 @@ append_left i j (x ∷ xs) ys none =
     ]
 
 -- ---- the entries of a map
-
--- the entries of some columns of a row
-abbrev pub row_part : Content → ℕ → ℕ → ℕ → List Entry
-row_part c r lo n = filter_map (λ k. option_map (entry_at r k) (c r k)) (count_from lo n)
 
 row_word : (c : Content) (r i j lo n : ℕ)
     → word_at (row_part c r lo n) i j ≡ cond (eqb i r && (leb lo j && ltb j (lo + n))) (c r j) None

@@ -27,6 +27,10 @@ pub record Listed : Type 0 where
 abbrev pub column_entries : (ℕ → Option ℕ) → ℕ → ℕ → List Entry
 column_entries f first n = filter_map (λ at. option_map (entry_at at 0) (f at)) (count_from first n)
 
+-- the entries of a row of a map at n columns, from the first on
+abbrev pub row_part : Content → ℕ → ℕ → ℕ → List Entry
+row_part c i first n = filter_map (λ j. option_map (entry_at i j) (c i j)) (count_from first n)
+
 -- the place of a position; a column's places are its rows
 abbrev pub place_of : ℕ → ℕ → ℕ → ℕ
 place_of cols i j = i * cols + j

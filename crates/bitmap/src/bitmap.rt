@@ -1,6 +1,7 @@
 //! What a bitmap holds, position by position and column by column.
-ghost use Rattle.std.specs.Prelude.{◌≡◌, ◌<◌, ◌≤◌, ◌+◌, ◌*◌, ◌^◌, ◌==◌, ℕ, None, IfOk, is_some, length};
-ghost use Rattle.std.specs.Int.{bit_at};
+ghost use Rattle.std.specs.Prelude.{◌≡◌, ◌<◌, ◌≤◌, ◌+◌, ◌*◌, ◌^◌, ◌==◌, ℕ, if◌then◌else◌, IfOk, None, Some};
+ghost use Rattle.std.specs.Prelude.{is_some, length, slice_index};
+ghost use Rattle.std.specs.Int.{bit_at, div_ceil};
 ghost use Rattle.std.specs.List.{All, AllPairs};
 ghost use Rattle.std.specs.Option.{option_or};
 ghost use Rattle.model.specs.Entries.{InOrder, IsInside, word_at};
@@ -9,7 +10,7 @@ ghost use Rattle.bitmap.specs.Bitmaps.{entries_down, place_of};
 
 use crate::column::ColumnLists;
 use crate::full::full_lists;
-use lanes::{clear_bit, has_bit, set_bit};
+use lanes::{bits_from, clear_bit, has_bit, lowest_bits, set_bit};
 use model::NoMemory;
 use std::alloc::Global;
 use std::marker::Model;
@@ -87,6 +88,15 @@ impl Bitmap {
         self.cols
     }
 
+    /// How many parts of 64 columns a row has, of which the last may be shorter.
+    pub fn row_parts(&self) -> u64
+        ensures number { result ≡ div_ceil self.now.cols 64 }
+        ensures bound { result ≤ 2 ^ 58 }
+        ensures inside { IsInside self.now.rows self.now.cols self.now.entries }
+    {
+        self.cols.div_ceil(64)
+    }
+
     /// The number of entries, in constant time.
     pub fn nvals(&self) -> u64
         ensures number { result ≡ length self.now.entries }
@@ -136,6 +146,22 @@ impl Bitmap {
         } else {
             0
         }
+    }
+
+    /// What row `i` holds at the 64 columns from `j` on: a bit for each, which says whether there is an entry, and
+    /// the words from there on. It takes constant time.
+    #[inline(always)]
+    pub fn row_from(&self, i: u64, j: u64) -> (u64, &[u64])
+        ensures content { (k : ℕ) → k < 64 → word_at self.now.entries i (j + k)
+            ≡ (if bit_at result.0 k == 1 then Some (slice_index result.1.now k) else None) }
+        ensures inside { (k : ℕ) → k < 64 → bit_at result.0 k ≡ 1 → k < length result.1.now }
+    {
+        if i >= self.rows || j >= self.cols {
+            return (0, &[]);
+        }
+        let at = self.place(i, j);
+        let bits = bits_from(&self.bits, at) & lowest_bits(self.cols - j);
+        (bits, &self.words[at..])
     }
 
     /// Sets the word at row `i` and column `j`. It takes constant time and no memory.

@@ -14,7 +14,8 @@ mod unary;
 
 pub use binary::{unite_words, zip_words};
 pub use bits::{
-    and_words, clear_bit, count_ones, full_words, has_bit, or_words, packed, set_bit, set_bit_by,
+    and_words, bits_from, clear_bit, count_ones, full_words, has_bit, lowest_bits, or_words,
+    packed, set_bit, set_bit_by,
 };
 pub use bound::{bind_first, bind_second};
 pub use casts::cast_words;

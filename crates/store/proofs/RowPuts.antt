@@ -1,14 +1,15 @@
 -- The rows of a bitmap: put into it, and gathered from it.
-use Rattle.std.proofs.Common.{◌≡◌, ℕ, zero, suc, ◌+◌, ◌<◌, false, eqb, ◌&&◌, List, [], ◌∷◌, ◌++◌, length, map, get_or, take, Some, None, refl, sym, subst, ◌∙◌, ap, inl, inr, arith}
+use Rattle.std.proofs.Common.{◌≡◌, ℕ, zero, suc, ◌+◌, ◌<◌, false, eqb, ◌&&◌, List, [], ◌∷◌, ◌++◌, length, map, get_or, take, None, refl, sym, subst, ◌∙◌, ap, inl, inr, arith}
 use Rattle.std.specs.List.{All, AllPairs, cons_option, filter_map, flat_map}
 use Rattle.std.specs.Option.{option_map}
 use Rattle.std.proofs.lemmas.Bool.{cases_eq}
 use Rattle.std.proofs.lemmas.Bool.Decides.{nat_tests}
 use Rattle.std.proofs.lemmas.Grind.{flat_map-append}
-use Rattle.std.proofs.lemmas.List.{append-nil, append_assoc, length-map, map-append, take_more}
+use Rattle.std.proofs.lemmas.List.{append-nil, length-map, take_more}
 use Rattle.std.proofs.lemmas.List.Elements.{All-head, All-tail, All-weaker, filter_map-append}
+use Rattle.bitmap.specs.Bitmaps.{row_part}
 use Rattle.bitmap.proofs.OverLaws.{over, over_more}
-use Rattle.bitmap.proofs.WordLaws.{append_left, append_right, row_part, word_at-none}
+use Rattle.bitmap.proofs.WordLaws.{append_left, append_right, word_at-none}
 use Rattle.model.specs.declared.entry.Entry.{Entry}
 use Rattle.model.specs.Entries.{InOrder, IsInside, count_from, entry_at, row_entries, word_at}
 use Rattle.model.specs.Object.{Content, with_entry}
@@ -85,20 +86,6 @@ pub next_column : (c : Content) (i j : ℕ)
 next_column c i j =
     ap (filter_map (λ k. option_map (entry_at i k) (c i k))) (next_number j)
     ∙ filter_map-append (λ k. option_map (entry_at i k) (c i k)) (count_from 0 j) (j ∷ [])
-
-pub column_there : (c : Content) (i j word : ℕ) (cols words : List ℕ) → c i j ≡ Some word
-    → let before = row_part c i 0 j in let after = row_part c i 0 (j + 1) in
-    ((cols ++ map (λ (e : Entry). e.col) before) ++ j ∷ [] ≡ cols ++ map (λ (e : Entry). e.col) after)
-    × ((words ++ map (λ (e : Entry). e.word) before) ++ word ∷ [] ≡ words ++ map (λ (e : Entry). e.word) after)
-column_there c i j word cols words is =
-    let before = row_part c i 0 j in
-    let more : row_part c i 0 (j + 1) ≡ before ++ entry_at i j word ∷ [] = next_column c i j ∙ rw is refl in (
-      append_assoc cols (map (λ (e : Entry). e.col) before) (j ∷ []) ∙ ap (λ xs. cols ++ xs) (sym (ap (map (λ (e : Entry). e.col)) more ∙ map-append (λ (e : Entry). e.col) before (entry_at i j word ∷ []))),
-      append_assoc words (map (λ (e : Entry). e.word) before) (word ∷ []) ∙ ap (λ xs. words ++ xs) (sym (ap (map (λ (e : Entry). e.word)) more ∙ map-append (λ (e : Entry). e.word) before (entry_at i j word ∷ []))),
-    )
-
-pub column_absent : (c : Content) (i j : ℕ) → c i j ≡ None → row_part c i 0 (j + 1) ≡ row_part c i 0 j
-column_absent c i j none = next_column c i j ∙ rw none (append-nil (row_part c i 0 j))
 
 -- the columns and the words of entries of one row are that row
 along_row : (i : ℕ) (es : List Entry) → All (λ e. e.row ≡ i) es

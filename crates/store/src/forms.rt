@@ -1,8 +1,10 @@
 //! Stores from one form to the other.
-ghost use Rattle.std.specs.Prelude.{◌≡◌, ◌≢◌, ℕ, ◌<◌, ◌≤◌, ◌*◌, ◌^◌, ◌++◌, ◌∷◌, [], ◌==◌, if◌then◌else◌};
+ghost use Rattle.std.specs.Prelude.{◌≡◌, ◌≢◌, ℕ, ◌<◌, ◌≤◌, ◌+◌, ◌*◌, ◌^◌, ◌++◌, ◌∷◌, [], ◌==◌, if◌then◌else◌};
 ghost use Rattle.std.specs.Prelude.{IfErr, IfOk, OnOk, length, map};
 ghost use Rattle.std.specs.List.{AllPairs};
 ghost use Rattle.std.specs.Option.{option_or};
+ghost use Rattle.std.specs.Vec.{vec_capacity, vec_len};
+ghost use Rattle.bitmap.specs.Bitmaps.{row_part};
 ghost use Rattle.model.specs.Entries.{IsInside, row_entries, word_at};
 ghost use Rattle.store.specs.Fibers.{end_at, entries_along, last_end};
 ghost use Rattle.store.specs.Forms.{of_bitmap};
@@ -149,13 +151,52 @@ fn append_row(lists: &mut FiberLists, bitmap: &Bitmap, i: u64) -> Result<(), NoM
         then lists.old.ends.items
         else lists.old.ends.items ++ end_at i (length lists.new.inner.items) ∷ [])) }
 {
-    for j in 0..bitmap.cols() {
-        if let Some(word) = bitmap.get(i, j) {
-            lists.inner.push(j)?;
-            lists.words.push(word)?;
-        }
+    for part in 0..bitmap.row_parts() {
+        append_part(lists, bitmap, i, part)?;
     }
     lists.close(i)
+}
+
+/// Puts the entries of a part of a row of a bitmap, the 64 columns from `64 * part` on, behind the inner indices and
+/// words. It goes from one bit that is set to the next.
+fn append_part(lists: &mut FiberLists, bitmap: &Bitmap, i: u64, part: u64) -> Result<(), NoMemory>
+    requires { part < 2 ^ 58 }
+    ensures ends { OnOk result (lists.new.ends ≡ lists.old.ends) }
+    ensures inner { OnOk result (lists.new.inner.items ≡ lists.old.inner.items
+        ++ map (λ e. e.col) (row_part (word_at bitmap.now.entries) i (64 * part) 64)) }
+    ensures words { OnOk result (lists.new.words.items ≡ lists.old.words.items
+        ++ map (λ e. e.word) (row_part (word_at bitmap.now.entries) i (64 * part) 64)) }
+{
+    let first = 64 * part;
+    let (bits, words) = bitmap.row_from(i, first);
+    let count = bits.count_ones() as usize;
+    lists.inner.reserve(count)?;
+    lists.words.reserve(count)?;
+    let mut left = bits;
+    while left != 0 {
+        let bit = left.trailing_zeros();
+        push_reserved(lists, first + bit as u64, words[bit as usize]);
+        // The bit is cleared without its place, so that the next turn needn't wait until that is found.
+        left &= left - 1;
+    }
+    Ok(())
+}
+
+/// Puts an inner index and its word behind the others, where there is room.
+#[inline(always)]
+fn push_reserved(lists: &mut FiberLists, inner: u64, word: u64)
+    requires inner_room { vec_len lists.old.inner < vec_capacity lists.old.inner }
+    requires words_room { vec_len lists.old.words < vec_capacity lists.old.words }
+    ensures ends { lists.new.ends ≡ lists.old.ends }
+    ensures inner { lists.new.inner.items ≡ lists.old.inner.items ++ inner ∷ [] }
+    ensures words { lists.new.words.items ≡ lists.old.words.items ++ word ∷ [] }
+    ensures inner_length { vec_len lists.new.inner ≡ vec_len lists.old.inner + 1 }
+    ensures words_length { vec_len lists.new.words ≡ vec_len lists.old.words + 1 }
+    ensures inner_capacity { vec_capacity lists.new.inner ≡ vec_capacity lists.old.inner }
+    ensures words_capacity { vec_capacity lists.new.words ≡ vec_capacity lists.old.words }
+{
+    lists.inner.push_reserved(inner);
+    lists.words.push_reserved(word);
 }
 
 /// Puts the entries of a block of a column over those of a bitmap.
