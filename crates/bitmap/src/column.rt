@@ -69,7 +69,8 @@ impl ColumnLists {
             let bit = left.trailing_zeros();
             let place = 64 * at + bit as usize;
             self.push(place as u64, words[place]);
-            left &= !(1 << bit);
+            // The bit is cleared without its place, so that the next turn needn't wait until that is found.
+            left &= left - 1;
         }
     }
 

@@ -259,7 +259,8 @@ fn gather_word(
                 word: words[at],
             },
         );
-        left &= !(1 << place);
+        // The bit is cleared without its place, so that the next turn needn't wait until that is found.
+        left &= left - 1;
     }
     Ok(())
 }

@@ -1,10 +1,10 @@
-use Rattle.std.proofs.Common.{◌≡◌, ◌+◌, ◌∷◌, ◌∙◌, [], append-nil, append_assoc, arith, get_or, refl, rules, subst, sym, w64}
+use Rattle.std.proofs.Common.{◌≡◌, ◌<◌, ◌+◌, ◌∷◌, ◌∙◌, [], append-nil, append_assoc, arith, get_or, refl, rules, subst, sym, w64}
 use Rattle.std.specs.Int.{trailing_zeros}
 use Rattle.std.proofs.lemmas.List.{map-append}
 use Rattle.spgemm.specs.Dense.{found, word_by}
 use Rattle.spgemm.specs.Terms.{term_at}
 use Rattle.spgemm.specs.declared.term.Term.{Term}
-use Rattle.lanes.proofs.BitLaws.{AreLeft, all_left, cleared_less, ones_behind}
+use Rattle.lanes.proofs.BitLaws.{AreLeft, all_left, cleared_less, lowest_cleared, ones_behind}
 use Rattle.spgemm.proofs.DenseLaws.{all_found, found_zero, next_word}
 use Rattle.spgemm.proofs.dense.gather_word.Goals as goal
 
@@ -34,7 +34,10 @@ push_sum-requires-clause-words_room c =
     omega (arith, ones_behind c.args.bits s.invariant.p (trailing_zeros w64 s.left) next.2 next.3)
 
 pub loop-left-smaller : goal.loop-left-smaller
-loop-left-smaller c = cleared_less c.loop-left.left c.loop-left-test.true (omega (arith, c.loop-left.auto.left-fits))
+loop-left-smaller c =
+    let left = c.loop-left.left in
+    let fits : left < 18446744073709551616 = omega (arith, c.loop-left.auto.left-fits) in
+    rw (lowest_cleared left c.loop-left-test.true fits) (cleared_less left c.loop-left-test.true fits)
 
 pub loop-left-preserved : goal.loop-left-preserved
 loop-left-preserved c =
@@ -50,7 +53,7 @@ loop-left-preserved c =
     let fewer = ones_behind c.args.bits here.p place next.2 next.3 in
     record {
       p = place + 1;
-      are_left = next.1;
+      are_left = rw (lowest_cleared s.left c.loop-left-test.true (omega (arith, s.auto.left-fits))) next.1;
       ends = push.ends ∙ here.ends;
       inner = push.inner ∙ rw (here.inner, next.4, map-append (λ (s : Term). s.col) before (t ∷ [])) (simp append_assoc);
       words = push.words ∙ rw (here.words, next.4, map-append (λ (s : Term). s.word) before (t ∷ [])) (simp append_assoc);

@@ -1,7 +1,7 @@
-use Rattle.std.proofs.Common.{◌≡◌, ◌*◌, ◌+◌, ◌∷◌, ◌∙◌, [], ap, append-nil, append_assoc, arith, get_or, length, refl, subst, sym, w64}
+use Rattle.std.proofs.Common.{◌≡◌, ◌<◌, ◌*◌, ◌+◌, ◌∷◌, ◌∙◌, [], ap, append-nil, append_assoc, arith, get_or, length, refl, subst, sym, w64}
 use Rattle.std.specs.Int.{trailing_zeros}
 use Rattle.std.proofs.lemmas.List.{length-append}
-use Rattle.lanes.proofs.BitLaws.{AreLeft, all_left, cleared_less}
+use Rattle.lanes.proofs.BitLaws.{AreLeft, all_left, cleared_less, lowest_cleared}
 use Rattle.model.specs.Entries.{entry_at}
 use Rattle.bitmap.specs.Bitmaps.{column_entries, word_in}
 use Rattle.bitmap.proofs.ColumnLaws.{column_most, column_zero, next_entry, none_left, place_under}
@@ -41,7 +41,10 @@ push-requires c =
     omega arith
 
 pub loop-left-smaller : goal.loop-left-smaller
-loop-left-smaller c = cleared_less c.loop-left.left c.loop-left-test.true (omega (arith, c.loop-left.auto.left-fits))
+loop-left-smaller c =
+    let left = c.loop-left.left in
+    let fits : left < 18446744073709551616 = omega (arith, c.loop-left.auto.left-fits) in
+    rw (lowest_cleared left c.loop-left-test.true fits) (cleared_less left c.loop-left-test.true fits)
 
 pub loop-left-preserved : goal.loop-left-preserved
 loop-left-preserved c =
@@ -53,7 +56,7 @@ loop-left-preserved c =
     let next = next_entry bits words c.args.at s.left here.p here.are_left c.loop-left-test.true (omega (arith, s.auto.left-fits)) in
     record {
       p = trailing_zeros w64 s.left + 1;
-      are_left = next.1;
+      are_left = rw (lowest_cleared s.left c.loop-left-test.true (omega (arith, s.auto.left-fits))) next.1;
       entries = c.push.ensures.entries ∙ rw (here.entries, next.3) (simp append_assoc);
       room = c.push.ensures.room ∙ here.room;
     }
