@@ -12,6 +12,7 @@ ghost use Rattle.spgemm.specs.declared.term.Term.{Term};
 
 use crate::ahead::{look_from, pays_ahead};
 use crate::dense::{add_at, gather};
+use crate::truths::are_truths;
 use algebra::{Semiring, with_semiring};
 use lanes::{count_ones, has_bit};
 use masks::MarkedMask;
@@ -21,6 +22,9 @@ use store::{FiberLists, Row, RowHints, Sparse};
 /// Where a mask keeps at most one of so many columns, a processor foresees that it keeps a product out, and to ask it
 /// takes less than to add what is dropped later.
 const COLUMNS_A_KEPT: u64 = 4;
+
+/// The same of truth values, which are added as bits in less time than the mask is asked.
+const COLUMNS_A_KEPT_TRUTH: u64 = 32;
 
 /// Reads which of the columns of so many words of bits the mask lets through; these are rows of its own column.
 pub(crate) fn read_columns(
@@ -41,11 +45,16 @@ pub(crate) fn read_columns(
     Ok(())
 }
 
-/// Whether few of so many columns are kept.
-pub(crate) fn keeps_few(kept: &[u64], cols: u64) -> bool
+/// Whether so few of so many columns are kept that it pays to ask first.
+pub(crate) fn keeps_few(kept: &[u64], cols: u64, semiring: Semiring) -> bool
     requires { 64 * length kept.now < 2 ^ 64 }
 {
-    count_ones(kept) <= cols / COLUMNS_A_KEPT
+    let columns = if are_truths(semiring) {
+        COLUMNS_A_KEPT_TRUTH
+    } else {
+        COLUMNS_A_KEPT
+    };
+    count_ones(kept) <= cols / columns
 }
 
 /// Adds a word times another to the sum at a column, where that is kept.
