@@ -12,7 +12,6 @@ ghost use Rattle.spgemm.specs.declared.term.Term.{Term};
 
 use crate::ahead::{look_from, pays_ahead};
 use crate::dense::{add_at, gather};
-use crate::truths::are_truths;
 use algebra::{Semiring, with_semiring};
 use lanes::{count_ones, has_bit};
 use masks::MarkedMask;
@@ -20,11 +19,8 @@ use model::NoMemory;
 use store::{FiberLists, Row, RowHints, Sparse};
 
 /// Where a mask keeps at most one of so many columns, a processor foresees that it keeps a product out, and to ask it
-/// takes less than to add what is dropped later.
-const COLUMNS_A_KEPT: u64 = 4;
-
-/// The same of truth values, which are added as bits in less time than the mask is asked.
-const COLUMNS_A_KEPT_TRUTH: u64 = 32;
+/// takes less than to add what is dropped later. Where it keeps more, what can't be foreseen costs more than the sums.
+const COLUMNS_A_KEPT: u64 = 32;
 
 /// Reads which of the columns of so many words of bits the mask lets through; these are rows of its own column.
 pub(crate) fn read_columns(
@@ -46,15 +42,10 @@ pub(crate) fn read_columns(
 }
 
 /// Whether so few of so many columns are kept that it pays to ask first.
-pub(crate) fn keeps_few(kept: &[u64], cols: u64, semiring: Semiring) -> bool
+pub(crate) fn keeps_few(kept: &[u64], cols: u64) -> bool
     requires { 64 * length kept.now < 2 ^ 64 }
 {
-    let columns = if are_truths(semiring) {
-        COLUMNS_A_KEPT_TRUTH
-    } else {
-        COLUMNS_A_KEPT
-    };
-    count_ones(kept) <= cols / columns
+    count_ones(kept) <= cols / COLUMNS_A_KEPT
 }
 
 /// Adds a word times another to the sum at a column, where that is kept.

@@ -104,7 +104,7 @@ fn sum_marked_places(
     } = scratch;
     fit(bits, sums, b.cols())?;
     read_columns(kept, mask, bits.len())?;
-    if keeps_few(kept, b.cols(), semiring) {
+    if keeps_few(kept, b.cols()) {
         return sum_few(lists, bits, sums, kept, row, b, hints, semiring);
     }
     sum_in_places(lists, scratch, row, done, b, Some(mask), semiring)
