@@ -1,5 +1,5 @@
 //! Rows of B that are looked up before they are read.
-ghost use Rattle.std.specs.Prelude.{◌<◌, length};
+ghost use Rattle.std.specs.Prelude.{◌≤◌, length};
 
 use store::{RowHints, Sparse};
 
@@ -35,14 +35,25 @@ fn touched_len(cols: &[u64], words: &[u64]) -> usize {
     }
 }
 
-/// About how many products entries in these columns have with B. All rows of B that they meet are looked up for it,
-/// and touched where they are far, one beside the other, so that a processor needn't wait for each by itself later.
-#[inline(always)]
-pub(crate) fn look_ahead(cols: &[u64], b: &Sparse, hints: &RowHints, last: usize) -> usize {
+/// About how many products a row of A has with B from an entry on, as far as is looked ahead at once. All rows of B
+/// that these entries meet are looked up for it, and touched where they are far, one beside the other, so that a
+/// processor needn't wait for each by itself later. It isn't inlined, or the loops that call it would grow too large
+/// to be.
+#[inline(never)]
+pub(crate) fn look_ahead(
+    cols: &[u64],
+    from: usize,
+    b: &Sparse,
+    hints: &RowHints,
+    last: usize,
+) -> usize
+    requires { from ≤ length cols.now }
+{
     let far = is_far(b);
+    let past = cols.len().min(from.saturating_add(AHEAD));
     let mut count: usize = 0;
     let mut last = last;
-    for col in cols {
+    for col in &cols[from..past] {
         let (found, words, next) = b.row_near(*col, hints.of(*col, last));
         let entries = if far {
             touched_len(found, words)
@@ -53,16 +64,4 @@ pub(crate) fn look_ahead(cols: &[u64], b: &Sparse, hints: &RowHints, last: usize
         last = next;
     }
     count
-}
-
-/// The same for the entries from a place on, as far as is looked ahead at once; 0 where that was done for it before.
-#[inline(always)]
-pub(crate) fn look_from(cols: &[u64], at: usize, b: &Sparse, hints: &RowHints, last: usize) -> usize
-    requires { at < length cols.now }
-{
-    if at % AHEAD != 0 {
-        return 0;
-    }
-    let past = cols.len().min(at.saturating_add(AHEAD));
-    look_ahead(&cols[at..past], b, hints, last)
 }

@@ -11,7 +11,7 @@ ghost use Rattle.spgemm.specs.Products.{HasOpenRow};
 ghost use Rattle.spgemm.specs.Terms.{AreFirstTerms, term_at, terms_of_row, times_row};
 ghost use Rattle.spgemm.specs.declared.term.Term.{Term};
 
-use crate::ahead::{look_from, pays_ahead};
+use crate::ahead::{AHEAD, look_ahead, pays_ahead};
 use crate::span::{Reach, widened_by_row, words_between};
 use crate::sums::push_sum;
 use crate::term::Term;
@@ -199,8 +199,8 @@ fn add_rows_by(
     let mut ends = (u64::MAX, 0);
     let mut count: usize = 0;
     for k in from..row.cols.len() {
-        if is_ahead {
-            count = count.saturating_add(look_from(row.cols, k, b, hints, last));
+        if is_ahead && k % AHEAD == 0 {
+            count = count.saturating_add(look_ahead(row.cols, k, b, hints, last));
         }
         let (cols, words, next) = b.row_near(row.cols[k], hints.of(row.cols[k], last));
         last = next;

@@ -10,7 +10,7 @@ ghost use Rattle.spgemm.specs.Products.{HasOpenRow};
 ghost use Rattle.spgemm.specs.Terms.{apply, kept_terms, term_at, terms_of_row, times_row};
 ghost use Rattle.spgemm.specs.declared.term.Term.{Term};
 
-use crate::ahead::{look_from, pays_ahead};
+use crate::ahead::{AHEAD, look_ahead, pays_ahead};
 use crate::dense::{add_at, gather};
 use algebra::{Semiring, with_semiring};
 use lanes::{count_ones, has_bit};
@@ -147,8 +147,8 @@ fn add_rows_by(
     let mut last = 0;
     let mut count: usize = 0;
     for k in 0..row.cols.len() {
-        if is_ahead {
-            count = count.saturating_add(look_from(row.cols, k, b, hints, last));
+        if is_ahead && k % AHEAD == 0 {
+            count = count.saturating_add(look_ahead(row.cols, k, b, hints, last));
         }
         let (cols, words, next) = b.row_near(row.cols[k], hints.of(row.cols[k], last));
         last = next;
