@@ -2,6 +2,7 @@ pub mod Accepted
 pub mod BitmapLaws
 pub mod Computed
 pub mod FactorLaws
+pub mod JoiningLaws
 pub mod MaskLaws
 pub mod NameLaws
 pub mod OverLaws

@@ -1,6 +1,7 @@
 pub mod Accepts
 pub mod Bitmaps
 pub mod Blocks
+pub mod Covers
 pub mod Factors
 pub mod Inputs
 pub mod Overs

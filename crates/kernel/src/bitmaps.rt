@@ -32,7 +32,7 @@ use crate::output::accumulator_of;
 use crate::task::Task;
 use algebra::{BinaryOp, Domain, FunctionName, IndexName, OpName, Semiring, SemiringName};
 use bitmap::Bitmap;
-use calls::{OneInput, Positions, Region, Shape, Signature, TwoInputs};
+use calls::{OneInput, Out, Positions, Region, Shape, Signature, TwoInputs};
 use elementwise::{apply_bitmap, select_bitmap};
 use model::{Lent, NoMemory};
 use spgemm::{multiply_bitmap, multiply_by_bitmap, suits_bitmap, suits_rows};
@@ -117,6 +117,17 @@ fn writing_of<'a>(task: &Task<'a>) -> Option<Writing<'a>>
     match out.c.store.form() {
         Form::Bitmap(old) => Some(Writing::Over { old, op }),
         Form::Sparse(_) => None,
+    }
+}
+
+/// Whether `writing_of` finds how all of an output is written, over what it has.
+fn writes_all(out: &Out<Signature>, old: Option<&Store>) -> bool {
+    if out.mask.is_some() || out.desc.complement {
+        return false;
+    }
+    match old.map(Store::form) {
+        Some(Form::Bitmap(_)) => true,
+        _ => out.accum.is_none(),
     }
 }
 
@@ -376,6 +387,21 @@ fn multiply_by_vector(
     }
     let made = multiply_by_bitmap(alloc, matrix, vector, semiring)?;
     Ok(Some(made))
+}
+
+/// Whether `task_bitmap` makes all of an output of the product of a matrix and a vector. It takes constant time.
+pub(crate) fn makes_column(
+    out: &Out<Signature>,
+    old: Option<&Store>,
+    a: &Store,
+    u: &Store,
+) -> bool {
+    match (a.form(), u.form()) {
+        (Form::Sparse(matrix), Form::Bitmap(vector)) => {
+            vector.cols() == 1 && suits_rows(matrix) && writes_all(out, old)
+        }
+        _ => false,
+    }
 }
 
 /// The greatest number of positions of a bitmap.

@@ -6,7 +6,8 @@ ghost use Rattle.kernel.specs.Takes.{AreInputs, maps_in};
 ghost use Rattle.model.specs.Object.{IsObject, cols_of, rows_of};
 ghost use Rattle.store.specs.Stored.{content_of};
 
-use crate::piece::{eval_piece, join};
+use crate::joining::join;
+use crate::piece::eval_piece;
 use calls::{Recipe, Roles};
 use model::NoMemory;
 use std::alloc::Global;

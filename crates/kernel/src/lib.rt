@@ -4,9 +4,11 @@
 mod bitmaps;
 mod block;
 mod computing;
+mod cutting;
 mod elements;
 mod evaluation;
 mod input;
+mod joining;
 mod moving;
 mod operating;
 mod output;
@@ -16,6 +18,8 @@ mod product;
 mod task;
 
 pub use block::Block;
+pub use cutting::cuts;
 pub use evaluation::evaluate;
+pub use joining::{join, join_blocks};
 pub use over::computed_over;
-pub use piece::{eval_piece, join, patch_over};
+pub use piece::{eval_piece, patch_over};

@@ -6,26 +6,26 @@ ghost use Rattle.calls.specs.Recipes.{known_by, known_by_role, known_of as makes
 ghost use Rattle.calls.specs.Stores.{IsStoreOf, object_with};
 ghost use Rattle.calls.specs.Straight.{IsStraight};
 ghost use Rattle.kernel.specs.Inputs.{known_of, object_of};
-ghost use Rattle.kernel.specs.Pieces.{HasAllRows, HasForm, IfRows, IsPieceOf, cols_in, content_in};
+ghost use Rattle.kernel.specs.Pieces.{HasForm, IsPieceOf};
 ghost use Rattle.kernel.specs.Takes.{AreInputs, Takes, map_in, maps_in};
 ghost use Rattle.model.specs.Lent.{operation_lent};
-ghost use Rattle.model.specs.Object.{IsWithin, cols_of, rows_of};
+ghost use Rattle.model.specs.Object.{cols_of, rows_of};
 ghost use Rattle.model.specs.Renamed.{renamed_operation, renamed_out};
 ghost use Rattle.patch.specs.Edits.{edited};
-ghost use Rattle.store.specs.Stored.{block_content, content_of};
+ghost use Rattle.store.specs.Stored.{content_of};
 
 use crate::bitmaps::task_bitmap;
 use crate::block::Block;
 use crate::input::Input;
 use crate::moving::{resized, transposed};
 use crate::task::{Task, task_rows};
-use calls::{Accepted, Computation, Operation, Out, Patch, Recipe, Roles, Signature, TwoInputs};
-use model::{Form, Lent, NoMemory};
+use calls::{Accepted, Computation, Operation, Out, Patch, Recipe, Roles, Signature};
+use model::{Lent, NoMemory};
 use patch::apply_edits;
 use std::alloc::Global;
 use std::ops::Range;
 use std::sync::Arc;
-use store::{RowBlock, Store};
+use store::Store;
 
 /// The rows in a range of what a recipe gives of the stores that take its roles. Its time and memory are those of the
 /// operation on these rows; a recipe of another kind isn't cut, and gives all rows.
@@ -186,45 +186,5 @@ fn input(known: Signature, store: Option<&Store>) -> Input<'_>
     Input {
         signature: known,
         store,
-    }
-}
-
-/// The store of what a recipe gives, of the block that holds all its rows, whose lists it takes over. Where many
-/// positions have an entry, it is kept as a bitmap from here on; but a column that comes whole, as one that was edited
-/// or written in place, keeps its form, and so does what is likely to be read as lists again.
-pub fn join(alloc: Global, recipe: &Recipe, block: Block) -> Store
-    requires { HasAllRows recipe.now block }
-    ensures rows { result.rows ≡ rows_of (makes recipe.now).shape }
-    ensures cols { result.cols ≡ cols_in block }
-    ensures content { (i j : ℕ) → content_of result i j ≡ content_in block i j }
-    ensures within { IfRows block (IsWithin result.rows result.cols (content_of result)) }
-{
-    let mut store = match block {
-        Block::Rows(rows) => Store::from_block(recipe.signature().shape.rows(), rows),
-        Block::Whole(store) if store.cols() == 1 => return store,
-        Block::Whole(store) => store,
-    };
-    if !stays_listed(recipe) {
-        store.settle(alloc);
-    }
-    store
-}
-
-/// Whether what a recipe leaves stays in lists: a product, whose factors are read as lists; but no product with a
-/// vector and without a mask, which has a way of its own with bitmaps.
-fn stays_listed(recipe: &Recipe) -> bool {
-    let Recipe::Computed(computation) = recipe else {
-        return false;
-    };
-    let Operation::OfTwo { computes, .. } = computation.accepted.operation else {
-        return false;
-    };
-    match computes {
-        TwoInputs::Multiply {
-            form: Form::MatrixMatrix,
-            ..
-        } => true,
-        TwoInputs::Multiply { .. } => computation.accepted.out.mask.is_some(),
-        TwoInputs::Combine { .. } => false,
     }
 }
