@@ -1,0 +1,5 @@
+pub mod CoverLaws
+pub mod CutLaws
+pub mod GiveLaws
+pub mod OutLaws
+pub mod PartLaws
