@@ -10,7 +10,7 @@ use Rattle.calls.specs.Roles.{role_of}
 use Rattle.board.specs.Falls.{fall_at, fallen, fallen_below, falls}
 use Rattle.board.specs.Flows.{Flows}
 use Rattle.board.specs.Places.{each, passes}
-use Rattle.board.specs.Progress.{Progress, Untaken, Running, Joining, Made, Moved, Failed, allows, is_failed, is_made, is_unfinished}
+use Rattle.board.specs.Progress.{Progress, Untaken, Running, Joining, Made, Moved, Failed, allows, is_failed, is_made, is_underway, is_unfinished}
 use Rattle.board.specs.Rests.{Leads, RestsOn}
 use Rattle.board.specs.Tasks.{Task}
 use Rattle.board.proofs.FailLaws.{some_unfinished}
@@ -316,3 +316,44 @@ module _ (ts : List Task) (ps : List Progress) (flows : Flows ts ps) (k : ℕ)
     ]
     | inr other ↦ absurd (let f = fallen-all j (inr (other.1, other.2)) in cc (f, h))
   ]
+
+  -- what somebody works on stays, whatever fails but itself: all that it rests on was made
+  pub underway-stays : (j : ℕ) → j ≢ k → is_underway (slice_get ps j) ≡ true
+      → slice_get (fallen ts (slice_set ps k Failed)) j ≡ slice_get ps j
+  underway-stays j far under = elim (cases_Bool (is_failed (slice_get (fallen ts (slice_set ps k Failed)) j))) [
+    | inr h ↦ fallen-others j h
+    | inl h ↦ elim (fallen-only j h) [
+      | inl before ↦ absurd (not_both (slice_get ps j) under before)
+      | inr other ↦ elim other [
+        | inl e ↦ absurd (far e)
+        | inr rests ↦ absurd (unmade (leads_made rests.1.0 rests.1.1))
+      ]
+    ]
+  ]
+    where
+      not_both : (o : Option Progress) → is_underway o ≡ true → is_failed o ≡ true → ⊥
+      not_both None u f = cc
+      not_both (Some Untaken) u f = cc
+      not_both (Some Running) u f = cc
+      not_both (Some Joining) u f = cc
+      not_both (Some Made) u f = cc
+      not_both (Some Moved) u f = cc
+      not_both (Some Failed) u f = cc
+
+      made_first : (o : Option Progress) → is_underway o ≡ true → (r : Progress) × (o ≡ Some r) × ((input : Option Progress) → allows r input ≡ is_made input)
+      made_first None u = absurd cc
+      made_first (Some Untaken) u = absurd cc
+      made_first (Some Running) u = (Running, refl, λ input. refl)
+      made_first (Some Joining) u = (Joining, refl, λ input. refl)
+      made_first (Some Made) u = absurd cc
+      made_first (Some Moved) u = absurd cc
+      made_first (Some Failed) u = absurd cc
+
+      input_of : (t : Task) (role : Role) (i : ℕ) → slice_get ts j ≡ Some t → role_of t.inputs role ≡ Some i → is_made (slice_get ps i) ≡ true
+      input_of t role i is takes =
+          let (r, at, allowed) = made_first (slice_get ps j) under in
+          sym (allowed (slice_get ps i)) ∙ each-at (λ y. allows r (slice_get ps y)) t.inputs (flows.allowed j t r is at) role i takes
+
+      leads_made : (bs : List ℕ) → Leads ts j bs k → is_made (slice_get ps k) ≡ true
+      leads_made [] (t, is, (role, takes)) = input_of t role k is takes
+      leads_made (b ∷ bs) ((t, is, (role, takes)), rest) = made_below bs b rest (input_of t role b is takes)

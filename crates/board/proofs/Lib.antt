@@ -20,3 +20,12 @@ pub mod GivenLaws
 pub mod ScheduleLaws
 pub mod FallenLaws
 pub mod SettledLaws
+pub mod PickLaws
+pub mod CutLaws
+pub mod CutProps
+pub mod PartedLaws
+pub mod SharedLaws
+pub mod CutListLaws
+pub mod OutCuts
+pub mod GiveCuts
+pub mod SendLaws

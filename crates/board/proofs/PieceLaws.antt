@@ -1,5 +1,6 @@
 -- What takes the roles of a task that is taken, and what the task makes of it.
-use Rattle.std.proofs.Common.{◌≡◌, ◌∙◌, ℕ, Bor, true, List, Option, Some, None, slice_get, refl, sym, ap, subst}
+use Rattle.std.proofs.lemmas.Bool.{and_from, eq-eqb}
+use Rattle.std.proofs.Common.{◌≡◌, ◌∙◌, ◌&&◌, ℕ, Bor, true, arith, eqb, List, Option, Some, None, slice_get, refl, sym, ap, subst}
 use Rattle.std.specs.Arc.{arc_value}
 use Rattle.std.specs.Option.{option_and_then, option_map, option_map_or}
 use Rattle.calls.specs.declared.recipe.Recipe.{Recipe}
@@ -14,7 +15,7 @@ use Rattle.model.specs.Object.{Content, IsObject, Object, cols_of, no_content, r
 use Rattle.store.specs.Stored.{Stored, content_of}
 use Rattle.runner.specs.Tickets.{IsStoreFor}
 use Rattle.kernel.specs.Takes.{AreInputs, Takes, lent_in, map_in}
-use Rattle.board.specs.Pieces.{IsPieceFor, maps_in}
+use Rattle.board.specs.Pieces.{IsPieceFor, maps_in, recipe_of}
 use Rattle.board.specs.Places.{each}
 use Rattle.board.specs.Sharing.{stored_at}
 use Rattle.board.specs.Sound.{IsSound}
@@ -22,6 +23,7 @@ use Rattle.board.specs.Stages.{has_store, stored_in}
 use Rattle.board.specs.Stores.{stored_for}
 use Rattle.board.specs.declared.piece.Piece.{Piece}
 use Rattle.board.specs.declared.piece.Stores.{Stores}
+use Rattle.board.specs.declared.piece.TaskRecipe.{TaskRecipe}
 use Rattle.board.specs.Tasks.{Task, known_at, maps_of, object_at, object_in, objects}
 use Rattle.board.specs.declared.stage.Stage.{Stage}
 use Rattle.board.specs.declared.stage.Stage.TheVariants as stage
@@ -143,19 +145,28 @@ pub piece_for : {A : Type 0} (ts : List Task) (stages : List Stage) (holds reads
     (sound : IsSound ts stages holds reads readers ready room) (k : ℕ) (t : Task) (is : slice_get ts k ≡ Some t)
     (there : each (λ i. has_store (slice_get stages i)) t.inputs ≡ true)
     (p : Piece) (had : (role : Role) → stored_for p.inputs role ≡ stored_at stages (role_of t.inputs role)) → Bor A
-    → p.number ≡ k → p.piece ≡ 0 → p.rows.start ≡ 0 → p.rows.end ≡ rows_of (known_of t.recipe).shape → t.recipe ≡ p.recipe
+    → p.number ≡ k → p.rows.start ≡ 0 → p.rows.end ≡ rows_of (known_of t.recipe).shape → t.recipe ≡ recipe_of p.recipe
     → IsPieceFor ts p
-piece_for ts stages holds reads readers ready room sound k t is there p had b number piece start end recipe = record {
-  recipe = ap (λ n. option_map (λ (u : Task). u.recipe) (slice_get ts n)) number ∙ (ap (option_map (λ (u : Task). u.recipe)) is ∙ ap Some recipe);
-  first = piece;
-  start = start;
-  end = end ∙ ap (λ r. rows_of (known_of r).shape) recipe;
-  takes = λ role. subst (λ r. Takes (known_by r role) (stored_for p.inputs role)) recipe
-      (takes_for ts stages holds reads readers ready room sound k t is there (stored_for p.inputs) had role);
-  right = λ u role i s at takes has.
-      let same : t ≡ u = let e : Some t ≡ Some u = sym is ∙ (ap (slice_get ts) (sym number) ∙ at) in cc (e) in
-      right_for ts stages holds reads readers ready room sound k t is there (stored_for p.inputs) had role i s (ap (λ (w : Task). role_of w.inputs role) same ∙ takes) has;
-  makes = ap (object_at ts) number ∙ (makes_for ts stages holds reads readers ready room sound k t is there (stored_for p.inputs) had
-      ∙ ap (λ (r : Recipe). object_with (known_of r) (meaning_of r (maps_in p.inputs))) recipe);
-  is_object = subst (λ n. IsObject (object_at ts n)) (sym number) (object_for ts stages holds reads readers ready room sound k t is there (stored_for p.inputs) had b);
+piece_for ts stages holds reads readers ready room sound k t is there p had b number start end recipe = record {
+  needs = record {
+    recipe_is = ap (λ n. option_map (λ (u : Task). u.recipe) (slice_get ts n)) number ∙ (ap (option_map (λ (u : Task). u.recipe)) is ∙ ap Some recipe);
+    lower = λ u at. sound.flows.lower p.number u at;
+    takes = λ role. subst (λ r. Takes (known_by r role) (stored_for p.inputs role)) recipe
+        (takes_for ts stages holds reads readers ready room sound k t is there (stored_for p.inputs) had role);
+    right = λ u role i s at takes has.
+        let same : t ≡ u = let e : Some t ≡ Some u = sym is ∙ (ap (slice_get ts) (sym number) ∙ at) in cc (e) in
+        right_for ts stages holds reads readers ready room sound k t is there (stored_for p.inputs) had role i s (ap (λ (w : Task). role_of w.inputs role) same ∙ takes) has;
+    makes = ap (object_at ts) number ∙ (makes_for ts stages holds reads readers ready room sound k t is there (stored_for p.inputs) had
+        ∙ ap (λ (r : Recipe). object_with (known_of r) (meaning_of r (maps_in p.inputs))) recipe);
+    is_object = subst (λ n. IsObject (object_at ts n)) (sym number) (object_for ts stages holds reads readers ready room sound k t is there (stored_for p.inputs) had b);
+  };
+  rises = omega (arith, start);
+  inside = let e = end ∙ ap (λ r. rows_of (known_of r).shape) recipe in omega (arith, e);
 }
+
+-- all rows are all of them
+pub whole_is : (start end : ℕ) (t : Task) (r : TaskRecipe) → start ≡ 0 → end ≡ rows_of (known_of t.recipe).shape → t.recipe ≡ recipe_of r
+    → (eqb start 0 && eqb end (rows_of (known_of (recipe_of r)).shape)) ≡ true
+whole_is start end t r first last recipe =
+    and_from (eqb start 0) (eqb end (rows_of (known_of (recipe_of r)).shape)) (eq-eqb start 0 first)
+    (eq-eqb end (rows_of (known_of (recipe_of r)).shape) (last ∙ ap (λ r. rows_of (known_of r).shape) recipe))

@@ -1,5 +1,5 @@
 -- What events do to a board, as it is seen.
-use Rattle.std.specs.Prelude.{◌||◌, ℕ, ◌≡◌, ◌%◌, ◌++◌, ◌∷◌, ◌==◌, ◌&&◌, not, true, false, List, [], length, nat_lt}
+use Rattle.std.specs.Prelude.{◌||◌, ℕ, ◌≡◌, ◌++◌, ◌∷◌, ◌==◌, ◌&&◌, not, true, false, List, [], length, nat_lt}
 use Rattle.std.specs.Prelude.{Result, Ok, Err, if◌then◌else◌, Bool, Option, Some, None, slice_get, slice_index}
 use Rattle.std.specs.Prelude.{slice_set}
 use Rattle.std.specs.Option.{option_and_then, option_map_or}
@@ -21,10 +21,8 @@ use Rattle.board.specs.Progress.{is_unfinished}
 use Rattle.board.specs.Tasks.{Task, known_at}
 use Rattle.board.specs.declared.look.Refusal.{Refusal}
 use Rattle.board.specs.declared.look.Refusal.TheVariants.{Stranger, Twice}
-use Rattle.board.specs.declared.piece.Given.{Given}
-use Rattle.board.specs.declared.piece.Given.TheVariants.{Last}
 use Rattle.board.specs.Views.{is_ready, State, IsWaiting, IsReady, IsRunning, IsJoining, IsDone, HasFailed, IsGone}
-use Rattle.board.specs.Views.{View, offered, reads_in, state_of}
+use Rattle.board.specs.Views.{View, reads_in, state_of}
 
 abbrev pub is_gone : State → Bool
 is_gone IsGone = true
@@ -64,10 +62,6 @@ issued v note recipe inputs = record {
 }
 
 -- ---- take
-
--- the slot that is taken
-abbrev pub picked : {N : Type 0} → View N → ℕ → ℕ
-picked v pick = slice_index (offered v.tasks v.progress) (pick % length (offered v.tasks v.progress))
 
 -- an old content that a task reads, and nobody else needs
 abbrev pub sole_in : List Task → List Progress → List ℕ → Option ℕ → Option ℕ
@@ -124,10 +118,10 @@ may_let_go v k = not (is_gone (state_of v k)) && nat_lt 0 (slice_index v.holds k
 
 -- ---- give
 
--- what a block that is given for a piece of a slot is answered; each task is one piece
-abbrev pub given_to : {N : Type 0} → View N → ℕ → ℕ → Block → Result Given Refusal
+-- what a block that is given for a piece of a slot is answered, whose task is one piece
+abbrev pub given_to : {N : Type 0} → View N → ℕ → ℕ → Block → Result Block Refusal
 given_to v k piece block = if (piece == 0) && is_joining (slice_get v.progress k) then Err Twice
-    else (if (piece == 0) && (is_running (slice_get v.progress k) && fits_slot v.tasks k block) then Ok (Last block)
+    else (if (piece == 0) && (is_running (slice_get v.progress k) && fits_slot v.tasks k block) then Ok block
     else Err Stranger)
 
 abbrev pub empty_view : {N : Type 0} → View N

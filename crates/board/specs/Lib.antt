@@ -1,4 +1,5 @@
 pub mod Boards
+pub mod Cuts
 pub mod Events
 pub mod Falls
 pub mod Falling
@@ -13,6 +14,7 @@ pub mod Places
 pub mod Progress
 pub mod Rests
 pub mod Sharing
+pub mod SlotViews
 pub mod Slots
 pub mod Sound
 pub mod Stages

@@ -1,7 +1,9 @@
 -- Lists of numbers.
-use Rattle.std.specs.Prelude.{ℕ, zero, suc, ◌≡◌, ◌≤◌, ◌<◌, ◌++◌, ◌∷◌, ◌==◌, List, [], Bool, if◌then◌else◌, Option}
-use Rattle.std.specs.Prelude.{Some, None, false, length, slice_get}
+use Rattle.std.specs.Prelude.{ℕ, zero, suc, ◌≡◌, ◌≤◌, ◌<◌, ◌++◌, ◌∷◌, ◌==◌, ◌||◌, true, List, [], Bool}
+use Rattle.std.specs.Prelude.{Option, Some, None, false, if◌then◌else◌, length, slice_get}
 use Rattle.std.specs.List.{list_any}
+use Rattle.board.specs.declared.picking.Picked.{Picked}
+use Rattle.board.specs.declared.picking.Picked.TheVariants.{Ready, Open}
 
 -- the numbers below n that pass, rising
 abbrev pub numbers : (ℕ → Bool) → ℕ → List ℕ
@@ -22,3 +24,9 @@ pub record IsPlace (ns : List ℕ) (number place : ℕ) : Type 0 where
   pub within : place ≤ length ns
   pub above : (m k : ℕ) → place ≤ m → slice_get ns m ≡ Some k → number ≤ k
   pub below : (m k : ℕ) → suc m ≡ place → slice_get ns m ≡ Some k → k < number
+
+-- where the number at a place among those that pass one of two tests stands among those that pass each
+abbrev pub IsPicked : (ℕ → Bool) → (ℕ → Bool) → ℕ → ℕ → Picked → Type 0
+IsPicked p q n place (Ready at) = (k : ℕ) × (slice_get (numbers p n) at ≡ Some k)
+    × (slice_get (numbers (λ j. p j || q j) n) place ≡ Some k)
+IsPicked p q n place (Open k) = (q k ≡ true) × (slice_get (numbers (λ j. p j || q j) n) place ≡ Some k)

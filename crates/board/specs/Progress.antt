@@ -1,5 +1,5 @@
 -- How far a slot has come.
-use Rattle.std.specs.Prelude.{Bool, true, false, ◌&&◌, not, Option, Some, None}
+use Rattle.std.specs.Prelude.{Bool, true, false, ◌&&◌, ◌||◌, not, Option, Some, None}
 
 pub data Progress : Type 0 where
   -- nobody works on it
@@ -59,6 +59,10 @@ is_joining (Some Made) = false
 is_joining (Some Moved) = false
 is_joining (Some Failed) = false
 is_joining None = false
+
+-- somebody works on it
+abbrev pub is_underway : Option Progress → Bool
+is_underway p = is_running p || is_joining p
 
 -- its store was made
 abbrev pub is_made : Option Progress → Bool

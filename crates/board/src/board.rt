@@ -1,81 +1,74 @@
 //! Boards.
-ghost use Rattle.std.specs.Prelude.{◌≡◌, map};
+ghost use Rattle.std.specs.Prelude.{◌≡◌, ◌||◌, length, map};
+ghost use Rattle.std.specs.Option.{option_map};
 ghost use Rattle.std.specs.VecDeque.{deque_capacity};
-ghost use Rattle.board.specs.Slots.{task_of};
-ghost use Rattle.board.specs.Sound.{IsSound};
+ghost use Rattle.board.specs.SlotViews.{slots_view};
+ghost use Rattle.board.specs.Cuts.{AreCuts, cutting_of, is_open};
+ghost use Rattle.board.specs.Numbers.{numbers};
 
-use crate::admitting::{first_stage, make_room, may_wait, offer, read_if};
-use crate::blocks::has_rows;
-use crate::falling::{end, spread};
-use crate::fitting::are_there;
-use crate::inputs::Inputs;
-use crate::look::{Look, Refusal};
-use crate::looking::{is_gone, look_at};
-use crate::piece::{Given, Piece, Stores};
-use crate::reads::{hold_less, hold_more, is_unasked, read_less, release, release_each};
-use crate::ready::{remove_at, withdraw};
-use crate::sharing::{again, claim, share};
-use crate::slot::Slot;
-use crate::stage::{Stage, are_made, is_joining, is_running, put, take_recipe};
-use crate::waiting::{Readers, wait_for};
-use crate::waking::{can_fail, wake};
+use crate::cut::{Cut, CutTask};
+use crate::cuts::{forget, give_to, is_cut, make_place, next_of, withdraw_if_taken};
+use crate::look::{Look, Offer, Refusal};
+use crate::picking::{Picked, picked_at};
+use crate::piece::{Blocks, Given, Piece};
+use crate::ready::{insert, withdraw};
+use crate::slots::Slots;
 use calls::{Recipe, Roles};
 use kernel::Block;
 use model::NoMemory;
-use smallvec::SmallVec;
 use std::alloc::Global;
 use std::collections::VecDeque;
 use std::sync::Arc;
 use store::Store;
 
-/// Numbered slots, each with a task on lower ones, and what there is of its store.
+/// Numbered slots, each with a task on lower ones, which may be cut into pieces, and what there is of its store.
 #[derive(Drop)]
 pub struct Board<N: Drop> {
     alloc: Global,
-    slots: Vec<Slot<N>>,
-    stages: Vec<Stage>,
-    holds: Vec<u64>,
-    reads: Vec<u64>,
-    readers: Vec<Readers>,
-    ready: VecDeque<u64>,
-    ghost sound: { IsSound (map task_of slots.items) stages.items holds.items reads.items
-        (map (λ r. r.items) readers.items)
-        ready.items (deque_capacity ready) },
+    slots: Slots<N>,
+    // What there is of tasks that were cut, at their slots' numbers.
+    cuts: Vec<Option<Cut>>,
+    // The slots of whose tasks a piece wasn't taken, rising.
+    parted: VecDeque<u64>,
+    ghost cut_are: { ∥ AreCuts (slots_view slots).tasks (slots_view slots).progress cuts.items ∥₁ },
+    ghost parted_are: { parted.items ≡ numbers (is_open (map (option_map cutting_of) cuts.items))
+        (length (slots_view slots).tasks) },
 }
 
 impl<N: Drop> Board<N> {
-    ghost use Rattle.std.specs.Prelude.{◌≡◌, ◌+◌, ◌&&◌, ◌↔◌, ◌-◌, [], IfErr, IfOk, IfSome, None, OnErr, OnOk, Some};
-    ghost use Rattle.std.specs.Prelude.{◌≢◌, if◌then◌else◌, length, nat_lt, not, slice_get, slice_index};
-    ghost use Rattle.std.specs.Prelude.{ℕ, false, true};
+    ghost use Rattle.std.specs.Prelude.{◌≡◌, ◌≢◌, ◌+◌, ◌-◌, ◌<◌, ◌≤◌, ◌&&◌, ◌↔◌, [], IfErr, IfOk, IfSome, None};
+    ghost use Rattle.std.specs.Bool.{OnTrue};
+    ghost use Rattle.std.specs.Prelude.{List, MatchResult, OnErr, OnOk, Some, if◌then◌else◌, is_none, is_some, length};
+    ghost use Rattle.std.specs.Prelude.{nat_lt, not, slice_get, slice_index, ℕ, false, true};
     ghost use Rattle.std.specs.Arc.{arc_value};
+    ghost use Rattle.std.specs.List.{All};
     ghost use Rattle.std.specs.Option.{option_copied, option_map};
-    ghost use Rattle.board.specs.Boards.{view_of};
-    ghost use Rattle.board.specs.Events.{Accepts, empty_view, failed, given_to, issued, may_fail, may_hold};
-    ghost use Rattle.board.specs.Events.{is_unasked, may_let_go, picked, placed, taken, with_holds, with_progress};
-    ghost use Rattle.board.specs.Fits.{AreThere};
+    ghost use Rattle.board.specs.Boards.{cuts_of, view_of};
+    ghost use Rattle.board.specs.Cuts.{AreBlocksFor, AreSame, GoesOut, IsFound, IsLeftBy, IsPut, IsTakenFrom, at_slot};
+    ghost use Rattle.board.specs.Cuts.{is_parted, offered_on, picked_on, told_blocks, told_on};
+    ghost use Rattle.board.specs.Events.{Accepts, empty_view, failed, issued, is_unasked, may_fail, may_hold};
+    ghost use Rattle.board.specs.Events.{may_let_go, placed, with_holds, with_progress};
     ghost use Rattle.board.specs.Looks.{seen_in, seen_of, store_in};
-    ghost use Rattle.board.specs.Pieces.{IsPieceFor, fits_slot};
+    ghost use Rattle.board.specs.Pieces.{IsBlockFor, IsPieceFor, is_whole};
     ghost use Rattle.board.specs.Places.{each};
-    ghost use Rattle.board.specs.Progress.{Failed, Joining, Made, Progress as AnyProgress, is_joining, is_running};
-    ghost use Rattle.board.specs.Progress.{is_unfinished, is_untaken};
+    ghost use Rattle.board.specs.Progress.{Failed, Made, Running, Progress as AnyProgress, is_joining, is_running};
+    ghost use Rattle.board.specs.Progress.{is_unfinished};
     ghost use Rattle.board.specs.Tasks.{object_at};
     ghost use Rattle.board.specs.Views.{offered, state_of};
-    ghost use Rattle.calls.specs.Roles.{no_roles};
-    ghost use Rattle.model.specs.Object.{IsObject};
+    ghost use Rattle.calls.specs.Recipes.{known_of};
+    ghost use Rattle.model.specs.Object.{rows_of};
     ghost use Rattle.runner.specs.Tickets.{IsStoreFor};
 
     /// An empty board. It takes no memory.
     pub fn new(alloc: Global) -> Board<N>
-        ensures { view_of result ≡ empty_view }
+        ensures view { view_of result ≡ empty_view }
+        ensures cuts { cuts_of result ≡ [] }
     {
         Board {
             alloc,
-            slots: Vec::new(alloc),
-            stages: Vec::new(alloc),
-            holds: Vec::new(alloc),
-            reads: Vec::new(alloc),
-            readers: Vec::new(alloc),
-            ready: VecDeque::new(alloc),
+            slots: Slots::new(alloc),
+            cuts: Vec::new(alloc),
+            parted: VecDeque::new(alloc),
         }
     }
 
@@ -88,46 +81,9 @@ impl<N: Drop> Board<N> {
         ensures absent { (Accepts (view_of self.old) recipe inputs → ⊥) → result ≡ Err Refusal.Stranger }
         ensures once { result ≡ Err Refusal.Twice → ⊥ }
         ensures refused { OnErr result (view_of self.new ≡ view_of self.old) }
+        ensures cuts { cuts_of self.new ≡ cuts_of self.old }
     {
-        if !are_there(&self.slots, &self.stages, &recipe, &inputs) {
-            return Err(Refusal::Stranger);
-        }
-        match self.admit(note, recipe, Inputs::new(&inputs)) {
-            Ok(number) => Ok(number),
-            Err(NoMemory) => Err(Refusal::NoMemory),
-        }
-    }
-
-    // The next slot, where its inputs are there.
-    fn admit(&mut self, note: N, recipe: Recipe, inputs: Inputs) -> Result<u64, NoMemory>
-        requires { AreThere (view_of self.old).tasks self.old.stages.items recipe inputs }
-        ensures number { IfOk result (λ number. number ≡ length (view_of self.old).tasks) }
-        ensures issued { OnOk result (view_of self.new ≡ issued (view_of self.old) note recipe inputs) }
-        ensures refused { OnErr result (view_of self.new ≡ view_of self.old) }
-    {
-        let number = self.slots.len() as u64;
-        let is_ready = are_made(&self.stages, &inputs);
-        wait_for(&mut self.readers, &self.stages, number, &inputs, is_ready)?;
-        let has_room = make_room(
-            &mut self.slots,
-            &mut self.stages,
-            &mut self.holds,
-            &mut self.reads,
-            &mut self.readers,
-            &mut self.ready,
-        );
-        if !has_room {
-            return Err(NoMemory);
-        }
-        let waits = may_wait(&self.stages, &inputs, is_ready);
-        read_if(&mut self.reads, &inputs, waits);
-        self.slots.push_reserved(Slot::new(note, &recipe, inputs));
-        self.stages.push_reserved(first_stage(recipe, waits));
-        self.holds.push_reserved(1);
-        self.reads.push_reserved(0);
-        self.readers.push_reserved(SmallVec::new(self.alloc));
-        offer(&mut self.ready, number, is_ready);
-        Ok(number)
+        self.slots.issue(note, recipe, inputs)
     }
 
     /// The next slot has a store that is there, and one hold. It is done at once, as if its task had been taken, given
@@ -136,36 +92,19 @@ impl<N: Drop> Board<N> {
         ensures number { IfOk result (λ number. number ≡ length (view_of self.old).tasks) }
         ensures placed { OnOk result (view_of self.new ≡ placed (view_of self.old) note given) }
         ensures refused { OnErr result (view_of self.new ≡ view_of self.old) }
+        ensures cuts { cuts_of self.new ≡ cuts_of self.old }
     {
-        let store = again(&given.store)?;
-        let number = self.admit(note, Recipe::Given(given), Inputs::none())?;
-        self.fill(number, store);
-        Ok(number)
-    }
-
-    // A slot that can be taken, and reads no other, has its store.
-    fn fill(&mut self, number: u64, store: Arc<Store>)
-        requires untaken { is_untaken (slice_get (view_of self.old).progress number) ≡ true }
-        requires alone { option_map (λ t. t.inputs) (slice_get (view_of self.old).tasks number) ≡ Some no_roles }
-        requires object { IsObject (object_at (view_of self.old).tasks number) }
-        requires right { IsStoreFor (object_at (view_of self.old).tasks number) (arc_value store) }
-        ensures { view_of self.new ≡ with_progress (view_of self.old) number Made }
-    {
-        withdraw(&mut self.ready, number);
-        put(&mut self.stages, number, Stage::Joining);
-        let _ = self.whole(number, store);
+        self.slots.issue_given(note, given)
     }
 
     /// Empties a board, and keeps the room of its lists.
     pub fn clear(&mut self)
-        ensures { view_of self.new ≡ empty_view }
+        ensures view { view_of self.new ≡ empty_view }
+        ensures cuts { cuts_of self.new ≡ [] }
     {
         self.slots.clear();
-        self.stages.clear();
-        self.holds.clear();
-        self.reads.clear();
-        self.readers.clear();
-        self.ready.clear();
+        self.cuts.clear();
+        self.parted.clear();
     }
 
     /// A law: when no slot can be taken, and nobody works on one, every slot is finished.
@@ -175,105 +114,239 @@ impl<N: Drop> Board<N> {
             × (is_joining (slice_get (view_of self.now).progress k) ≡ false) }
         ensures { (k : ℕ) (p : AnyProgress) → slice_get (view_of self.now).progress k ≡ Some p
             → is_unfinished p ≡ false }
-    {}
+    {
+        self.slots.settled();
+    }
 
     /// What there is of a slot.
     pub fn look(&self, number: u64) -> Look<'_>
         ensures seen { seen_in result ≡ seen_of (state_of (view_of self.now) number) }
         ensures right { IfSome (store_in result) (IsStoreFor (object_at (view_of self.now).tasks number)) }
     {
-        look_at(&self.stages, number)
+        self.slots.look(number)
     }
 
     /// What the caller gave with a slot.
     pub fn note(&self, number: u64) -> Option<&N>
         ensures { option_copied result ≡ slice_get (view_of self.now).notes number }
     {
-        match self.slots.get(number as usize) {
-            Some(slot) => Some(&slot.note),
-            None => None,
-        }
+        self.slots.note(number)
     }
 
-    /// How many slots can be taken.
+    /// How many slots can be taken: those that are ready, and those of whose tasks a piece wasn't taken.
     pub fn offers(&self) -> u64
-        ensures { result ≡ length (offered (view_of self.now).tasks (view_of self.now).progress) }
+        ensures { result ≡ length (offered_on (view_of self.now) (cuts_of self.now)) }
     {
-        self.ready.len() as u64
+        (self.slots.ready().len() + self.parted.len()) as u64
     }
 
-    /// A piece of the slot at this place of those that can be taken, counted round; None where none can. `Err`: the
-    /// slot's number, where a share of a store was refused; it is taken or failed later. A task is one piece, so that
-    /// the cuts cut nothing.
-    pub fn take(&mut self, pick: u64, _cuts: &[u64]) -> Result<Option<Piece>, u64>
-        ensures none { IfOk result (λ o. (o ≡ None)
-            ↔ (offered (view_of self.old).tasks (view_of self.old).progress ≡ [])) }
-        ensures picked { IfOk result (λ o. IfSome o (λ piece. piece.number ≡ picked (view_of self.old) pick)) }
+    /// A piece of the slot at this place of those that can be taken, counted round; None where none can. A task that
+    /// nobody took is cut at each cut that lies inside its rows and above every cut used before, unless memory is
+    /// refused for that; edits aren't cut. `Err`: the slot's number, where a share of a store was refused; it is taken
+    /// or failed later.
+    pub fn take(&mut self, pick: u64, cuts: &[u64]) -> Result<Option<Piece>, u64>
+        ensures none { IfOk result (λ o. (o ≡ None) ↔ (offered_on (view_of self.old) (cuts_of self.old) ≡ [])) }
+        ensures picked { IfOk result (λ o. IfSome o (λ piece.
+            piece.number ≡ picked_on (view_of self.old) (cuts_of self.old) pick)) }
         ensures taken { IfOk result (λ o. IfSome o (λ piece.
-            view_of self.new ≡ taken (view_of self.old) piece.number)) }
+            IsTakenFrom (view_of self.old) (cuts_of self.old) cuts.now piece (view_of self.new) (cuts_of self.new))) }
         ensures piece { IfOk result (λ o. IfSome o (IsPieceFor (view_of self.new).tasks)) }
         ensures same { IfOk result (λ o. o ≡ None → view_of self.new ≡ view_of self.old) }
-        ensures number { IfErr result (λ number. number ≡ picked (view_of self.old) pick) }
+        ensures same_cuts { IfOk result (λ o. o ≡ None → cuts_of self.new ≡ cuts_of self.old) }
+        ensures number { IfErr result (λ number. number ≡ picked_on (view_of self.old) (cuts_of self.old) pick) }
+        ensures offered { OnErr result (offered_on (view_of self.old) (cuts_of self.old) ≢ []) }
         ensures refused { OnErr result (view_of self.new ≡ view_of self.old) }
-        ensures offered { OnErr result (offered (view_of self.old).tasks (view_of self.old).progress ≢ []) }
+        ensures refused_cuts { OnErr result (cuts_of self.new ≡ cuts_of self.old) }
     {
-        let count = self.ready.len();
-        if count == 0 {
-            return Ok(None);
-        }
-        let at = (pick % count as u64) as usize;
-        let number = self.ready[at];
-        match self.take_at(at, number) {
+        let taken = match self.picked(pick) {
+            None => return Ok(None),
+            Some(Picked::Ready(at)) => self.take_ready(at, cuts),
+            Some(Picked::Open(number)) => self.take_next(number),
+        };
+        match taken {
             Ok(piece) => Ok(Some(piece)),
+            Err(number) => Err(number),
+        }
+    }
+
+    /// The slot of which `take` would take a piece, so that cuts can be chosen for it.
+    pub fn offer(&self, pick: u64) -> Option<Offer<'_>>
+        ensures none { (result ≡ None) ↔ (offered_on (view_of self.now) (cuts_of self.now) ≡ []) }
+        ensures number { IfSome result (λ offer.
+            offer.number ≡ picked_on (view_of self.now) (cuts_of self.now) pick) }
+        ensures rows { IfSome result (λ offer. option_map (λ t. rows_of (known_of t.recipe).shape)
+            (slice_get (view_of self.now).tasks offer.number) ≡ Some offer.rows) }
+    {
+        match self.picked(pick)? {
+            Picked::Ready(at) => Some(self.offer_of(self.slots.ready()[at])),
+            Picked::Open(number) => Some(self.offer_of(number)),
+        }
+    }
+
+    // What is known of a slot that can be taken.
+    fn offer_of(&self, number: u64) -> Offer<'_>
+        requires { number < length (view_of self.now).tasks }
+        ensures number { result.number ≡ number }
+        ensures rows { option_map (λ t. rows_of (known_of t.recipe).shape)
+            (slice_get (view_of self.now).tasks number) ≡ Some result.rows }
+    {
+        Offer {
+            number,
+            rows: self.slots.rows(number),
+            recipe: self.slots.recipe(number),
+        }
+    }
+
+    // Where the slot at this place of those that can be taken stands, counted round; None where none can.
+    fn picked(&self, pick: u64) -> Option<Picked>
+        ensures none { (result ≡ None) ↔ (offered_on (view_of self.now) (cuts_of self.now) ≡ []) }
+        ensures found { IfSome result (IsFound (view_of self.now) (cuts_of self.now) pick) }
+    {
+        let count = self.offers();
+        if count == 0 {
+            return None;
+        }
+        let place = (pick % count) as usize;
+        Some(picked_at(self.slots.ready(), &self.parted, place))
+    }
+
+    // The task of the slot at a place among those that are ready, or its first piece, where it is cut.
+    fn take_ready(&mut self, at: usize, cuts: &[u64]) -> Result<Piece, u64>
+        requires { at < length (offered (view_of self.old).tasks (view_of self.old).progress) }
+        ensures number { IfOk result (λ piece.
+            slice_get (offered (view_of self.old).tasks (view_of self.old).progress) at ≡ Some piece.number) }
+        ensures taken { IfOk result (λ piece.
+            IsTakenFrom (view_of self.old) (cuts_of self.old) cuts.now piece (view_of self.new) (cuts_of self.new)) }
+        ensures piece { IfOk result (IsPieceFor (view_of self.new).tasks) }
+        ensures refusing { IfErr result (λ number.
+            slice_get (offered (view_of self.old).tasks (view_of self.old).progress) at ≡ Some number) }
+        ensures refused { OnErr result (view_of self.new ≡ view_of self.old) }
+        ensures refused_cuts { OnErr result (cuts_of self.new ≡ cuts_of self.old) }
+    {
+        let number = self.slots.ready()[at];
+        match self.slots.take_at(at, number) {
+            Ok(whole) => Ok(self.cut_up(whole, cuts)),
             Err(NoMemory) => Err(number),
         }
     }
 
-    // The piece of the slot at a place among those that can be taken.
-    fn take_at(&mut self, at: usize, number: u64) -> Result<Piece, NoMemory>
-        requires { slice_get self.old.ready.items at ≡ Some number }
-        ensures number { IfOk result (λ piece. piece.number ≡ number) }
-        ensures taken { OnOk result (view_of self.new ≡ taken (view_of self.old) number) }
-        ensures piece { IfOk result (IsPieceFor (view_of self.new).tasks) }
-        ensures refused { OnErr result (view_of self.new ≡ view_of self.old) }
+    // What goes out of a task that was taken whole: its first piece, where it is cut.
+    fn cut_up(&mut self, whole: Piece, cuts: &[u64]) -> Piece
+        requires running { slice_get (view_of self.old).progress whole.number ≡ Some Running }
+        requires piece { IsPieceFor (view_of self.old).tasks whole }
+        requires first { whole.piece ≡ 0 }
+        requires whole { is_whole whole ≡ true }
+        requires uncut { at_slot (cuts_of self.old) whole.number ≡ None }
+        ensures number { result.number ≡ whole.number }
+        ensures view { view_of self.new ≡ view_of self.old }
+        ensures cut { GoesOut (cuts_of self.old) cuts.now result (cuts_of self.new) }
+        ensures piece { IsPieceFor (view_of self.new).tasks result }
     {
-        let slot = &self.slots[number as usize];
-        let inputs = &slot.inputs;
-        let rows = slot.of.shape.rows();
-        let mask = share(&self.stages, inputs.mask())?;
-        let first = share(&self.stages, inputs.first())?;
-        let second = share(&self.stages, inputs.second())?;
-        let old = claim(&mut self.stages, &self.holds, &self.reads, inputs.old())?;
-        let recipe = take_recipe(&mut self.stages, number);
-        remove_at(&mut self.ready, at);
-        Ok(Piece {
-            number,
-            piece: 0,
-            rows: 0..rows,
-            recipe,
-            inputs: Stores {
-                old,
-                mask,
-                first,
-                second,
-            },
-        })
+        if cuts.is_empty() || !self.make_room(whole.number) {
+            return whole;
+        }
+        let number = whole.number;
+        match CutTask::cut(self.alloc, whole, cuts) {
+            Ok((task, first)) => {
+                self.cuts[number as usize] = Some(Cut::Underway(task));
+                insert(&mut self.parted, number);
+                first
+            }
+            Err(whole) => whole,
+        }
     }
 
-    /// A piece of a slot that runs was done. The block of its last piece is to be joined.
-    pub fn give(&mut self, number: u64, piece: u64, block: Block) -> Result<Given, Refusal>
-        ensures answer { result ≡ given_to (view_of self.old) number piece block }
-        ensures joining { OnOk result (view_of self.new ≡ with_progress (view_of self.old) number Joining) }
-        ensures refused { OnErr result (view_of self.new ≡ view_of self.old) }
+    // Makes room for what there is of a slot's task, once it is cut, and says whether there is.
+    fn make_room(&mut self, number: u64) -> bool
+        requires { number < length (view_of self.old).tasks }
+        ensures view { view_of self.new ≡ view_of self.old }
+        ensures cuts { AreSame (cuts_of self.old) (cuts_of self.new) }
+        ensures place { OnTrue result (number < length (cuts_of self.new)) }
+        ensures room { OnTrue result (length (view_of self.old).tasks ≤ deque_capacity self.new.parted) }
     {
-        if piece == 0 && is_joining(&self.stages, number) {
-            return Err(Refusal::Twice);
+        let more = self.slots.len() - self.parted.len();
+        self.parted.reserve(more).is_ok() && make_place(&mut self.cuts, number)
+    }
+
+    // The next piece of a slot's task that is cut.
+    fn take_next(&mut self, number: u64) -> Result<Piece, u64>
+        requires { is_open (cuts_of self.old) number ≡ true }
+        ensures number { IfOk result (λ piece. piece.number ≡ number) }
+        ensures taken { IfOk result (λ piece. (cuts : List ℕ)
+            → IsTakenFrom (view_of self.old) (cuts_of self.old) cuts piece (view_of self.new) (cuts_of self.new)) }
+        ensures piece { IfOk result (IsPieceFor (view_of self.new).tasks) }
+        ensures refusing { IfErr result (λ refused. refused ≡ number) }
+        ensures refused { OnErr result (view_of self.new ≡ view_of self.old) }
+        ensures refused_cuts { OnErr result (cuts_of self.new ≡ cuts_of self.old) }
+    {
+        let Ok(piece) = next_of(&mut self.cuts, number) else {
+            return Err(number);
+        };
+        withdraw_if_taken(&self.cuts, &mut self.parted, number);
+        Ok(piece)
+    }
+
+    /// A piece of a slot that runs was done. The blocks of all its pieces are to be joined once it is the last.
+    pub fn give(&mut self, number: u64, piece: u64, block: Block) -> Result<Given, Refusal>
+        requires right { is_parted (at_slot (cuts_of self.old) number) ≡ true
+            → IsBlockFor (view_of self.old).tasks number block }
+        ensures answer { MatchResult result
+            (λ given. told_on (view_of self.old) (cuts_of self.old) number piece block ≡ Ok (told_blocks given))
+            (λ why. told_on (view_of self.old) (cuts_of self.old) number piece block ≡ Err why) }
+        ensures left { IfOk result (λ given. IsLeftBy (view_of self.old) (cuts_of self.old) number piece block
+            (at_slot (cuts_of self.old) number) (told_blocks given) (view_of self.new) (cuts_of self.new)) }
+        ensures all { IfOk result (AreBlocksFor (view_of self.old).tasks number) }
+        ensures refused { OnErr result (view_of self.new ≡ view_of self.old) }
+        ensures refused_cuts { OnErr result (cuts_of self.new ≡ cuts_of self.old) }
+    {
+        if is_cut(&self.cuts, number) {
+            self.give_part(number, piece, block)
+        } else {
+            self.give_whole(number, piece, block)
         }
-        if piece != 0 || !is_running(&self.stages, number) || !self.fits_slot(number, &block) {
-            return Err(Refusal::Stranger);
+    }
+
+    // The same for a task that is one piece.
+    fn give_whole(&mut self, number: u64, piece: u64, block: Block) -> Result<Given, Refusal>
+        requires { at_slot (cuts_of self.old) number ≡ None }
+        ensures answer { MatchResult result
+            (λ given. told_on (view_of self.old) (cuts_of self.old) number piece block ≡ Ok (told_blocks given))
+            (λ why. told_on (view_of self.old) (cuts_of self.old) number piece block ≡ Err why) }
+        ensures left { IfOk result (λ given. IsLeftBy (view_of self.old) (cuts_of self.old) number piece block
+            (at_slot (cuts_of self.old) number) (told_blocks given) (view_of self.new) (cuts_of self.new)) }
+        ensures all { IfOk result (AreBlocksFor (view_of self.old).tasks number) }
+        ensures refused { OnErr result (view_of self.new ≡ view_of self.old) }
+        ensures refused_cuts { OnErr result (cuts_of self.new ≡ cuts_of self.old) }
+    {
+        match self.slots.give(number, piece, block) {
+            Ok(block) => Ok(Given::Last(Blocks::One(block))),
+            Err(why) => Err(why),
         }
-        put(&mut self.stages, number, Stage::Joining);
-        Ok(Given::Last(block))
+    }
+
+    // The same for a task that is cut.
+    fn give_part(&mut self, number: u64, piece: u64, block: Block) -> Result<Given, Refusal>
+        requires cut { is_some (at_slot (cuts_of self.old) number) ≡ true }
+        requires right { is_parted (at_slot (cuts_of self.old) number) ≡ true
+            → IsBlockFor (view_of self.old).tasks number block }
+        ensures answer { MatchResult result
+            (λ given. told_on (view_of self.old) (cuts_of self.old) number piece block ≡ Ok (told_blocks given))
+            (λ why. told_on (view_of self.old) (cuts_of self.old) number piece block ≡ Err why) }
+        ensures left { IfOk result (λ given. IsLeftBy (view_of self.old) (cuts_of self.old) number piece block
+            (at_slot (cuts_of self.old) number) (told_blocks given) (view_of self.new) (cuts_of self.new)) }
+        ensures all { IfOk result (AreBlocksFor (view_of self.old).tasks number) }
+        ensures refused { OnErr result (view_of self.new ≡ view_of self.old) }
+        ensures refused_cuts { OnErr result (cuts_of self.new ≡ cuts_of self.old) }
+    {
+        match give_to(&mut self.cuts, number, piece, block) {
+            Ok(Given::More) => Ok(Given::More),
+            Ok(Given::Last(blocks)) => {
+                self.slots.join(number);
+                withdraw(&mut self.parted, number);
+                Ok(Given::Last(blocks))
+            }
+            Err(why) => Err(why),
+        }
     }
 
     /// The store of a slot whose blocks were joined.
@@ -283,22 +356,12 @@ impl<N: Drop> Board<N> {
         ensures answer { result ≡ (if is_joining (slice_get (view_of self.old).progress number) then Ok tt
             else Err Refusal.Stranger) }
         ensures made { OnOk result (view_of self.new ≡ with_progress (view_of self.old) number Made) }
+        ensures cuts { OnOk result (IsPut (cuts_of self.old) number None (cuts_of self.new)) }
         ensures refused { OnErr result (view_of self.new ≡ view_of self.old) }
+        ensures refused_cuts { OnErr result (cuts_of self.new ≡ cuts_of self.old) }
     {
-        if !is_joining(&self.stages, number) {
-            return Err(Refusal::Stranger);
-        }
-        let inputs = &self.slots[number as usize].inputs;
-        put(&mut self.stages, number, Stage::Done(store));
-        read_less(&mut self.reads, inputs);
-        release_each(&mut self.stages, &self.holds, &self.reads, inputs);
-        release(&mut self.stages, &self.holds, &self.reads, Some(number));
-        wake(
-            &mut self.ready,
-            &self.slots,
-            &self.stages,
-            &self.readers[number as usize],
-        );
+        self.slots.whole(number, store)?;
+        forget(&mut self.cuts, &mut self.parted, number);
         Ok(())
     }
 
@@ -306,52 +369,28 @@ impl<N: Drop> Board<N> {
     pub fn hand_in(&mut self, number: u64, store: Arc<Store>) -> Result<(), Refusal>
         requires right { is_running (slice_get (view_of self.old).progress number) ≡ true
             → IsStoreFor (object_at (view_of self.old).tasks number) (arc_value store) }
-        ensures answer { result ≡ (if is_running (slice_get (view_of self.old).progress number) then Ok tt
-            else Err Refusal.Stranger) }
+        ensures answer { result ≡ (if is_running (slice_get (view_of self.old).progress number)
+            && is_none (at_slot (cuts_of self.old) number) then Ok tt else Err Refusal.Stranger) }
         ensures made { OnOk result (view_of self.new ≡ with_progress (view_of self.old) number Made) }
+        ensures cuts { cuts_of self.new ≡ cuts_of self.old }
         ensures refused { OnErr result (view_of self.new ≡ view_of self.old) }
     {
-        if !is_running(&self.stages, number) {
+        if is_cut(&self.cuts, number) {
             return Err(Refusal::Stranger);
         }
-        put(&mut self.stages, number, Stage::Joining);
-        self.whole(number, store)
-    }
-
-    /// Whether a block has all rows of what the task of a slot makes.
-    fn fits_slot(&self, number: u64, block: &Block) -> bool
-        ensures { result ≡ fits_slot (view_of self.now).tasks number block.now }
-    {
-        match self.slots.get(number as usize) {
-            Some(slot) => has_rows(slot.of.shape.rows(), block),
-            None => false,
-        }
+        self.slots.hand_in(number, store)
     }
 
     /// A slot that can be taken, or that somebody works on, fails, and with it each unfinished slot that rests on it.
     pub fn fail(&mut self, number: u64) -> Result<(), Refusal>
         ensures answer { result ≡ (if may_fail (view_of self.old) number then Ok tt else Err Refusal.Stranger) }
         ensures failed { OnOk result (view_of self.new ≡ failed (view_of self.old) number) }
+        ensures cuts { OnOk result (IsPut (cuts_of self.old) number None (cuts_of self.new)) }
         ensures refused { OnErr result (view_of self.new ≡ view_of self.old) }
+        ensures refused_cuts { OnErr result (cuts_of self.new ≡ cuts_of self.old) }
     {
-        if !can_fail(&self.slots, &self.stages, number) {
-            return Err(Refusal::Stranger);
-        }
-        withdraw(&mut self.ready, number);
-        end(
-            &self.slots,
-            &mut self.stages,
-            &self.holds,
-            &mut self.reads,
-            number,
-        );
-        spread(
-            &self.slots,
-            &mut self.stages,
-            &self.holds,
-            &mut self.reads,
-            number + 1,
-        );
+        self.slots.fail(number)?;
+        forget(&mut self.cuts, &mut self.parted, number);
         Ok(())
     }
 
@@ -360,19 +399,12 @@ impl<N: Drop> Board<N> {
     pub fn give_up(&mut self, number: u64) -> Result<(), Refusal>
         ensures answer { result ≡ (if is_unasked (view_of self.old) number then Ok tt else Err Refusal.Stranger) }
         ensures failed { OnOk result (view_of self.new ≡ with_progress (view_of self.old) number Failed) }
+        ensures cuts { OnOk result (IsPut (cuts_of self.old) number None (cuts_of self.new)) }
         ensures refused { OnErr result (view_of self.new ≡ view_of self.old) }
+        ensures refused_cuts { OnErr result (cuts_of self.new ≡ cuts_of self.old) }
     {
-        if !is_unasked(&self.stages, &self.holds, &self.reads, number) {
-            return Err(Refusal::Stranger);
-        }
-        withdraw(&mut self.ready, number);
-        end(
-            &self.slots,
-            &mut self.stages,
-            &self.holds,
-            &mut self.reads,
-            number,
-        );
+        self.slots.give_up(number)?;
+        forget(&mut self.cuts, &mut self.parted, number);
         Ok(())
     }
 
@@ -381,8 +413,7 @@ impl<N: Drop> Board<N> {
         ensures inputs { result ≡ option_map (λ t. t.inputs) (slice_get (view_of self.now).tasks number) }
         ensures lower { IfSome result (λ inputs. each (λ i. nat_lt i number) inputs ≡ true) }
     {
-        let slot = self.slots.get(number as usize)?;
-        Some(slot.inputs.roles())
+        self.slots.inputs(number)
     }
 
     /// One hold more.
@@ -390,15 +421,10 @@ impl<N: Drop> Board<N> {
         ensures answer { result ≡ (if may_hold (view_of self.old) number then Ok tt else Err Refusal.Stranger) }
         ensures held { OnOk result (view_of self.new
             ≡ with_holds (view_of self.old) number (slice_index (view_of self.old).holds number + 1)) }
+        ensures cuts { cuts_of self.new ≡ cuts_of self.old }
         ensures refused { OnErr result (view_of self.new ≡ view_of self.old) }
     {
-        if is_gone(&self.stages, number) {
-            return Err(Refusal::Stranger);
-        }
-        if !hold_more(&mut self.holds, number) {
-            return Err(Refusal::Stranger);
-        }
-        Ok(())
+        self.slots.hold(number)
     }
 
     /// One hold less.
@@ -406,15 +432,9 @@ impl<N: Drop> Board<N> {
         ensures answer { result ≡ (if may_let_go (view_of self.old) number then Ok tt else Err Refusal.Stranger) }
         ensures gone { OnOk result (view_of self.new
             ≡ with_holds (view_of self.old) number (slice_index (view_of self.old).holds number - 1)) }
+        ensures cuts { cuts_of self.new ≡ cuts_of self.old }
         ensures refused { OnErr result (view_of self.new ≡ view_of self.old) }
     {
-        if is_gone(&self.stages, number) {
-            return Err(Refusal::Stranger);
-        }
-        if !hold_less(&mut self.holds, number) {
-            return Err(Refusal::Stranger);
-        }
-        release(&mut self.stages, &self.holds, &self.reads, Some(number));
-        Ok(())
+        self.slots.let_go(number)
     }
 }

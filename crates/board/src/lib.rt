@@ -4,22 +4,26 @@
 mod admitting;
 mod blocks;
 mod board;
+mod cut;
+mod cuts;
 mod falling;
 mod fitting;
 mod inputs;
 mod look;
 mod looking;
+mod picking;
 mod piece;
 mod reads;
 mod ready;
 mod schedule;
 mod sharing;
 mod slot;
+mod slots;
 mod stage;
 mod waiting;
 mod waking;
 
 pub use board::Board;
-pub use look::{Look, Refusal};
-pub use piece::{Given, Piece, Stores};
+pub use look::{Look, Offer, Refusal};
+pub use piece::{Blocks, Given, Piece, Stores, TaskRecipe};
 pub use schedule::{Answer, Event, Sight};

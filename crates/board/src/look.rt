@@ -1,5 +1,6 @@
 //! What a board answers.
 
+use calls::Recipe;
 use std::sync::Arc;
 use store::Store;
 
@@ -22,4 +23,14 @@ pub enum Look<'a> {
     Failed,
     /// Its store was there, and nobody needs it, or no slot has the number.
     Gone,
+}
+
+/// A slot of which a piece can be taken.
+#[derive(Clone, Copy)]
+pub struct Offer<'a> {
+    pub number: u64,
+    /// How many rows its task makes.
+    pub rows: u64,
+    /// The recipe of its task, where nobody took that.
+    pub recipe: Option<&'a Recipe>,
 }

@@ -68,7 +68,7 @@ fn stands_at(ready: &VecDeque<u64>, place: usize, number: u64) -> bool
 }
 
 /// The place of a number among those that rise. The highest are looked at first, since most numbers come last.
-fn place_of(ready: &VecDeque<u64>, number: u64) -> usize
+pub(crate) fn place_of(ready: &VecDeque<u64>, number: u64) -> usize
     ensures { IsPlace ready.now.items number result }
 {
     for place in (0..ready.len()).rev() {

@@ -1,5 +1,5 @@
 //! Lists of events.
-ghost use Rattle.board.specs.Boards.{view_of};
+ghost use Rattle.board.specs.Boards.{shown};
 ghost use Rattle.std.specs.Prelude.{◌≡◌, IfOk, MatchResult, OnErr};
 ghost use Rattle.board.specs.Looks.{seen_in};
 ghost use Rattle.board.specs.Schedules.{seen_as};
@@ -71,10 +71,10 @@ impl<N: Drop> Board<N> {
     /// Does events in order, and gives their answers; after a refusal it goes on. It makes the room for all answers
     /// first: where that is refused, nothing was done.
     pub fn run(&mut self, events: Vec<Event<N>>) -> Result<Vec<Answer>, NoMemory>
-        requires { AreRight (view_of self.old) events.items }
+        requires { AreRight (shown self.old) events.items }
         ensures answers { IfOk result (λ answers.
-            AreAnswered (view_of self.old) events.items answers.items (view_of self.new)) }
-        ensures refused { OnErr result (view_of self.new ≡ view_of self.old) }
+            AreAnswered (shown self.old) events.items answers.items (shown self.new)) }
+        ensures refused { OnErr result (shown self.new ≡ shown self.old) }
     {
         let mut answers = Vec::with_capacity(*events.allocator(), events.len())?;
         for event in events {
@@ -85,8 +85,8 @@ impl<N: Drop> Board<N> {
 
     /// Does an event.
     fn answer(&mut self, event: Event<N>) -> Answer
-        requires { IsRight (view_of self.old) event }
-        ensures { IsAnswered (view_of self.old) event result (view_of self.new) }
+        requires { IsRight (shown self.old) event }
+        ensures { IsAnswered (shown self.old) event result (shown self.new) }
     {
         match event {
             Event::Issue {

@@ -16,13 +16,15 @@ use std::sync::Wait;
 use std::thread::Threads;
 
 /// Runs a script as `script::run` does. Work is put off and done by so many threads, and by the calling one while it
-/// waits, in this order as far as its inputs permit. A thread that can't be started is left out.
+/// waits, in this order as far as its inputs permit; a large call is cut into pieces of at least so many rows. A thread
+/// that can't be started is left out.
 pub fn run_pooled<R, S>(
     rt: &R,
     alloc: Global,
     script: &[u8],
     sources: &S,
     workers: u64,
+    rows: u64,
     order: Order,
     out: &mut Vec<u8>,
 ) -> Result<(), NoMemory>
@@ -43,6 +45,7 @@ where
         script,
         sources,
         workers,
+        rows,
         Open,
         order,
         out,
@@ -57,6 +60,7 @@ pub(crate) fn run_over_pool<J, R, S, G, P>(
     script: &[u8],
     sources: &S,
     workers: u64,
+    rows: u64,
     gate: G,
     picker: P,
     out: &mut Vec<u8>,
@@ -74,7 +78,7 @@ where
     ensures err { OnErr result ((n : ℕ)
         × Ran (take n (readings_in (S.held sources.now) script.now)) out.old.items out.new.items) }
 {
-    let mut pool = Pool::<J, R, G, P>::new(rt, alloc, log, workers, gate, picker)?;
+    let mut pool = Pool::<J, R, G, P>::new(rt, alloc, log, workers, rows, gate, picker)?;
     let ended = script::run(alloc, script, sources, &mut pool, out);
     pool.close();
     ended

@@ -1,21 +1,19 @@
 -- What is left to do becomes less with each slot that is finished.
-use Rattle.std.proofs.Common.{◌≡◌, ◌≢◌, ◌∙◌, ℕ, zero, suc, ◌+◌, ◌%◌, ◌<◌, ◌≤◌, ◌&&◌, ◌||◌, Bool, true, false, cond, List, [], ◌∷◌, length, Option, Some, None, slice_get, slice_set, refl, sym, ap, subst, arith, le_of_eq, le_refl, le_trans, lt_of_le_of_lt, mod-lt}
+use Rattle.std.proofs.Common.{◌≡◌, ◌∙◌, ℕ, zero, suc, ◌+◌, ◌<◌, ◌≤◌, ◌&&◌, ◌||◌, Bool, true, false, cond, List, [], ◌∷◌, length, Option, Some, None, slice_get, slice_set, refl, sym, ap, subst, arith, le_of_eq, le_refl, le_trans, lt_of_le_of_lt}
 use Rattle.std.proofs.lemmas.Bool.{and_parts}
-use Rattle.std.proofs.lemmas.Option.{slice_get-get_or}
 use Rattle.std.specs.Prelude.{OnErr, OnOk, Result, Ok, Err}
-use Rattle.std.specs.Option.{IfSome, option_and_then, option_map_or}
-use Rattle.board.specs.Events.{failed, may_fail, moved_by, picked, sole_in, taken, with_moved, with_progress}
+use Rattle.std.specs.Option.{option_and_then, option_map_or}
+use Rattle.board.specs.Events.{failed, may_fail, moved_by, sole_in, taken, with_moved, with_progress}
 use Rattle.board.specs.Falls.{fall_at, fallen, fallen_below, falls}
 use Rattle.board.specs.Places.{each}
 use Rattle.board.specs.Progress.{Progress, Untaken, Running, Joining, Made, Moved, Failed, is_joining, is_made, is_running, is_unfinished, is_untaken}
 use Rattle.board.specs.Tasks.{Task}
-use Rattle.board.specs.Views.{View, is_fed, is_ready, offered}
+use Rattle.board.specs.Views.{View, is_fed, is_ready}
 use Rattle.board.specs.declared.look.Refusal.{Refusal}
-use Rattle.board.specs.declared.piece.Piece.{Piece}
 use Rattle.board.specs.declared.look.Refusal.TheVariants.{Stranger}
 use Rattle.board.proofs.ListLaws.{get_set_other, get_set_same}
 use Rattle.board.proofs.PlaceLaws.{each-at}
-use Rattle.board.proofs.ReadyLaws.{offered_at, untaken_some}
+use Rattle.board.proofs.ReadyLaws.{untaken_some}
 use Rattle.calls.specs.declared.role.Role.TheVariants.{Old}
 use Rattle.desk.specs.Ends.{unfinished}
 
@@ -99,18 +97,6 @@ fewer_failed v k may =
 
 -- ---- a slot that is taken
 
--- the slot that is picked can be taken
-pub ready_picked : {N : Type 0} (v : View N) (pick : ℕ) → offered v.tasks v.progress ≢ []
-    → is_ready v.tasks v.progress (picked v pick) ≡ true
-ready_picked v pick some =
-    let numbers = offered v.tasks v.progress in
-    (offered_at v.tasks v.progress (pick % length numbers) (picked v pick)
-    (slice_get-get_or numbers (pick % length numbers) 0 (mod-lt pick (positive numbers some)))).1
-  where
-    positive : (ns : List ℕ) → ns ≢ [] → 0 < length ns
-    positive [] h = absurd (h refl)
-    positive (n ∷ ns) h = omega arith
-
 at_most_moved : (ps : List Progress) (o : Option ℕ) → unfinished (with_moved ps o) ≤ unfinished ps
 at_most_moved ps None = le_refl _
 at_most_moved ps (Some i) = at_most_set ps i Moved refl
@@ -155,7 +141,7 @@ module _ {N : Type 0} (v : View N) (k : ℕ) (ready : is_ready v.tasks v.progres
           ∙ running)
 
 -- a slot that fails
-fewer_left : {N : Type 0} (v after : View N) (k : ℕ) (r : Result (Unit {0}) Refusal)
+pub fewer_left : {N : Type 0} (v after : View N) (k : ℕ) (r : Result (Unit {0}) Refusal)
     → r ≡ cond (may_fail v k) (Ok tt) (Err Stranger) → OnOk r (after ≡ failed v k) → may_fail v k ≡ true
     → unfinished after.progress < unfinished v.progress
 fewer_left v after k r answer failing may =
@@ -171,21 +157,23 @@ running_some : (o : Option Progress) → is_running o ≡ true → o ≡ Some Ru
 running_some None h = absurd cc
 running_some (Some r) h = elim r as (λ r. is_running (Some r) ≡ true → Some r ≡ Some Running) [ Running ↦ λ h. refl | _ ↦ λ h. absurd cc ] h
 
-or_right : (x y z : Bool) → (y || z) ≡ true → (x || (y || z)) ≡ true
+pub or_right : (x y z : Bool) → (y || z) ≡ true → (x || (y || z)) ≡ true
 or_right true y z h = refl
 or_right false y z h = h
 
-or_left : (y z : Bool) → y ≡ true → (y || z) ≡ true
+pub or_left : (y z : Bool) → y ≡ true → (y || z) ≡ true
 or_left true z h = refl
 or_left false z h = absurd cc
 
 module _ {N : Type 0} (v after : View N) (k : ℕ) (r : Result (Unit {0}) Refusal)
     (runs : is_running (slice_get v.progress k) ≡ true) where
-  -- its store was handed in
-  pub fewer_handed : r ≡ cond (is_running (slice_get v.progress k)) (Ok tt) (Err Stranger)
+  -- its store was handed in, where its task isn't cut
+  pub fewer_handed : (uncut : Bool) → uncut ≡ true
+      → r ≡ cond (is_running (slice_get v.progress k) && uncut) (Ok tt) (Err Stranger)
       → OnOk r (after ≡ with_progress v k Made) → unfinished after.progress < unfinished v.progress
-  fewer_handed answer made =
-      let ok : r ≡ Ok tt = answer ∙ ap (λ (b : Bool). cond b (Ok tt) (Err Stranger)) runs in
+  fewer_handed uncut is_uncut answer made =
+      let ok : r ≡ Ok tt = answer ∙ (ap (λ (b : Bool). cond (b && uncut) (Ok tt) (Err Stranger)) runs
+      ∙ ap (λ (b : Bool). cond b (Ok tt) (Err Stranger)) is_uncut) in
       let is : after ≡ with_progress v k Made = subst (λ (s : Result (Unit {0}) Refusal). OnOk s (after ≡ with_progress v k Made)) ok made in
       let less = fewer_set v.progress k Running Made (running_some (slice_get v.progress k) runs) refl refl in
       let same = ap (λ (u : View N). unfinished u.progress) is in
@@ -198,55 +186,6 @@ module _ {N : Type 0} (v after : View N) (k : ℕ) (r : Result (Unit {0}) Refusa
       let out = is_running (slice_get v.progress k) in
       fewer_left v after k r answer failing
       (or_right (is_ready v.tasks v.progress k) out (is_joining (slice_get v.progress k)) (or_left out (is_joining (slice_get v.progress k)) runs))
-
--- ---- a round
-
-module _ {N : Type 0} (v : View N) (pick number : ℕ) (some : offered v.tasks v.progress ≢ [])
-    (is : number ≡ picked v pick) where
-  ready_number : is_ready v.tasks v.progress number ≡ true
-  ready_number = ap (is_ready v.tasks v.progress) is ∙ ready_picked v pick some
-
-  -- the slot that is picked runs once its piece is out
-  pub runs_picked : (w : View N) → w ≡ taken v number → is_running (slice_get w.progress number) ≡ true
-  runs_picked w out =
-      ap (λ (u : View N). is_running (slice_get u.progress number)) out ∙ running_taken v number ready_number
-
-  -- and as much is to come, or less
-  pub at_most_picked : (w : View N) → w ≡ taken v number → unfinished w.progress ≤ unfinished v.progress
-  at_most_picked w out =
-      let same = ap (λ (u : View N). unfinished u.progress) out in
-      let most = at_most_taken v number ready_number in
-      omega (arith, same, most)
-
-  -- it fails where shares of stores were refused
-  pub fewer_refused : (w after : View N) (r : Result (Unit {0}) Refusal) → w ≡ v
-      → r ≡ cond (may_fail w number) (Ok tt) (Err Stranger) → OnOk r (after ≡ failed w number)
-      → unfinished after.progress < unfinished v.progress
-  fewer_refused w after r same answer failing =
-      let out = is_running (slice_get v.progress number) || is_joining (slice_get v.progress number) in
-      let may = or_left (is_ready v.tasks v.progress number) out ready_number in
-      let less = fewer_left w after number r answer failing (ap (λ (u : View N). may_fail u number) same ∙ may) in
-      let as_much = ap (λ (u : View N). unfinished u.progress) same in
-      omega (arith, less, as_much)
-
--- ---- a piece that was asked for
-
-module _ {N : Type 0} (v w : View N) (pick : ℕ) where
-  -- its slot runs
-  pub runs_taken : (o : Option Piece) → (offered v.tasks v.progress ≡ [] → o ≡ None)
-      → IfSome o (λ piece. piece.number ≡ picked v pick) → IfSome o (λ piece. w ≡ taken v piece.number)
-      → IfSome o (λ piece. is_running (slice_get w.progress piece.number) ≡ true)
-  runs_taken None none is out = tt
-  runs_taken (Some piece) none is out =
-      runs_picked v pick piece.number (λ empty. let e : Some piece ≡ None = none empty in cc (e)) is w out
-
-  -- no more is to come than before
-  pub more_taken : (o : Option Piece) → (offered v.tasks v.progress ≡ [] → o ≡ None)
-      → IfSome o (λ piece. piece.number ≡ picked v pick) → IfSome o (λ piece. w ≡ taken v piece.number)
-      → (o ≡ None → w ≡ v) → unfinished w.progress ≤ unfinished v.progress
-  more_taken None none is out same = le_of_eq (ap (λ (u : View N). unfinished u.progress) (same refl))
-  more_taken (Some piece) none is out same =
-      at_most_picked v pick piece.number (λ empty. let e : Some piece ≡ None = none empty in cc (e)) is w out
 
 -- a slot that fails, or doesn't, changes no task and no note
 pub same_failed : {N : Type 0} (v w after : View N) (k : ℕ) (r : Result (Unit {0}) Refusal) → w ≡ v

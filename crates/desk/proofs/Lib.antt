@@ -1,3 +1,4 @@
+pub mod CutLaws
 pub mod DeskLaws
 pub mod EndLaws
 pub mod OverLaws

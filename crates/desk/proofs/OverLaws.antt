@@ -1,5 +1,5 @@
 -- Operations that take over what their output had, of the stores of a piece.
-use Rattle.std.proofs.Common.{◌≡◌, ◌∙◌, ◌<◌, ℕ, Bor, Option, Some, subst, sym}
+use Rattle.std.proofs.Common.{◌≡◌, ◌∙◌, ℕ, Bor, Option, Some, subst, sym}
 use Rattle.board.specs.Pieces.{maps_in as maps_had}
 use Rattle.board.specs.Stores.{stored_for}
 use Rattle.board.specs.declared.piece.Stores.{Stores}

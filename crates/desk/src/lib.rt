@@ -2,6 +2,7 @@
 //! done and given up.
 #![tactic(auto)]
 
+mod cutting;
 mod dropping;
 mod picker;
 mod places;
@@ -9,9 +10,10 @@ mod placing;
 mod ticket;
 mod works;
 
+pub use cutting::take_cut;
 pub use dropping::give_up;
 pub use picker::{Order, Picker};
 pub use places::{notes_of, slot_of};
 pub use placing::place;
 pub use ticket::Ticket;
-pub use works::{look, made_of, take, work};
+pub use works::{joined_of, look, made_of, part_of, take, work};

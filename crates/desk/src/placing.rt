@@ -1,6 +1,6 @@
 //! New slots of a board.
 ghost use Rattle.std.specs.Prelude.{◌≡◌};
-ghost use Rattle.board.specs.Boards.{view_of};
+ghost use Rattle.board.specs.Boards.{cuts_of, view_of};
 ghost use Rattle.desk.specs.Desks.{AreTold, object_in};
 ghost use Rattle.history.specs.Histories.{object_of};
 ghost use Rattle.runner.specs.Tickets.{made_by};
@@ -29,6 +29,7 @@ pub fn place<N: Noted>(
     requires told { AreTold N.told (view_of board.old) }
     requires object { object_of (N.told note) ≡ made_by (object_in N.told) recipe inputs.now }
     ensures told { AreTold N.told (view_of board.new) }
+    ensures cuts { cuts_of board.new ≡ cuts_of board.old }
 {
     match recipe {
         Recipe::Given(given) => board.issue_given(note, given),
@@ -49,6 +50,7 @@ fn issue<N: Noted>(
     requires told { AreTold N.told (view_of board.old) }
     requires object { object_of (N.told note) ≡ made_by (object_in N.told) recipe inputs.now }
     ensures told { AreTold N.told (view_of board.new) }
+    ensures cuts { cuts_of board.new ≡ cuts_of board.old }
 {
     let Some(places) = places_of(board, log, epoch, inputs) else {
         return Ok(NO_SLOT);

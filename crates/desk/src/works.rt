@@ -1,9 +1,10 @@
 //! Pieces of work, taken and done, and what came of them.
 ghost use Rattle.std.specs.Prelude.{◌≡◌, ◌<◌, ◌≤◌, IfOk, IfSome, None, Some, [], slice_get, true};
 ghost use Rattle.std.specs.Arc.{arc_value};
+ghost use Rattle.std.specs.List.{All};
 ghost use Rattle.std.specs.Option.{option_map};
-ghost use Rattle.board.specs.Boards.{view_of};
-ghost use Rattle.board.specs.Pieces.{IsPieceFor, maps_in};
+ghost use Rattle.board.specs.Boards.{cuts_of, view_of};
+ghost use Rattle.board.specs.Pieces.{IsPieceFor, is_whole, maps_in, recipe_of};
 ghost use Rattle.board.specs.Progress.{is_running};
 ghost use Rattle.board.specs.Stores.{stored_for};
 ghost use Rattle.board.specs.Tasks.{object_at};
@@ -11,16 +12,17 @@ ghost use Rattle.board.specs.Views.{offered};
 ghost use Rattle.calls.specs.declared.role.Role.{Role as AnyRole};
 ghost use Rattle.calls.specs.Recipes.{known_by, known_of};
 ghost use Rattle.desk.specs.Ends.{unfinished};
-ghost use Rattle.desk.specs.Works.{IsWork, object_by};
-ghost use Rattle.kernel.specs.Pieces.{IsPieceOf};
+ghost use Rattle.desk.specs.Works.{AreUncut, IsWork, object_by};
+ghost use Rattle.kernel.specs.Covers.{Covers, IsPartOf};
+ghost use Rattle.kernel.specs.Pieces.{IsPieceOf, cols_in};
 ghost use Rattle.kernel.specs.Takes.{Takes};
-ghost use Rattle.model.specs.Object.{rows_of};
+ghost use Rattle.model.specs.Object.{IsObject, Object, cols_of, rows_of};
 ghost use Rattle.runner.specs.Tickets.{IsStoreFor};
 
 use crate::picker::Picker;
 use board::{Board, Look, Piece, Stores};
 use calls::{Computation, Recipe};
-use kernel::{Block, computed_over, eval_piece, join, patch_over};
+use kernel::{Block, computed_over, eval_piece, join, join_blocks, patch_over};
 use model::NoMemory;
 use runner::Failed;
 use std::alloc::Global;
@@ -40,16 +42,19 @@ pub fn look<N: Drop>(board: &Board<N>, slot: u64) -> Option<Result<Arc<Store>, F
     }
 }
 
-/// The piece of one of the tasks that can be done; None where none can. A task fails for which a share of a store is
-/// refused.
+/// All of one of the tasks that can be done; None where none can. No task is cut. A task fails for which a share of a
+/// store is refused.
 pub fn take<P: Picker, N: Drop>(picker: &mut P, board: &mut Board<N>) -> Option<Piece>
+    requires { AreUncut (cuts_of board.old) }
     ensures none { result ≡ None → offered (view_of board.new).tasks (view_of board.new).progress ≡ [] }
     ensures piece { IfSome result (IsPieceFor (view_of board.new).tasks) }
+    ensures whole { IfSome result (λ piece. is_whole piece ≡ true) }
     ensures running { IfSome result (λ piece.
         is_running (slice_get (view_of board.new).progress piece.number) ≡ true) }
     ensures tasks { (view_of board.new).tasks ≡ (view_of board.old).tasks }
     ensures notes { (view_of board.new).notes ≡ (view_of board.old).notes }
     ensures more { unfinished (view_of board.new).progress ≤ unfinished (view_of board.old).progress }
+    ensures uncut { AreUncut (cuts_of board.new) }
 {
     // Each round but the last fails a task.
     loop {
@@ -62,29 +67,49 @@ pub fn take<P: Picker, N: Drop>(picker: &mut P, board: &mut Board<N>) -> Option<
     }
 }
 
-/// The store of the object that a piece of work makes. What it was made of stays in the piece, but for a store that
-/// was edited.
+/// The store of the object that a piece makes which is all of its task. What it was made of stays in the piece, but for
+/// a store that was edited, or that nobody shared and that was written in place.
 pub fn made_of(alloc: Global, piece: &mut Piece) -> Result<Arc<Store>, NoMemory>
-    requires { IsWork piece.old }
+    requires work { IsWork piece.old }
+    requires whole { is_whole piece.old ≡ true }
     ensures { IfOk result (λ store. IsStoreFor (object_by piece.old) (arc_value store)) }
 {
-    let Piece {
-        rows,
-        recipe,
-        inputs,
-        ..
-    } = piece;
-    let block = block_of(alloc, recipe, inputs, rows.start..rows.end)?;
-    Ok(Arc::new(alloc, join(alloc, recipe, block))?)
+    let block = block_by(alloc, piece)?;
+    Ok(Arc::new(alloc, join(alloc, piece.recipe.get(), block))?)
 }
 
-/// Does a piece of work that was taken, and hands in what it makes; where there is no memory for it, its slot fails.
+/// The block of a piece that is some rows of its task. The recipe stays in the piece.
+pub fn part_of(alloc: Global, piece: &mut Piece) -> Result<Block, NoMemory>
+    requires { IsWork piece.old }
+    ensures block { IfOk result (IsPartOf (cols_of (object_by piece.old).shape) (object_by piece.old).content) }
+    ensures recipe { piece.new.recipe ≡ piece.old.recipe }
+{
+    block_by(alloc, piece)
+}
+
+/// The store of what a recipe makes, of the blocks of all pieces, in the order of their rows. It takes time and memory
+/// for their entries.
+pub fn joined_of(alloc: Global, recipe: &Recipe, blocks: Vec<Block>) -> Result<Arc<Store>, NoMemory>
+    requires covers { Covers 0 (rows_of (known_of recipe.now).shape) blocks.items }
+    requires cols { All (λ b. cols_in b ≡ cols_of (known_of recipe.now).shape) blocks.items }
+    ensures { IfOk result (λ store. (o : Object) → IsObject o → o.shape ≡ (known_of recipe.now).shape
+        → All (IsPartOf (cols_of o.shape) o.content) blocks.items → IsStoreFor o (arc_value store)) }
+{
+    let store = join_blocks(alloc, recipe, blocks)?;
+    Ok(Arc::new(alloc, store)?)
+}
+
+/// Does a piece that was taken and is all of its task, and hands in what it makes; where there is no memory for it, its
+/// slot fails.
 pub fn work<N: Drop>(alloc: Global, board: &mut Board<N>, piece: Piece)
-    requires { IsPieceFor (view_of board.old).tasks piece }
+    requires piece { IsPieceFor (view_of board.old).tasks piece }
+    requires whole { is_whole piece ≡ true }
+    requires uncut { AreUncut (cuts_of board.old) }
     ensures tasks { (view_of board.new).tasks ≡ (view_of board.old).tasks }
     ensures notes { (view_of board.new).notes ≡ (view_of board.old).notes }
     ensures fewer { is_running (slice_get (view_of board.old).progress piece.number) ≡ true
         → unfinished (view_of board.new).progress < unfinished (view_of board.old).progress }
+    ensures uncut { AreUncut (cuts_of board.new) }
 {
     let number = piece.number;
     let mut piece = piece;
@@ -96,6 +121,22 @@ pub fn work<N: Drop>(alloc: Global, board: &mut Board<N>, piece: Piece)
             let _ = board.fail(number);
         }
     }
+}
+
+/// The block of a piece's rows. The recipe stays in the piece.
+fn block_by(alloc: Global, piece: &mut Piece) -> Result<Block, NoMemory>
+    requires { IsWork piece.old }
+    ensures block { IfOk result (IsPieceOf (recipe_of piece.old.recipe) (maps_in piece.old.inputs)
+        piece.old.rows.start piece.old.rows.end) }
+    ensures recipe { piece.new.recipe ≡ piece.old.recipe }
+{
+    let Piece {
+        rows,
+        recipe,
+        inputs,
+        ..
+    } = piece;
+    block_of(alloc, recipe.get(), inputs, rows.start..rows.end)
 }
 
 /// What a recipe gives of stores. The edits of a patch are done in its store, where nobody shares that, and so what an

@@ -25,13 +25,12 @@ pub enum Request<'a> {
     Run(Options<'a>),
 }
 
-/// How to run a script. No answer shows which options were chosen. `rows` has no effect yet: one thread does the whole
-/// of a call.
+/// How to run a script. No answer shows which options were chosen.
 #[derive(Clone, Copy, Debug, PartialEq, Eq)]
 pub struct Options<'a> {
     /// How many threads work beside the one that reads the script.
     pub workers: u64,
-    /// How many rows of a matrix make one piece of work.
+    /// How many rows a piece of a large call has at least.
     pub rows: u64,
     /// In which order the work that was put off is done.
     pub order: Order,
@@ -128,7 +127,7 @@ fn rows<'a>(alloc: Global) -> Arg<'a>
         .value_name("R")
         .value_parser(value_parser!(u64).range(1..=4294967296))
         .default_value("256")
-        .help("Rows in one piece of work, 1 to 4294967296; the output is the same for each R")
+        .help("Least rows in a piece of work, 1 to 4294967296; the output is the same for each R")
 }
 
 fn order<'a>(alloc: Global) -> Arg<'a>

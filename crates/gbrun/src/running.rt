@@ -80,8 +80,13 @@ where
         IsMade (X.admits (S.held sources.now) script.now options.entry) ended (X.made run.new)) }
     ensures none { OnErr result (X.made run.new ≡ None) }
 {
-    let Options { workers, order, .. } = options;
-    let mut pool = Pool::<J, H, Open, Order>::new(rt, alloc, log, workers, Open, order)?;
+    let Options {
+        workers,
+        rows,
+        order,
+        ..
+    } = options;
+    let mut pool = Pool::<J, H, Open, Order>::new(rt, alloc, log, workers, rows, Open, order)?;
     let ended = run.run(alloc, script, sources, options, &mut pool);
     pool.close();
     Ok(ended)

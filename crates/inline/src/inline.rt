@@ -1,7 +1,8 @@
 //! The runner that does all work when a store is asked for.
 ghost use Rattle.std.specs.Prelude.{◌≡◌};
-ghost use Rattle.board.specs.Boards.{view_of};
+ghost use Rattle.board.specs.Boards.{cuts_of, view_of};
 ghost use Rattle.desk.specs.Desks.{AreTold, object_in, told};
+ghost use Rattle.desk.specs.Works.{AreUncut};
 
 use crate::work::finish;
 use board::Board;
@@ -24,6 +25,7 @@ pub struct Inline<J: Naming, P: Picker + Drop> {
     board: Board<Note<J>>,
     ghost named: { history ≡ J.book },
     ghost told: { AreTold told (view_of board) },
+    ghost uncut: { AreUncut (cuts_of board) },
 }
 
 impl<J: Naming, P: Picker + Drop> Inline<J, P> {

@@ -5,6 +5,8 @@
 mod forms;
 mod inline;
 #[cfg(test)]
+mod row;
+#[cfg(test)]
 mod tests;
 mod work;
 

@@ -2,9 +2,10 @@
 ghost use Rattle.std.specs.Prelude.{◌≡◌, ◌<◌, IfOk};
 ghost use Rattle.std.specs.Arc.{arc_value};
 ghost use Rattle.std.specs.Bool.{OnTrue};
-ghost use Rattle.board.specs.Boards.{view_of};
+ghost use Rattle.board.specs.Boards.{cuts_of, view_of};
 ghost use Rattle.board.specs.Tasks.{object_at};
 ghost use Rattle.desk.specs.Ends.{unfinished};
+ghost use Rattle.desk.specs.Works.{AreUncut};
 ghost use Rattle.runner.specs.Tickets.{IsStoreFor};
 
 use board::Board;
@@ -21,9 +22,11 @@ pub(crate) fn finish<P: Picker, N: Drop>(
     board: &mut Board<N>,
     slot: u64,
 ) -> Result<Arc<Store>, Failed>
+    requires { AreUncut (cuts_of board.old) }
     ensures store { IfOk result (λ store. IsStoreFor (object_at (view_of board.old).tasks slot) (arc_value store)) }
     ensures tasks { (view_of board.new).tasks ≡ (view_of board.old).tasks }
     ensures notes { (view_of board.new).notes ≡ (view_of board.old).notes }
+    ensures uncut { AreUncut (cuts_of board.new) }
 {
     // Each round does a task.
     loop {
@@ -42,10 +45,12 @@ pub(crate) fn work_once<P: Picker, N: Drop>(
     picker: &mut P,
     board: &mut Board<N>,
 ) -> bool
+    requires { AreUncut (cuts_of board.old) }
     ensures tasks { (view_of board.new).tasks ≡ (view_of board.old).tasks }
     ensures notes { (view_of board.new).notes ≡ (view_of board.old).notes }
     ensures fewer { OnTrue result
         (unfinished (view_of board.new).progress < unfinished (view_of board.old).progress) }
+    ensures uncut { AreUncut (cuts_of board.new) }
 {
     let Some(piece) = take(picker, board) else {
         return false;

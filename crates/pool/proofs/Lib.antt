@@ -1,1 +1,4 @@
+pub mod EndLaws
 pub mod WorkLaws
+pub mod SendLaws
+pub mod TestLaws

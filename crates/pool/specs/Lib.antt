@@ -1,2 +1,4 @@
 pub mod Boards
 pub mod Crews
+pub mod Lefts
+pub mod Outcomes

@@ -2,13 +2,14 @@
 ghost use Rattle.std.specs.Prelude.{◌≡◌, ◌<◌, ◌↔◌, IsTrue, false, None};
 ghost use Rattle.pool.specs.Crews.{Calls, Rises, Sleeps};
 
+use crate::cutting::Cutting;
 use crate::demand::Demand;
 
 /// How much work a worker is woken for, in entries that are read: about what a thread does while another wakes.
 pub const SHARE: u64 = 4_096;
 
 /// Who of the threads of a pool sleeps.
-#[derive(Clone, Copy, Debug, PartialEq, Eq)]
+#[derive(Clone, Copy, Debug)]
 pub struct Crew {
     /// No task is taken any more.
     pub closing: bool,
@@ -26,16 +27,19 @@ pub struct Crew {
     share: u64,
     /// How many threads can be at work at one time.
     processors: u64,
+    /// How tasks are cut for the threads.
+    pub cutting: Cutting,
 }
 
 impl Crew {
-    /// Nobody has come yet. The first worker is to start so many others; a worker is woken for so much work, and so
-    /// many threads can be at work at one time.
-    pub fn new(others: u64, share: u64, processors: u64) -> Crew
+    /// Nobody has come yet. The first worker is to start so many others; a worker is woken for so much work, so many
+    /// threads can be at work at one time, and tasks are cut so.
+    pub fn new(others: u64, share: u64, processors: u64, cutting: Cutting) -> Crew
         ensures sleeping { result.sleeping ≡ 0 }
         ensures called { result.called ≡ 0 }
         ensures closing { result.closing ≡ false }
         ensures awaited { result.awaited ≡ None }
+        ensures cutting { result.cutting ≡ cutting }
     {
         Crew {
             closing: false,
@@ -46,15 +50,17 @@ impl Crew {
             others,
             share,
             processors,
+            cutting,
         }
     }
 
-    /// Nobody works beside the calling thread, and nobody comes.
-    pub fn nobody() -> Crew
+    /// Nobody works beside the calling thread, and nobody comes. Tasks are cut so.
+    pub fn nobody(cutting: Cutting) -> Crew
         ensures sleeping { result.sleeping ≡ 0 }
         ensures called { result.called ≡ 0 }
+        ensures cutting { result.cutting ≡ cutting }
     {
-        Crew::new(0, 0, 0)
+        Crew::new(0, 0, 0, cutting)
     }
 
     /// A worker begins.

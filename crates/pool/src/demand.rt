@@ -1,5 +1,5 @@
 //! How much there is to do for threads that sleep: so many tasks, each about as much work as the one at hand, in
-//! entries that are read.
+//! entries that are read. A task that is cut counts as one, as long as a piece of it can be taken.
 ghost use Rattle.std.specs.Prelude.{◌≡◌};
 
 use board::{Board, Look, Piece};
@@ -55,10 +55,10 @@ pub fn work_of(recipe: &Recipe) -> u64 {
     }
 }
 
-/// The work of a task that was taken.
+/// The work of the task of a piece that was taken.
 pub fn work_in(piece: &Piece) -> u64 {
     let inputs = &piece.inputs;
-    work_of(&piece.recipe)
+    work_of(piece.recipe.get())
         .saturating_add(entries(&inputs.old))
         .saturating_add(entries(&inputs.mask))
         .saturating_add(entries(&inputs.first))

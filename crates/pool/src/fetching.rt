@@ -7,10 +7,10 @@ ghost use Rattle.runner.specs.Tickets.{IsStoreFor};
 use crate::demand::Demand;
 use crate::gate::Gate;
 use crate::named::Named;
-use crate::serving::{done, leave};
+use crate::serving::{done, leave, lock_with};
 use crate::shared::Shared;
 use crate::tasks::Tasks;
-use crate::work::Finished;
+use crate::work::{Finished, Left};
 use desk::{Picker, Ticket};
 use journal::{Naming, Note};
 use runner::Failed;
@@ -33,7 +33,7 @@ pub fn hand_over<J: Naming, R: Wait, G: Gate + Drop, P: Picker + Drop>(
 
 /// The store of a ticket's object. The calling thread, which has the tasks, does them until it has come. `Err`: there
 /// was so much to do that workers were woken for it, one for each such share; the tasks lie under the lock since, but
-/// for this one, which the calling thread did meanwhile.
+/// for this one's piece, which the calling thread did meanwhile.
 pub fn fetch_alone<J: Naming, R: Wait, G: Gate + Drop, P: Picker + Drop>(
     rt: &R,
     alloc: Global,
@@ -50,17 +50,17 @@ pub fn fetch_alone<J: Naming, R: Wait, G: Gate + Drop, P: Picker + Drop>(
         if let Some(found) = own.look(&named.log, ticket) {
             return Ok(found);
         }
-        let Some(piece) = own.take() else {
+        let Some(work) = own.take_work(alloc) else {
             return Ok(Err(Failed));
         };
-        let demand = own.demand_beside(&piece);
+        let demand = own.demand_beside(&work.piece);
         if demand.threads(share) > 0 {
-            let work = own.work_of(piece);
             hand_over(rt, shared, own, demand);
             return Err(done(alloc, shared, work));
         }
-        shared.gate.enter(piece.number, piece.piece);
-        own.work(alloc, piece);
+        if let Left::Joint(joint) = own.finish(&named.log, done(alloc, shared, work)) {
+            own.finish(&named.log, joint.run(alloc));
+        }
     }
     unreachable!()
 }
@@ -80,13 +80,9 @@ pub fn fetch_beside<J: Naming, R: Wait, G: Gate + Drop, P: Picker + Drop>(
 {
     let mut last = first;
     for _ in rt.forever() {
-        let mut guard = shared.locked.lock(rt);
+        let (mut guard, spent) = lock_with(rt, alloc, named, shared, last.take());
         let locked = &mut *guard;
         locked.crew.awaited = None;
-        let spent = match last.take() {
-            Some(finished) => Some(locked.finish(&named.log, finished)),
-            None => None,
-        };
         if let Some(found) = locked.look(&named.log, ticket) {
             let called = locked.call_after_fetch(&found);
             if locked.crew.awake == 0 {
@@ -95,7 +91,7 @@ pub fn fetch_beside<J: Naming, R: Wait, G: Gate + Drop, P: Picker + Drop>(
             leave(shared, guard, spent, called);
             return found;
         }
-        match locked.take_beside() {
+        match locked.take_beside(alloc) {
             Some(work) => {
                 let called = locked.call_beside(&work.piece);
                 leave(shared, guard, spent, called);

@@ -2,7 +2,9 @@
 #![tactic(auto)]
 
 mod crew;
+mod cutting;
 mod demand;
+mod ending;
 mod fetching;
 mod gate;
 mod named;

@@ -5,6 +5,7 @@ ghost use Rattle.board.specs.Events.{empty_view};
 ghost use Rattle.desk.specs.Desks.{object_in, told};
 
 use crate::crew::{Crew, SHARE};
+use crate::cutting::Cutting;
 use crate::demand::work_of;
 use crate::fetching::{fetch_alone, fetch_beside, hand_over};
 use crate::gate::Gate;
@@ -54,19 +55,22 @@ where
     P: Picker + Drop + Send + 'static,
 {
     /// A pool of so many workers over a log that has the name of its type. A worker that can't be started is left out.
-    /// All but the first are started once there is work for them.
+    /// All but the first are started once there is work for them. A large task is cut into pieces of so many rows or
+    /// more, the last one perhaps of fewer, which the workers and the calling thread do apart; none is cut where no
+    /// worker can be started.
     pub fn new(
         rt: R,
         alloc: Global,
         log: Log,
         workers: u64,
+        rows: u64,
         gate: G,
         picker: P,
     ) -> Result<Pool<J, R, G, P>, NoMemory>
         requires { log ≡ J.log }
         ensures { IfOk result (λ pool. pool.epoch ≡ 0) }
     {
-        Pool::with_share(rt, alloc, log, workers, gate, picker, SHARE)
+        Pool::with_share(rt, alloc, log, workers, rows, gate, picker, SHARE)
     }
 
     /// The same, with a worker woken for so much work.
@@ -75,6 +79,7 @@ where
         alloc: Global,
         log: Log,
         workers: u64,
+        rows: u64,
         gate: G,
         picker: P,
         share: u64,
@@ -83,7 +88,10 @@ where
         ensures { IfOk result (λ pool. pool.epoch ≡ 0) }
     {
         let named = Arc::new(alloc, Named::new(log))?;
-        let crew = Crew::new(workers.saturating_sub(1), share, processors(&rt));
+        let processors = processors(&rt);
+        let threads = workers.saturating_add(1).min(processors);
+        let cutting = Cutting { rows, threads };
+        let crew = Crew::new(workers.saturating_sub(1), share, processors, cutting);
         let shared = Shared {
             locked: Mutex::new(Tasks::new(alloc, None, crew)),
             gate,
@@ -96,7 +104,11 @@ where
         } else {
             start_first(&rt, alloc, &named, &shared).ok()
         };
-        let share = if first.is_some() { share } else { 0 };
+        let (share, cutting) = if first.is_some() {
+            (share, cutting)
+        } else {
+            (0, Cutting::none())
+        };
         Ok(Pool {
             rt,
             alloc,
@@ -105,7 +117,7 @@ where
             shared,
             first,
             share,
-            own: Tasks::new(alloc, Some(picker), Crew::nobody()),
+            own: Tasks::new(alloc, Some(picker), Crew::nobody(cutting)),
             spare: Board::new(alloc),
         })
     }

@@ -3,7 +3,7 @@ use crate::gate::Gate;
 use crate::named::Named;
 use crate::shared::Shared;
 use crate::tasks::Tasks;
-use crate::work::{Finished, Work};
+use crate::work::{Finished, Left, Work};
 use board::Piece;
 use desk::Picker;
 use journal::Naming;
@@ -17,7 +17,9 @@ use std::sync::{MutexGuard, Wait};
 // where it saw, under the lock, that nothing can be done. It counts as one that sleeps until somebody calls it, who
 // wakes one then. Tasks that can be done and for which nobody is called are done by workers that are awake, or by the
 // calling thread once it asks for a store; so workers are called for much work alone, and nothing hangs where none is.
-// What a task was made of is dropped by the thread that did it, once it holds no lock.
+// What a piece was made of is dropped by the thread that did it, once it holds no lock; and the thread that hands in
+// the last block of a task joins them all, with no lock either. The task can't be taken meanwhile, and is still to
+// come.
 
 /// Does tasks until the pool is closed. Who does has begun (`Crew::begin`).
 pub fn serve<J: Naming, R: Wait, G: Gate + Drop, P: Picker + Drop>(
@@ -28,16 +30,12 @@ pub fn serve<J: Naming, R: Wait, G: Gate + Drop, P: Picker + Drop>(
 ) {
     let mut last = None;
     for _ in rt.forever() {
-        let mut guard = shared.locked.lock(rt);
+        let (mut guard, spent) = lock_with(rt, alloc, named, shared, last.take());
         let locked = &mut *guard;
-        let spent = match last.take() {
-            Some(finished) => Some(locked.finish(&named.log, finished)),
-            None => None,
-        };
         if locked.crew.closing {
             return;
         }
-        let taken = locked.take_work();
+        let taken = locked.take_work(alloc);
         if locked.calls_caller() {
             shared.come.notify_one();
         }
@@ -57,7 +55,32 @@ pub fn serve<J: Naming, R: Wait, G: Gate + Drop, P: Picker + Drop>(
     }
 }
 
-/// Gives the lock up; then drops what a task was made of, and wakes workers.
+/// Takes the lock, and hands in what a thread did last. Where that leaves blocks to be joined, the thread does so, for
+/// which it gives the lock up, and hands in what comes of it. Gives back what the work was made of, too.
+pub fn lock_with<'a, J: Naming, R: Wait, G: Gate + Drop, P: Picker + Drop>(
+    rt: &R,
+    alloc: Global,
+    named: &Named<J>,
+    shared: &'a Shared<J, G, P>,
+    last: Option<Finished<J>>,
+) -> (MutexGuard<'a, Tasks<J, P>>, Option<Piece>) {
+    let mut guard = shared.locked.lock(rt);
+    let Some(finished) = last else {
+        return (guard, None);
+    };
+    match guard.finish(&named.log, finished) {
+        Left::Spent(spent) => (guard, Some(spent)),
+        Left::Joint(joint) => {
+            drop(guard);
+            let joined = joint.run(alloc);
+            let mut guard = shared.locked.lock(rt);
+            let spent = guard.finish(&named.log, joined).into_spent();
+            (guard, Some(spent))
+        }
+    }
+}
+
+/// Gives the lock up; then drops what a piece was made of, and wakes workers.
 pub fn leave<J: Naming, G: Gate + Drop, P: Picker + Drop>(
     shared: &Shared<J, G, P>,
     guard: MutexGuard<'_, Tasks<J, P>>,
@@ -71,7 +94,7 @@ pub fn leave<J: Naming, G: Gate + Drop, P: Picker + Drop>(
     }
 }
 
-/// Does a task, behind the gate.
+/// Does a piece of a task, behind the gate.
 pub fn done<J: Naming, G: Gate + Drop, P: Picker + Drop>(
     alloc: Global,
     shared: &Shared<J, G, P>,

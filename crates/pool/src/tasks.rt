@@ -3,25 +3,28 @@ ghost use Rattle.std.specs.Prelude.{◌≡◌, ◌↔◌, ◌+◌, ◌<◌, IfOk
 ghost use Rattle.std.specs.Prelude.{slice_get, true};
 ghost use Rattle.std.specs.Arc.{arc_value};
 ghost use Rattle.std.specs.Bool.{OnTrue};
-ghost use Rattle.board.specs.Boards.{view_of};
+ghost use Rattle.board.specs.Boards.{cuts_of, view_of};
+ghost use Rattle.board.specs.Cuts.{IsPut, offered_on};
 ghost use Rattle.board.specs.Events.{empty_view};
 ghost use Rattle.board.specs.Pieces.{IsPieceFor};
 ghost use Rattle.board.specs.Progress.{is_running};
 ghost use Rattle.board.specs.Looks.{SeenUnfinished, seen_of};
-ghost use Rattle.board.specs.Views.{offered, state_of};
+ghost use Rattle.board.specs.Views.{state_of};
 ghost use Rattle.desk.specs.Desks.{AreTold, is_on, object_in, told};
-ghost use Rattle.desk.specs.Ends.{unfinished};
 ghost use Rattle.history.specs.Histories.{object_of};
 ghost use Rattle.pool.specs.Crews.{Calls};
-ghost use Rattle.pool.specs.Boards.{finished_on, held_on};
+ghost use Rattle.pool.specs.Boards.{cut_on, finished_on, held_on, left_on};
+ghost use Rattle.pool.specs.Lefts.{blocks_in};
 ghost use Rattle.runner.specs.Tickets.{IsStoreFor, made_by};
 
 use crate::crew::Crew;
+use crate::cutting::Cutting;
 use crate::demand::{Demand, entries_for, work_in};
-use crate::work::{Finished, Work};
+use crate::ending::end;
+use crate::work::{Finished, Joint, Left, Work};
 use board::{Board, Look, Piece};
 use calls::{Recipe, Roles};
-use desk::{Picker, Ticket, give_up, look, place, slot_of, take, work};
+use desk::{Picker, Ticket, give_up, look, place, slot_of, take_cut};
 use history::Noted;
 use journal::{Log, Naming, Note};
 use model::NoMemory;
@@ -108,20 +111,20 @@ impl<J: Naming, P: Picker + Drop> Tasks<J, P> {
         look(&self.board, slot)
     }
 
-    /// One of the tasks that can be done; None where none can.
-    pub fn take(&mut self) -> Option<Piece>
-        ensures none { result ≡ None
-            → offered (view_of self.new.board).tasks (view_of self.new.board).progress ≡ [] }
+    /// A piece of one of the tasks that can be done; None where none can.
+    pub fn take(&mut self, alloc: Global) -> Option<Piece>
+        ensures none { result ≡ None → offered_on (view_of self.new.board) (cuts_of self.new.board) ≡ [] }
         ensures piece { IfSome result (IsPieceFor (view_of self.new.board).tasks) }
         ensures running { IfSome result (λ piece.
             is_running (slice_get (view_of self.new.board).progress piece.number) ≡ true) }
         ensures epoch { self.new.epoch ≡ self.old.epoch }
         ensures crew { self.new.crew ≡ self.old.crew }
     {
-        take(&mut self.picker, &mut self.board)
+        let Cutting { rows, threads } = self.crew.cutting;
+        take_cut(alloc, &mut self.picker, &mut self.board, rows, threads)
     }
 
-    /// A task that was taken, to be done by a thread that doesn't have the board.
+    /// A piece that was taken, to be done by a thread that doesn't have the board.
     pub fn work_of(&self, piece: Piece) -> Work<J>
         requires piece { IsPieceFor (view_of self.now.board).tasks piece }
         requires running { is_running (slice_get (view_of self.now.board).progress piece.number) ≡ true }
@@ -139,59 +142,50 @@ impl<J: Naming, P: Picker + Drop> Tasks<J, P> {
         Work { ticket, piece }
     }
 
-    /// One of the tasks that can be done, to be done by a thread that doesn't have the board; None where none can.
-    pub fn take_work(&mut self) -> Option<Work<J>>
-        ensures none { result ≡ None
-            → offered (view_of self.new.board).tasks (view_of self.new.board).progress ≡ [] }
+    /// A piece of one of the tasks that can be done, to be done by a thread that doesn't have the board; None where
+    /// none can.
+    pub fn take_work(&mut self, alloc: Global) -> Option<Work<J>>
+        ensures none { result ≡ None → offered_on (view_of self.new.board) (cuts_of self.new.board) ≡ [] }
         ensures running { IfSome result (λ work.
             is_running (slice_get (view_of self.new.board).progress work.ticket.slot) ≡ true) }
         ensures on { IfSome result (λ work. is_on told self.new.epoch (view_of self.new.board) work.ticket ≡ true) }
         ensures epoch { self.new.epoch ≡ self.old.epoch }
         ensures crew { self.new.crew ≡ self.old.crew }
     {
-        let piece = self.take()?;
+        let piece = self.take(alloc)?;
         Some(self.work_of(piece))
     }
 
-    /// Does a task that was taken.
-    pub fn work(&mut self, alloc: Global, piece: Piece)
-        requires { IsPieceFor (view_of self.old.board).tasks piece }
-        ensures tasks { (view_of self.new.board).tasks ≡ (view_of self.old.board).tasks }
-        ensures notes { (view_of self.new.board).notes ≡ (view_of self.old.board).notes }
-        ensures fewer { is_running (slice_get (view_of self.old.board).progress piece.number) ≡ true
-            → unfinished (view_of self.new.board).progress < unfinished (view_of self.old.board).progress }
-        ensures epoch { self.new.epoch ≡ self.old.epoch }
-        ensures crew { self.new.crew ≡ self.old.crew }
-    {
-        work(alloc, &mut self.board, piece);
-    }
-
-    /// A task was done. What comes of an epoch that is over is thrown away. Gives back what the task was made of.
-    pub fn finish(&mut self, log: &Log, finished: Finished<J>) -> Piece
+    /// Work was done. What comes of an epoch that is over is thrown away. Gives back what is left to do of it.
+    pub fn finish(&mut self, log: &Log, finished: Finished<J>) -> Left<J>
         requires log { log.now ≡ J.log }
-        ensures board { view_of self.new.board ≡ finished_on self.old.epoch (view_of self.old.board) finished.ticket
-            finished.store }
+        ensures board { view_of self.new.board ≡ finished_on self.old.epoch (view_of self.old.board)
+            (cuts_of self.old.board) finished.ticket finished.spent.piece finished.outcome }
+        ensures cuts { IsPut (cuts_of self.old.board) finished.ticket.slot (cut_on self.old.epoch
+            (view_of self.old.board) (cuts_of self.old.board) finished.ticket finished.spent.piece finished.outcome)
+            (cuts_of self.new.board) }
+        ensures left { blocks_in result ≡ left_on self.old.epoch (view_of self.old.board) (cuts_of self.old.board)
+            finished.ticket finished.spent.piece finished.outcome }
         ensures epoch { self.new.epoch ≡ self.old.epoch }
         ensures crew { self.new.crew ≡ self.old.crew }
     {
         let Finished {
             ticket,
-            store,
+            outcome,
             spent,
             ..
         } = finished;
         let Some(slot) = slot_of(&self.board, log, self.epoch, &ticket) else {
-            return spent;
+            return Left::Spent(spent);
         };
-        match store {
-            Some(store) => {
-                let _ = self.board.hand_in(slot, store);
-            }
-            None => {
-                let _ = self.board.fail(slot);
-            }
+        match end(&mut self.board, slot, spent.piece, outcome) {
+            Some(blocks) => Left::Joint(Joint {
+                ticket,
+                blocks,
+                spent,
+            }),
+            None => Left::Spent(spent),
         }
-        spent
     }
 
     /// One hold more of a ticket's slot, where it is on the board.
@@ -277,16 +271,16 @@ impl<J: Naming, P: Picker + Drop> Tasks<J, P> {
 
     /// What the calling thread takes, which leaves the tasks to workers where so many are awake as can be at work at
     /// one time.
-    pub fn take_beside(&mut self) -> Option<Work<J>>
+    pub fn take_beside(&mut self, alloc: Global) -> Option<Work<J>>
         ensures none { result ≡ None → self.old.crew.awake < self.old.crew.processors
-            → offered (view_of self.new.board).tasks (view_of self.new.board).progress ≡ [] }
+            → offered_on (view_of self.new.board) (cuts_of self.new.board) ≡ [] }
         ensures epoch { self.new.epoch ≡ self.old.epoch }
         ensures crew { self.new.crew ≡ self.old.crew }
     {
         if !self.crew.has_room() {
             return None;
         }
-        self.take_work()
+        self.take_work(alloc)
     }
 
     /// How many workers are to be woken once a slot was given for a recipe of so much work of its own.

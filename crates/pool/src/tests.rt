@@ -1,12 +1,18 @@
 //! Pools whose pieces of work are held at a gate, and whose workers are woken for any work.
-ghost use Rattle.std.specs.Prelude.{◌≡◌, IfOk, None};
+ghost use Rattle.std.specs.Prelude.{◌≡◌, ◌≢◌, IfOk, None, Some};
+ghost use Rattle.algebra.specs.declared.domain.Domain.TheVariants.{Int64};
 ghost use Rattle.calls.specs.Recipes.{known_by};
+ghost use Rattle.calls.specs.Stores.{IsStoreOf};
 ghost use Rattle.calls.specs.declared.role.Role.{Role as AnyRole};
+ghost use Rattle.calls.specs.declared.role.Role.TheVariants.{First};
+ghost use Rattle.model.specs.declared.shape.Shape.TheVariants.{Two};
 
 use crate::gate::Gate;
 use crate::pool::Pool;
-use algebra::Domain;
-use calls::{Recipe, Roles, Shape, Signature};
+use algebra::{Domain, FunctionName, UnaryKind, UnaryName};
+use calls::{
+    Accepted, Desc, Given, OneInput, Operation, Out, Recipe, Roles, Shape, Signature, straight,
+};
 use desk::Order;
 use journal::{Log, Naming};
 use runner::Runner;
@@ -18,6 +24,7 @@ use std::sync::{Arc, Wait};
 use std::thread;
 use std::thread::Threads;
 use std::time::{Clock, Duration};
+use store::Store;
 
 /// How often a piece that is held looks again, and then gives up.
 const TURNS: u64 = 10_000;
@@ -27,6 +34,15 @@ const TASKS: u64 = 200;
 
 /// How many workers there are.
 const WORKERS: u64 = 2;
+
+/// How many rows the large matrix has, each with one entry: enough for four pieces.
+const ROWS: u64 = 70_000;
+
+/// How many columns it has: so many that its store is no bitmap.
+const COLS: u64 = 1_000;
+
+/// How many pieces its task is cut into.
+const PIECES: u64 = 4;
 
 /// What a test and its gate tell each other.
 #[derive(Drop)]
@@ -60,7 +76,7 @@ enum Sign {
     Released,
 }
 
-/// Holds pieces of the first slots until a sign has come so far, or they have looked too often.
+/// Holds the first pieces of the first slots' tasks until a sign has come so far, or they have looked too often.
 #[derive(Drop)]
 struct Holding<R: Drop> {
     rt: R,
@@ -90,9 +106,9 @@ impl<R: Clock + Drop> Holding<R> {
 }
 
 impl<R: Clock + Drop> Gate for Holding<R> {
-    fn enter(&self, slot: u64, _piece: u64) {
+    fn enter(&self, slot: u64, piece: u64) {
         self.signs.entered.fetch_add(1, SeqCst);
-        if slot < self.slots {
+        if slot < self.slots && piece == 0 {
             self.hold();
         }
     }
@@ -107,6 +123,98 @@ fn recipe(alloc: Global) -> Result<Recipe, AllocError>
         shape: Shape::One(4),
     };
     Ok(Recipe::New(Box::new(alloc, of)?))
+}
+
+// The large matrix.
+fn large(alloc: Global) -> Result<Box<Given>, AllocError>
+    ensures domain { IfOk result (λ given. given.value.of.domain ≡ Int64) }
+    ensures shape { IfOk result (λ given. given.value.of.shape ≡ Two ROWS COLS) }
+{
+    let store = Arc::new(alloc, filled(alloc)?)?;
+    Ok(Box::new(
+        alloc,
+        Given {
+            of: large_signature(),
+            store,
+        },
+    )?)
+}
+
+// Its store.
+#[tactic(auto, using(crate::proofs::TestLaws::new_is, crate::proofs::TestLaws::set_is))]
+fn filled(alloc: Global) -> Result<Store, AllocError>
+    ensures { IfOk result (IsStoreOf (record { domain = Int64; shape = Two ROWS COLS })) }
+{
+    let mut store = Store::new(alloc, ROWS, COLS);
+    for row in 0..ROWS {
+        store.set(row, 0, 1).map_err(|_| AllocError)?;
+    }
+    Ok(store)
+}
+
+// What is known of it.
+fn large_signature() -> Signature
+    ensures { result ≡ record { domain = Int64; shape = Two ROWS COLS } }
+{
+    Signature {
+        domain: Domain::Int64,
+        shape: Shape::Two(ROWS, COLS),
+    }
+}
+
+// A recipe that takes its entries as they are.
+fn taken_over(alloc: Global) -> Result<Recipe, AllocError>
+    ensures first { IfOk result (λ recipe. known_by recipe First
+        ≡ Some (record { domain = Int64; shape = Two ROWS COLS })) }
+    ensures others { IfOk result (λ recipe. (role : AnyRole) → role ≢ First → known_by recipe role ≡ None) }
+{
+    let of = large_signature();
+    let out = Out {
+        c: of,
+        mask: None,
+        accum: None,
+        desc: Desc {
+            replace: false,
+            structure: false,
+            complement: false,
+            transpose_first: false,
+            transpose_second: false,
+        },
+    };
+    let identity = UnaryName {
+        kind: UnaryKind::Identity,
+        domain: Domain::Int64,
+    };
+    let operation = Operation::OfOne {
+        computes: OneInput::Apply(FunctionName::Unary(identity)),
+        a: of,
+    };
+    let accepted = Box::new(alloc, Accepted { out, operation })?;
+    Ok(straight(accepted))
+}
+
+// A ticket of a copy of the large matrix, whose task is cut.
+fn large_ticket<R: Runner>(alloc: Global, runner: &mut R) -> Result<R::Ticket, AllocError> {
+    let given = Recipe::Given(large(alloc)?);
+    let first = runner.submit(given, Roles::none()).map_err(|_| AllocError)?;
+    let inputs = Roles {
+        first: Some(&first),
+        ..Roles::none()
+    };
+    let ticket = runner
+        .submit(taken_over(alloc)?, inputs)
+        .map_err(|_| AllocError)?;
+    runner.let_go(first);
+    Ok(ticket)
+}
+
+// Whether the copy has all entries.
+fn is_copied<R: Runner>(alloc: Global, runner: &mut R) -> Result<bool, AllocError> {
+    let ticket = large_ticket(alloc, runner)?;
+    match runner.fetch(&ticket) {
+        Ok(store) => Ok(store.nvals() == ROWS),
+        Err(_) => Ok(false),
+    }
 }
 
 // Tickets of vectors without entries, each of which is counted once its submission has returned.
@@ -174,8 +282,12 @@ fn is_renewed<R: Runner, C: Clock>(
 enum Trial {
     /// All stores are asked for.
     Fetch,
+    /// The store of a task that is cut is asked for.
+    Copy,
     /// An epoch ends.
     Renew,
+    /// An epoch ends while a task that is cut isn't done.
+    RenewCopy,
     /// The pool is closed.
     Close,
 }
@@ -199,13 +311,19 @@ where
         alloc,
         log,
         WORKERS,
+        1,
         gate,
         Order::First,
         1,
     ).map_err(|_| AllocError)?;
     let passed = match trial {
         Trial::Fetch => is_fetched(alloc, &mut pool, signs)?,
+        Trial::Copy => is_copied(alloc, &mut pool)?,
         Trial::Renew => is_renewed(&rt, alloc, &mut pool, signs)?,
+        Trial::RenewCopy => {
+            let old = large_ticket(alloc, &mut pool)?;
+            is_renewed(&rt, alloc, &mut pool, signs)? && pool.fetch(&old).is_err()
+        }
         Trial::Close => {
             let tickets = tickets(alloc, &mut pool, signs)?;
             await_piece(&rt, signs);
@@ -270,6 +388,32 @@ fn renew_while_a_piece_is_held(rt: HostRuntime) -> Result<(), AllocError> {
     let signs = Arc::new(rt.alloc(), Signs::new())?;
     let held = (TASKS, Sign::Released, 1, TURNS);
     assert!(rt; passes(&rt, &signs, held, Trial::Renew)?);
+    assert!(rt; signs.lost.load(SeqCst) == 0);
+    Ok(())
+}
+
+#[test]
+fn second_piece_enters_while_first_is_held(rt: HostRuntime) -> Result<(), AllocError> {
+    let signs = Arc::new(rt.alloc(), Signs::new())?;
+    assert!(rt; passes(&rt, &signs, (2, Sign::Entered, 2, TURNS), Trial::Copy)?);
+    assert!(rt; signs.lost.load(SeqCst) == 0);
+    assert!(rt; signs.entered.load(SeqCst) == PIECES);
+    Ok(())
+}
+
+#[test]
+fn first_piece_of_a_task_is_given_last(rt: HostRuntime) -> Result<(), AllocError> {
+    let signs = Arc::new(rt.alloc(), Signs::new())?;
+    assert!(rt; passes(&rt, &signs, (2, Sign::Entered, PIECES, TURNS), Trial::Copy)?);
+    assert!(rt; signs.lost.load(SeqCst) == 0);
+    Ok(())
+}
+
+#[test]
+fn renew_while_a_piece_of_a_task_is_held(rt: HostRuntime) -> Result<(), AllocError> {
+    let signs = Arc::new(rt.alloc(), Signs::new())?;
+    let held = (2, Sign::Released, 1, TURNS);
+    assert!(rt; passes(&rt, &signs, held, Trial::RenewCopy)?);
     assert!(rt; signs.lost.load(SeqCst) == 0);
     Ok(())
 }

@@ -1,19 +1,26 @@
 //! Work that is out, and work that was done.
 ghost use Rattle.std.specs.Prelude.{◌≡◌};
-ghost use Rattle.std.specs.Arc.{arc_value};
-ghost use Rattle.std.specs.Option.{ForSome};
+ghost use Rattle.std.specs.List.{All};
+ghost use Rattle.board.specs.Pieces.{recipe_of};
+ghost use Rattle.calls.specs.Recipes.{known_of};
 ghost use Rattle.desk.specs.Works.{IsWork, object_by};
 ghost use Rattle.history.specs.Histories.{object_of};
-ghost use Rattle.runner.specs.Tickets.{IsStoreFor};
+ghost use Rattle.kernel.specs.Covers.{Covers};
+ghost use Rattle.kernel.specs.Pieces.{cols_in};
+ghost use Rattle.model.specs.Object.{Object, cols_of, rows_of};
+ghost use Rattle.pool.specs.Outcomes.{AreParts, IsOutcomeFor};
 
 use board::Piece;
-use desk::{Ticket, made_of};
+use calls::Recipe;
+use desk::{Ticket, joined_of, made_of, part_of};
 use journal::{Naming, Note};
+use kernel::Block;
+use model::NoMemory;
 use std::alloc::Global;
 use std::sync::Arc;
 use store::Store;
 
-/// A task that was taken, all of which is one piece, and a ticket for its slot.
+/// A piece of a task that was taken, and a ticket for its slot.
 #[derive(Drop)]
 pub struct Work<J: Naming> {
     pub ticket: Ticket<Note<J>>,
@@ -22,14 +29,56 @@ pub struct Work<J: Naming> {
     ghost makes: { object_of ticket.note ≡ object_by piece },
 }
 
-/// A task that was done, with its store, or to which memory was refused.
+/// What came of work.
+#[derive(Drop)]
+pub enum Outcome {
+    /// The store of a task that was one piece.
+    Made(Arc<Store>),
+    /// The block of a piece of a task that was cut.
+    Part(Block),
+    /// The store of the blocks of all pieces.
+    Joined(Arc<Store>),
+    /// Nothing: memory was refused.
+    Refused,
+}
+
+/// Work that was done, with what came of it.
 #[derive(Drop)]
 pub struct Finished<J: Naming> {
     pub ticket: Ticket<Note<J>>,
-    pub store: Option<Arc<Store>>,
-    /// What the store was made of. Whoever did the task drops it once it holds no lock.
+    pub outcome: Outcome,
+    /// What it was made of. Whoever did the work drops it once it holds no lock.
     pub spent: Piece,
-    ghost right: { ForSome store (λ store. IsStoreFor (object_of ticket.note) (arc_value store)) },
+    ghost right: { ∥ IsOutcomeFor (object_of ticket.note) (recipe_of spent.recipe) outcome ∥₁ },
+}
+
+/// The blocks of all pieces of a task, in the order of their rows, which are to be joined.
+#[derive(Drop)]
+pub struct Joint<J: Naming> {
+    pub ticket: Ticket<Note<J>>,
+    pub blocks: Vec<Block>,
+    /// What the last block was made of; the recipe is that of all.
+    pub spent: Piece,
+    ghost right: { ∥ AreParts (object_of ticket.note) (recipe_of spent.recipe) blocks.items ∥₁ },
+}
+
+/// What is left to do of work that was handed in, by whoever did it, once it holds no lock.
+#[derive(Drop)]
+pub enum Left<J: Naming> {
+    /// What it was made of is to be dropped.
+    Spent(Piece),
+    /// Blocks are to be joined.
+    Joint(Joint<J>),
+}
+
+impl<J: Naming> Left<J> {
+    /// What the work was made of.
+    pub fn into_spent(self) -> Piece {
+        match self {
+            Left::Spent(spent) => spent,
+            Left::Joint(joint) => joint.spent,
+        }
+    }
 }
 
 impl<J: Naming> Work<J> {
@@ -42,11 +91,61 @@ impl<J: Naming> Work<J> {
             mut piece,
             ..
         } = self;
-        let store = made_of(alloc, &mut piece).ok();
+        let outcome = outcome_of(alloc, &mut piece);
         Finished {
             ticket,
-            store,
+            outcome,
             spent: piece,
         }
+    }
+}
+
+impl<J: Naming> Joint<J> {
+    /// Joins the blocks. It takes time and memory for their entries.
+    pub fn run(self, alloc: Global) -> Finished<J>
+        ensures { result.ticket ≡ self.ticket }
+    {
+        let Joint {
+            ticket,
+            blocks,
+            spent,
+            ..
+        } = self;
+        let outcome = joined(alloc, spent.recipe.get(), blocks);
+        Finished {
+            ticket,
+            outcome,
+            spent,
+        }
+    }
+}
+
+/// What comes of a piece.
+fn outcome_of(alloc: Global, piece: &mut Piece) -> Outcome
+    requires { IsWork piece.old }
+    ensures { IsOutcomeFor (object_by piece.old) (recipe_of piece.new.recipe) result }
+{
+    if piece.is_whole() {
+        match made_of(alloc, piece) {
+            Ok(store) => Outcome::Made(store),
+            Err(NoMemory) => Outcome::Refused,
+        }
+    } else {
+        match part_of(alloc, piece) {
+            Ok(block) => Outcome::Part(block),
+            Err(NoMemory) => Outcome::Refused,
+        }
+    }
+}
+
+/// What comes of the blocks of all pieces of a task.
+fn joined(alloc: Global, recipe: &Recipe, blocks: Vec<Block>) -> Outcome
+    requires covers { Covers 0 (rows_of (known_of recipe.now).shape) blocks.items }
+    requires cols { All (λ b. cols_in b ≡ cols_of (known_of recipe.now).shape) blocks.items }
+    ensures { (o : Object) → AreParts o recipe.now blocks.items → IsOutcomeFor o recipe.now result }
+{
+    match joined_of(alloc, recipe, blocks) {
+        Ok(store) => Outcome::Joined(store),
+        Err(NoMemory) => Outcome::Refused,
     }
 }

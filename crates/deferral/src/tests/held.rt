@@ -73,6 +73,7 @@ where
         SCRIPT.as_bytes(),
         &NoFiles,
         2,
+        1,
         gate,
         order,
         &mut out,

@@ -8,9 +8,10 @@ use Rattle.desk.proofs.placing.issue.Goals as goal
 
 pub returns-in-Ok : goal.returns-in-Ok
 returns-in-Ok g c =
-    let slots = c.args.board.now.slots.items in
+    let slots = c.args.board.now.slots.slots.items in
     record {
       told = told-after g.N.Noted.told (view_of c.args.board.now) (view_of c.issue.new.self) c.issue.result c.args.note c.args.recipe c.in-Some.places c.args.inputs.now
           c.issue.ensures.issued c.issue.ensures.refused c.issue.ensures.accepted
           (length-map slots (λ s. s.note) ∙ sym (length-map slots (task_of {N = _}))) c.requires.told c.in-Some.ensures c.requires.object;
+      cuts = c.issue.ensures.cuts;
     }

@@ -11,10 +11,11 @@ use Rattle.desk.proofs.placing.place.Goals as goal
 
 pub returns-in-Given : goal.returns-in-Given
 returns-in-Given g c =
-    let slots = c.args.board.now.slots.items in
+    let slots = c.args.board.now.slots.slots.items in
     record {
       told = told-after_given g.N.Noted.told (view_of c.args.board.now) (view_of c.issue_given.new.self) c.issue_given.result c.args.note c.in-Given.given c.args.inputs.now
           c.issue_given.ensures.placed c.issue_given.ensures.refused
           (length-map slots (λ s. s.note) ∙ sym (length-map slots (task_of {N = _}))) c.requires.told
           (c.requires.object ∙ ap (λ (r : Recipe). made_by (object_in g.N.Noted.told) r c.args.inputs.now) c.in-Given.is);
+      cuts = c.issue_given.ensures.cuts;
     }

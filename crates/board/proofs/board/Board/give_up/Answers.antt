@@ -1,38 +1,26 @@
-use Rattle.std.proofs.Common.{◌∙◌, ◌+◌, ap, false, length, map, not, nat_lt, refl, slice_get, sym}
-use Rattle.std.specs.Prelude.{slice_index}
-use Rattle.std.specs.Option.{option_map_or}
+use Rattle.std.proofs.Common.{length, map, refl, false, None, sym}
+use Rattle.std.proofs.Math.Logic.{∥∥₁_elim}
+use Rattle.std.specs.Option.{option_map, option_map_or}
 use Rattle.std.proofs.lemmas.Bool.{and_parts}
-use Rattle.board.specs.Progress.{is_unfinished}
-use Rattle.board.specs.Slots.{task_of}
-use Rattle.board.specs.Stages.{progress_of}
-use Rattle.board.specs.Views.{is_ready}
-use Rattle.board.proofs.FailLaws.{falling_alone, falling_from, low_from, none_left, sound_failed}
-use Rattle.board.proofs.ReadyLaws.{offered_is}
+use Rattle.board.specs.Boards.{view_of}
+use Rattle.board.specs.SlotViews.{slots_view}
+use Rattle.board.proofs.CutProps.{cuts-prop}
+use Rattle.std.proofs.Common.{List, Option, subst}
+use Rattle.board.specs.Cuts.{IsPut, cutting_of}
+use Rattle.board.specs.Progress.{Failed, is_unfinished}
+use Rattle.board.specs.declared.cut.Cut.{Cut}
+use Rattle.board.proofs.CutLaws.{put_none}
+use Rattle.board.proofs.PartedLaws.{forgotten_set, ok_may, there_by}
 use Rattle.board.proofs.board.Board.give_up.Goals as goal
-
-pub end-requires-clause-falling : goal.end-requires-clause-falling
-end-requires-clause-falling g c =
-    let test = sym c.if-not-is_unasked.ensures in
-    let parts = and_parts (option_map_or is_unfinished (slice_get (map progress_of c.deref.result.now) c.args.number) false) _ test in
-    let un = ap (λ l. option_map_or is_unfinished (slice_get (map progress_of l) c.args.number) false) (sym c.deref.ensures.value) ∙ parts.0 in
-    falling_from _ _ _ _ _ _ _ c.args.self.now.sound c.args.number un _ _ (ap (map (task_of {N = _})) c.deref-4.ensures.value) c.deref-5.ensures.value
 
 pub invariant_of-self-2 : goal.invariant_of-self-2
 invariant_of-self-2 g c =
-    let test = sym c.if-not-is_unasked.ensures in
-    let parts = and_parts (option_map_or is_unfinished (slice_get (map progress_of c.deref.result.now) c.args.number) false) _ test in
-    let un = ap (λ l. option_map_or is_unfinished (slice_get (map progress_of l) c.args.number) false) (sym c.deref.ensures.value) ∙ parts.0 in
-    let rest = and_parts (not (nat_lt 0 (slice_index c.deref-2.result.now c.args.number))) _ parts.1 in
-    let unread = ap (λ l. slice_index l c.args.number) (sym c.deref-3.ensures.value) ∙ none_left (slice_index c.deref-3.result.now c.args.number) rest.1 in
-    record {
-      sound = sound_failed _ _ _ _ _ _ _ c.args.self.now.sound c.args.number un
-          c.end.new.stages.items c.end.new.stages.items c.end.new.reads.items c.withdraw.new.ready.items _ (length (map (task_of {N = _}) c.args.self.now.slots.items)) (map (task_of {N = _}) c.deref-4.result.now) c.deref-5.result.now
-          (ap (map (task_of {N = _})) c.deref-4.ensures.value) c.deref-5.ensures.value refl
-          c.end.ensures.progress
-          (falling_alone _ _ _ _ _ _ _ c.args.self.now.sound c.args.number un (c.args.number + 1) c.end.new.stages.items c.end.new.reads.items (map (task_of {N = _}) c.deref-4.result.now) c.deref-5.result.now
-          (ap (map (task_of {N = _})) c.deref-4.ensures.value) unread c.end.ensures.progress c.end.ensures.falling)
-          (record { made = λ k. refl; untaken = λ k h. h; ready = λ k. refl })
-          (c.withdraw.ensures.numbers (is_ready (map (task_of {N = _}) c.args.self.now.slots.items) (map progress_of c.args.self.now.stages.items)) (length (map (task_of {N = _}) c.args.self.now.slots.items))
-          (c.args.self.now.sound.offers ∙ sym (offered_is _ _)) (low_from _ _ _ _ _ _ _ c.args.self.now.sound c.args.number un))
-          c.withdraw.ensures.capacity;
-    }
+    let are = ∥∥₁_elim c.args.self.now.cut_are (cuts-prop _ _ _) (λ are. are) in
+    let kept = forgotten_set (view_of c.args.self.now) (slots_view c.give_up.new.self) c.args.self.now.cuts.items c.forget.new.cuts.items c.args.self.now.parted.items c.forget.new.parted.items c.args.number Failed are c.args.self.now.parted_are
+    c.in_ok-give_up.ensures.failed (there_by (λ o. option_map_or is_unfinished o false) (view_of c.args.self.now).progress c.args.number (length (view_of c.args.self.now).tasks) refl (and_parts _ _ (ok_may c.give_up.result _ _ c.in_ok-give_up.was c.give_up.ensures.answer)).0 c.args.self.now.slots.sound.flows.sized) c.forget.ensures.cuts c.forget.ensures.numbers in
+    record { cut_are = ∣ kept.0 ∣₁; parted_are = kept.1 }
+
+pub returns-clause-cuts : goal.returns-clause-cuts
+returns-clause-cuts g c =
+    subst (λ (l : List (Option Cut)). IsPut (map (option_map cutting_of) c.args.self.now.cuts.items) c.args.number None (map (option_map cutting_of) l))
+    (sym c.forget.ensures.cuts) (put_none c.args.self.now.cuts.items c.args.number)

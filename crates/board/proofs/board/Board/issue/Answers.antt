@@ -1,29 +1,13 @@
-use Rattle.std.proofs.Common.{ap, arith, map, sym}
-use Rattle.std.proofs.lemmas.List.{length-map}
-use Rattle.std.proofs.lemmas.Bool.{MatchBool-at_false, MatchBool-at_true}
-use Rattle.board.specs.Slots.{task_of}
-use Rattle.board.proofs.FitLaws.{accepts_there, low_below, there_accepts, there_by}
+use Rattle.std.proofs.Math.Logic.{∥∥₁_elim}
+use Rattle.board.specs.Boards.{view_of}
+use Rattle.board.specs.SlotViews.{slots_view}
+use Rattle.board.proofs.CutProps.{cuts-prop}
+use Rattle.board.proofs.PartedLaws.{kept_issued}
 use Rattle.board.proofs.board.Board.issue.Goals as goal
 
-pub returns-then-not-are_there-clause-stranger : goal.returns-then-not-are_there-clause-stranger
-returns-then-not-are_there-clause-stranger g c e accepts =
-    MatchBool-at_false _ _ c.if-not-are_there.true c.are_there.ensures
-    (there_by _ _ _ _ _ _ (ap (map (task_of {N = _})) (sym c.deref.ensures.value)) (sym c.deref-2.ensures.value)
-    (accepts_there _ _ _ _ _ _ _ c.args.self.now.sound c.args.recipe c.args.inputs accepts))
-
-pub new-requires : goal.new-requires
-new-requires g c =
-    low_below _ _ c.args.recipe c.args.inputs
-    (there_by _ _ _ _ _ _ (ap (map (task_of {N = _})) c.deref.ensures.value) c.deref-2.ensures.value (MatchBool-at_true _ _ c.if-not-are_there.false c.are_there.ensures))
-    18446744073709551615 (omega (arith, length-map c.args.self.now.slots.items (task_of {N = _})))
-
-pub returns-in-Ok-clause-accepted : goal.returns-in-Ok-clause-accepted
-returns-in-Ok-clause-accepted g c =
-    there_accepts _ _ _ _ _ _ _ c.args.self.now.sound c.args.recipe c.args.inputs
-    (there_by _ _ _ _ _ _ (ap (map (task_of {N = _})) c.deref.ensures.value) c.deref-2.ensures.value (MatchBool-at_true _ _ c.if-not-are_there.false c.are_there.ensures))
-
-pub returns-in-Ok-clause-absent : goal.returns-in-Ok-clause-absent
-returns-in-Ok-clause-absent g c refused = absurd (refused (there_accepts _ _ _ _ _ _ _ c.args.self.now.sound c.args.recipe c.args.inputs (there_by _ _ _ _ _ _ (ap (map (task_of {N = _})) c.deref.ensures.value) c.deref-2.ensures.value (MatchBool-at_true _ _ c.if-not-are_there.false c.are_there.ensures))))
-
-pub returns-in-Err-clause-absent : goal.returns-in-Err-clause-absent
-returns-in-Err-clause-absent g c refused = absurd (refused (there_accepts _ _ _ _ _ _ _ c.args.self.now.sound c.args.recipe c.args.inputs (there_by _ _ _ _ _ _ (ap (map (task_of {N = _})) c.deref.ensures.value) c.deref-2.ensures.value (MatchBool-at_true _ _ c.if-not-are_there.false c.are_there.ensures))))
+pub invariant_of-self : goal.invariant_of-self
+invariant_of-self g c =
+    let are = ∥∥₁_elim c.args.self.now.cut_are (cuts-prop _ _ _) (λ are. are) in
+    let kept = kept_issued (view_of c.args.self.now) (slots_view c.issue.new.self) c.args.self.now.cuts.items c.args.self.now.parted.items c.args.self.now.slots.sound.flows.sized are c.args.self.now.parted_are
+    c.issue.result c.args.note c.args.recipe c.args.inputs c.issue.ensures.issued c.issue.ensures.refused in
+    record { cut_are = ∣ kept.0 ∣₁; parted_are = kept.1 }

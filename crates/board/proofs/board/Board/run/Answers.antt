@@ -1,11 +1,11 @@
 use Rattle.std.proofs.Common.{ap, arith, length}
-use Rattle.board.specs.Boards.{view_of}
+use Rattle.board.specs.Boards.{shown}
 use Rattle.board.proofs.ScheduleLaws.{during-end, during-right, during-start, during-step}
 use Rattle.board.proofs.board.Board.run.Goals as goal
 
 pub loop-event-init : goal.loop-event-init
 loop-event-init g c = (
-  during-start (view_of c.args.self.now) c.args.events.items _ _ c.requires c.into_iter-event-iterator.ensures.into_iter_gives.0 c.in_ok-answers.ensures.items,
+  during-start (shown c.args.self.now) c.args.events.items _ _ c.requires c.into_iter-event-iterator.ensures.into_iter_gives.0 c.in_ok-answers.ensures.items,
   omega (arith, c.in_ok-answers.ensures.len, ap length c.into_iter-event-iterator.ensures.into_iter_gives.0, c.in_ok-answers.ensures.capacity, c.len.ensures),
 )
 

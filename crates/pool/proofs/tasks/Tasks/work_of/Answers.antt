@@ -13,5 +13,5 @@ invariant_of-result g c =
     let at : slice_get board.notes piece.number ≡ Some c.in-Some.note.now = sym c.note.ensures ∙ ap option_copied c.in-Some.is in
     record {
       work = ∣ work_for board.tasks piece c.requires.piece ∣₁;
-      makes = ap object_of c.again.ensures ∙ (sym (c.args.self.now.told piece.number c.in-Some.note.now at) ∙ c.requires.piece.makes);
+      makes = ap object_of c.again.ensures ∙ (sym (c.args.self.now.told piece.number c.in-Some.note.now at) ∙ c.requires.piece.needs.makes);
     }

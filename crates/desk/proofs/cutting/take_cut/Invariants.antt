@@ -1,0 +1,12 @@
+-- Tasks and notes are those that were there, and each round leaves fewer slots that are to come.
+use Rattle.std.proofs.Common.{◌≡◌}
+use Rattle.board.specs.Boards.{view_of}
+use Rattle.desk.specs.Ends.{unfinished}
+use Rattle.desk.proofs.cutting.take_cut.Given as goal
+
+abbrev pub invariant-loop-taken : goal.invariant-loop-taken
+invariant-loop-taken g l = ((view_of l.board).tasks ≡ (view_of l.fn.board).tasks)
+    × ((view_of l.board).notes ≡ (view_of l.fn.board).notes)
+
+abbrev pub decreases-loop-taken : goal.decreases-loop-taken
+decreases-loop-taken g l = unfinished (view_of l.board).progress

@@ -1,0 +1,82 @@
+//! Pieces of tasks that are cut for threads that work apart.
+ghost use Rattle.std.specs.Prelude.{◌≡◌, IfSome, None, [], slice_get, true};
+ghost use Rattle.board.specs.Boards.{cuts_of, view_of};
+ghost use Rattle.board.specs.Cuts.{offered_on};
+ghost use Rattle.board.specs.Pieces.{IsPieceFor};
+ghost use Rattle.board.specs.Progress.{is_running};
+
+use crate::picker::Picker;
+use board::{Board, Look, Piece};
+use calls::Roles;
+use kernel::cuts;
+use std::alloc::Global;
+use store::Store;
+
+/// A piece of one of the tasks that can be done; None where none can. A task that nobody took is cut for so many
+/// threads, where it is worth that, into pieces of `least` rows or more. A task fails for which a share of a store is
+/// refused.
+pub fn take_cut<P: Picker, N: Drop>(
+    alloc: Global,
+    picker: &mut P,
+    board: &mut Board<N>,
+    least: u64,
+    threads: u64,
+) -> Option<Piece>
+    ensures none { result ≡ None → offered_on (view_of board.new) (cuts_of board.new) ≡ [] }
+    ensures piece { IfSome result (IsPieceFor (view_of board.new).tasks) }
+    ensures running { IfSome result (λ piece.
+        is_running (slice_get (view_of board.new).progress piece.number) ≡ true) }
+    ensures tasks { (view_of board.new).tasks ≡ (view_of board.old).tasks }
+    ensures notes { (view_of board.new).notes ≡ (view_of board.old).notes }
+{
+    // Each round but the last fails a task.
+    loop {
+        let pick = picker.pick();
+        let cuts = cuts_for(alloc, board, pick, least, threads);
+        match board.take(pick, &cuts) {
+            Ok(taken) => return taken,
+            Err(number) => {
+                let _ = board.fail(number);
+            }
+        }
+    }
+}
+
+/// The rows at which the task is cut of which a pick takes a piece; none where it isn't, or was taken before.
+fn cuts_for<N: Drop>(
+    alloc: Global,
+    board: &Board<N>,
+    pick: u64,
+    least: u64,
+    threads: u64,
+) -> Vec<u64> {
+    let Some(offer) = board.offer(pick) else {
+        return Vec::new(alloc);
+    };
+    let Some(recipe) = offer.recipe else {
+        return Vec::new(alloc);
+    };
+    let stores = stores_of(board, offer.number);
+    cuts(alloc, recipe, &stores, least, threads)
+}
+
+/// The stores that are there of those that take the roles of a slot's task.
+fn stores_of<N: Drop>(board: &Board<N>, number: u64) -> Roles<&Store> {
+    let Some(inputs) = board.inputs(number) else {
+        return Roles::none();
+    };
+    Roles {
+        old: store_at(board, inputs.old),
+        mask: store_at(board, inputs.mask),
+        first: store_at(board, inputs.first),
+        second: store_at(board, inputs.second),
+    }
+}
+
+/// The store of a slot, where it is there.
+fn store_at<N: Drop>(board: &Board<N>, slot: Option<u64>) -> Option<&Store> {
+    match board.look(slot?) {
+        Look::Done(store) => Some(store),
+        _ => None,
+    }
+}
