@@ -12,15 +12,19 @@ use kernel::cuts;
 use std::alloc::Global;
 use store::Store;
 
+/// Others count beside a task where each has at least such a part of its work.
+const PARTS: u64 = 8;
+
 /// A piece of one of the tasks that can be done; None where none can. A task that nobody took is cut for so many
-/// threads, where it is worth that, into pieces of `least` rows or more. A task fails for which a share of a store is
-/// refused.
+/// threads, where it is worth that, into pieces of `least` rows or more; but not where each of so many idle threads can
+/// have another task, which spares to join pieces. A task fails for which a share of a store is refused.
 pub fn take_cut<P: Picker, N: Drop>(
     alloc: Global,
     picker: &mut P,
     board: &mut Board<N>,
     least: u64,
     threads: u64,
+    idle: u64,
 ) -> Option<Piece>
     ensures none { result ≡ None → offered_on (view_of board.new) (cuts_of board.new) ≡ [] }
     ensures piece { IfSome result (IsPieceFor (view_of board.new).tasks) }
@@ -32,7 +36,7 @@ pub fn take_cut<P: Picker, N: Drop>(
     // Each round but the last fails a task.
     loop {
         let pick = picker.pick();
-        let cuts = cuts_for(alloc, board, pick, least, threads);
+        let cuts = cuts_for(alloc, board, pick, least, threads, idle);
         match board.take(pick, &cuts) {
             Ok(taken) => return taken,
             Err(number) => {
@@ -49,6 +53,7 @@ fn cuts_for<N: Drop>(
     pick: u64,
     least: u64,
     threads: u64,
+    idle: u64,
 ) -> Vec<u64> {
     let Some(offer) = board.offer(pick) else {
         return Vec::new(alloc);
@@ -57,7 +62,40 @@ fn cuts_for<N: Drop>(
         return Vec::new(alloc);
     };
     let stores = stores_of(board, offer.number);
-    cuts(alloc, recipe, &stores, least, threads)
+    let cuts = cuts(alloc, recipe, &stores, least, threads);
+    let tasks = idle.saturating_add(1).max(2);
+    if !cuts.is_empty() && are_there(board, tasks, entries_in(&stores) / PARTS) {
+        return Vec::new(alloc);
+    }
+    cuts
+}
+
+/// Whether so many tasks can be done whose stores have at least so many entries.
+fn are_there<N: Drop>(board: &Board<N>, tasks: u64, least: u64) -> bool {
+    let mut missing = tasks;
+    for place in 0..board.offers().min(tasks.saturating_mul(PARTS)) {
+        if let Some(offer) = board.offer(place)
+            && entries_in(&stores_of(board, offer.number)) >= least
+        {
+            missing = missing.saturating_sub(1);
+        }
+    }
+    missing == 0
+}
+
+/// How many entries stores have.
+fn entries_in(stores: &Roles<&Store>) -> u64 {
+    entries(&stores.old)
+        .saturating_add(entries(&stores.mask))
+        .saturating_add(entries(&stores.first))
+        .saturating_add(entries(&stores.second))
+}
+
+fn entries(store: &Option<&Store>) -> u64 {
+    match store {
+        Some(store) => store.nvals(),
+        None => 0,
+    }
 }
 
 /// The stores that are there of those that take the roles of a slot's task.

@@ -100,6 +100,11 @@ impl Crew {
         self.awake < self.processors
     }
 
+    /// How many workers have nothing to do, as far as is known: those that sleep, and those that are about to rise.
+    pub fn idle(&self) -> u64 {
+        self.sleeping.saturating_add(self.called)
+    }
+
     /// Calls workers that sleep for what there is to do, where that is more than for those that are awake. Says how
     /// many are to be woken.
     pub fn call(&mut self, demand: Demand) -> u64

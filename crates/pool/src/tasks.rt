@@ -121,7 +121,15 @@ impl<J: Naming, P: Picker + Drop> Tasks<J, P> {
         ensures crew { self.new.crew ≡ self.old.crew }
     {
         let Cutting { rows, threads } = self.crew.cutting;
-        take_cut(alloc, &mut self.picker, &mut self.board, rows, threads)
+        let idle = self.crew.idle();
+        take_cut(
+            alloc,
+            &mut self.picker,
+            &mut self.board,
+            rows,
+            threads,
+            idle,
+        )
     }
 
     /// A piece that was taken, to be done by a thread that doesn't have the board.
