@@ -22,12 +22,14 @@ ghost use Rattle.runner.specs.Tickets.{IsStoreFor};
 use crate::picker::Picker;
 use board::{Board, Look, Piece, Stores};
 use calls::{Computation, Recipe};
-use kernel::{Block, computed_over, eval_piece, join, join_blocks, patch_over};
+use kernel::{Block, computed_over, eval_piece, join, patch_over};
 use model::NoMemory;
+use pieces::join_blocks;
 use runner::Failed;
 use std::alloc::Global;
 use std::ops::Range;
 use std::sync::Arc;
+use std::thread::Threads;
 use store::Store;
 
 /// The store of a slot, or that none will come. None while it is still to come.
@@ -88,14 +90,19 @@ pub fn part_of(alloc: Global, piece: &mut Piece) -> Result<Block, NoMemory>
 }
 
 /// The store of what a recipe makes, of the blocks of all pieces, in the order of their rows. It takes time and memory
-/// for their entries.
-pub fn joined_of(alloc: Global, recipe: &Recipe, blocks: Vec<Block>) -> Result<Arc<Store>, NoMemory>
+/// for their entries, and a second thread where they are many.
+pub fn joined_of(
+    rt: &impl Threads,
+    alloc: Global,
+    recipe: &Recipe,
+    blocks: Vec<Block>,
+) -> Result<Arc<Store>, NoMemory>
     requires covers { Covers 0 (rows_of (known_of recipe.now).shape) blocks.items }
     requires cols { All (λ b. cols_in b ≡ cols_of (known_of recipe.now).shape) blocks.items }
     ensures { IfOk result (λ store. (o : Object) → IsObject o → o.shape ≡ (known_of recipe.now).shape
         → All (IsPartOf (cols_of o.shape) o.content) blocks.items → IsStoreFor o (arc_value store)) }
 {
-    let store = join_blocks(alloc, recipe, blocks)?;
+    let store = join_blocks(rt, alloc, recipe, blocks)?;
     Ok(Arc::new(alloc, store)?)
 }
 

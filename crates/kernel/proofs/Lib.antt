@@ -2,7 +2,6 @@ pub mod Accepted
 pub mod BitmapLaws
 pub mod Computed
 pub mod FactorLaws
-pub mod JoiningLaws
 pub mod MaskLaws
 pub mod NameLaws
 pub mod OverLaws

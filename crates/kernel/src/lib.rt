@@ -20,6 +20,6 @@ mod task;
 pub use block::Block;
 pub use cutting::cuts;
 pub use evaluation::evaluate;
-pub use joining::{join, join_blocks};
+pub use joining::join;
 pub use over::computed_over;
 pub use piece::{eval_piece, patch_over};

@@ -1,11 +1,14 @@
-//! The pieces into which the rows of one task are cut.
+//! The pieces into which the rows of one task are cut, and joins of what they give.
 #![tactic(auto)]
 
 mod cutting;
+mod joining;
+mod joint;
 mod part;
 mod pieces;
 #[cfg(test)]
 mod tests;
 
+pub use joining::join_blocks;
 pub use part::Part;
 pub use pieces::{Pieces, Refused};

@@ -16,6 +16,7 @@ use journal::{Naming, Note};
 use runner::Failed;
 use std::alloc::Global;
 use std::sync::{Arc, Wait};
+use std::thread::Threads;
 use store::Store;
 
 /// Lays the tasks of the calling thread under the lock, and wakes workers for them.
@@ -34,7 +35,7 @@ pub fn hand_over<J: Naming, R: Wait, G: Gate + Drop, P: Picker + Drop>(
 /// The store of a ticket's object. The calling thread, which has the tasks, does them until it has come. `Err`: there
 /// was so much to do that workers were woken for it, one for each such share; the tasks lie under the lock since, but
 /// for this one's piece, which the calling thread did meanwhile.
-pub fn fetch_alone<J: Naming, R: Wait, G: Gate + Drop, P: Picker + Drop>(
+pub fn fetch_alone<J: Naming, R: Wait + Threads, G: Gate + Drop, P: Picker + Drop>(
     rt: &R,
     alloc: Global,
     named: &Named<J>,
@@ -59,7 +60,7 @@ pub fn fetch_alone<J: Naming, R: Wait, G: Gate + Drop, P: Picker + Drop>(
             return Err(done(alloc, shared, work));
         }
         if let Left::Joint(joint) = own.finish(&named.log, done(alloc, shared, work)) {
-            own.finish(&named.log, joint.run(alloc));
+            own.finish(&named.log, joint.run(rt, alloc));
         }
     }
     unreachable!()
@@ -67,7 +68,7 @@ pub fn fetch_alone<J: Naming, R: Wait, G: Gate + Drop, P: Picker + Drop>(
 
 /// The store of a ticket's object. The calling thread does tasks that lie under the lock until it has come, where there
 /// is a processor for it. Where no worker is awake then, it has the tasks from now on.
-pub fn fetch_beside<J: Naming, R: Wait, G: Gate + Drop, P: Picker + Drop>(
+pub fn fetch_beside<J: Naming, R: Wait + Threads, G: Gate + Drop, P: Picker + Drop>(
     rt: &R,
     alloc: Global,
     named: &Named<J>,

@@ -146,7 +146,8 @@ fn processors(rt: &impl Threads) -> u64 {
     }
 }
 
-impl<J: Naming, R: Wait + Drop, G: Gate + Drop, P: Picker + Drop> Runner for Pool<J, R, G, P> {
+impl<J: Naming, R: Wait + Threads + Drop, G: Gate + Drop, P: Picker + Drop> Runner
+    for Pool<J, R, G, P> {
     type Ticket = Ticket<Note<J>>;
 
     ghost object_of = { object_in told };

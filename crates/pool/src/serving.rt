@@ -9,6 +9,7 @@ use desk::Picker;
 use journal::Naming;
 use std::alloc::Global;
 use std::sync::{MutexGuard, Wait};
+use std::thread::Threads;
 
 // No task is forgotten. While the calling thread has the tasks, it alone does them, and no worker is out with one: it
 // takes them back only where none is awake. Else they lie under the lock. The calling thread sleeps only where its
@@ -22,7 +23,7 @@ use std::sync::{MutexGuard, Wait};
 // come.
 
 /// Does tasks until the pool is closed. Who does has begun (`Crew::begin`).
-pub fn serve<J: Naming, R: Wait, G: Gate + Drop, P: Picker + Drop>(
+pub fn serve<J: Naming, R: Wait + Threads, G: Gate + Drop, P: Picker + Drop>(
     rt: &R,
     alloc: Global,
     named: &Named<J>,
@@ -57,7 +58,7 @@ pub fn serve<J: Naming, R: Wait, G: Gate + Drop, P: Picker + Drop>(
 
 /// Takes the lock, and hands in what a thread did last. Where that leaves blocks to be joined, the thread does so, for
 /// which it gives the lock up, and hands in what comes of it. Gives back what the work was made of, too.
-pub fn lock_with<'a, J: Naming, R: Wait, G: Gate + Drop, P: Picker + Drop>(
+pub fn lock_with<'a, J: Naming, R: Wait + Threads, G: Gate + Drop, P: Picker + Drop>(
     rt: &R,
     alloc: Global,
     named: &Named<J>,
@@ -72,7 +73,7 @@ pub fn lock_with<'a, J: Naming, R: Wait, G: Gate + Drop, P: Picker + Drop>(
         Left::Spent(spent) => (guard, Some(spent)),
         Left::Joint(joint) => {
             drop(guard);
-            let joined = joint.run(alloc);
+            let joined = joint.run(rt, alloc);
             let mut guard = shared.locked.lock(rt);
             let spent = guard.finish(&named.log, joined).into_spent();
             (guard, Some(spent))

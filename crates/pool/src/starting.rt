@@ -123,7 +123,7 @@ where
 }
 
 /// What a worker does that is not the first.
-fn join_in<J: Naming, R: Wait, G: Gate + Drop, P: Picker + Drop>(
+fn join_in<J: Naming, R: Wait + Threads, G: Gate + Drop, P: Picker + Drop>(
     rt: &R,
     alloc: Global,
     named: &Named<J>,

@@ -18,6 +18,7 @@ use kernel::Block;
 use model::NoMemory;
 use std::alloc::Global;
 use std::sync::Arc;
+use std::thread::Threads;
 use store::Store;
 
 /// A piece of a task that was taken, and a ticket for its slot.
@@ -101,8 +102,8 @@ impl<J: Naming> Work<J> {
 }
 
 impl<J: Naming> Joint<J> {
-    /// Joins the blocks. It takes time and memory for their entries.
-    pub fn run(self, alloc: Global) -> Finished<J>
+    /// Joins the blocks. It takes time and memory for their entries, and a second thread where they are many.
+    pub fn run(self, rt: &impl Threads, alloc: Global) -> Finished<J>
         ensures { result.ticket ≡ self.ticket }
     {
         let Joint {
@@ -111,7 +112,7 @@ impl<J: Naming> Joint<J> {
             spent,
             ..
         } = self;
-        let outcome = joined(alloc, spent.recipe.get(), blocks);
+        let outcome = joined(rt, alloc, spent.recipe.get(), blocks);
         Finished {
             ticket,
             outcome,
@@ -139,12 +140,12 @@ fn outcome_of(alloc: Global, piece: &mut Piece) -> Outcome
 }
 
 /// What comes of the blocks of all pieces of a task.
-fn joined(alloc: Global, recipe: &Recipe, blocks: Vec<Block>) -> Outcome
+fn joined(rt: &impl Threads, alloc: Global, recipe: &Recipe, blocks: Vec<Block>) -> Outcome
     requires covers { Covers 0 (rows_of (known_of recipe.now).shape) blocks.items }
     requires cols { All (λ b. cols_in b ≡ cols_of (known_of recipe.now).shape) blocks.items }
     ensures { (o : Object) → AreParts o recipe.now blocks.items → IsOutcomeFor o recipe.now result }
 {
-    match joined_of(alloc, recipe, blocks) {
+    match joined_of(rt, alloc, recipe, blocks) {
         Ok(store) => Outcome::Joined(store),
         Err(NoMemory) => Outcome::Refused,
     }
