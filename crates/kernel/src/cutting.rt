@@ -1,5 +1,5 @@
 //! Where tasks are cut into pieces of rows.
-ghost use Rattle.std.specs.Prelude.{◌≡◌, ◌<◌, ◌≤◌, IfOk, IfSome};
+ghost use Rattle.std.specs.Prelude.{◌≡◌, ◌<◌, ◌≤◌, IfOk, IfSome, IsTrue};
 ghost use Rattle.std.specs.List.{AllPairs};
 
 use crate::bitmaps::makes_column;
@@ -21,14 +21,28 @@ const EVEN_PIECES: u64 = 2;
 /// How many pieces there are at most: each takes a part of the time in which they are handed out and joined.
 const MOST_PIECES: u64 = 256;
 
+/// How many pieces each thread gets of a transpose, of which each goes along all rows of the input.
+const TRANSPOSE_PIECES: u64 = 1;
+
+/// How many entries say where columns are cut, and up to twice as many: with more, pieces would hardly be more even.
+const SAMPLE: usize = 1_024;
+
 /// What of a task decides where it is cut.
 #[derive(Clone, Copy)]
 struct Job<'a> {
-    // The input whose rows are those of the output, and along which the pieces go.
+    // The input along which the pieces go.
     by: &'a Sparse,
+    along: Along,
     // About how many entries, or products, the whole task goes along.
     work: u64,
     pieces_a_thread: u64,
+}
+
+/// What of an input are the rows of the output.
+#[derive(Clone, Copy)]
+enum Along {
+    Rows,
+    Columns,
 }
 
 /// The rows at which a recipe's rows are cut for threads that work apart, of the stores that take its roles: no row for
@@ -51,8 +65,14 @@ pub fn cuts(
     if pieces < 2 {
         return Vec::new(alloc);
     }
-    let entries = (job.by.nvals() / pieces).max(1);
-    match cut_rows(alloc, job.by, least, entries as usize) {
+    let rows = match job.along {
+        Along::Rows => {
+            let entries = (job.by.nvals() / pieces).max(1);
+            cut_rows(alloc, job.by, least, entries as usize)
+        }
+        Along::Columns => cut_columns(alloc, job.by, least, pieces),
+    };
+    match rows {
         Ok(rows) => rows,
         Err(NoMemory) => Vec::new(alloc),
     }
@@ -80,9 +100,25 @@ fn job_of_one<'a>(computes: &OneInput, a: &'a Store) -> Option<Job<'a>> {
         OneInput::Apply(_) | OneInput::Select { .. } | OneInput::ReduceRows(_) => {
             job_along(a, a.nvals())
         }
-        // Each piece would do the whole work, or would have to look for its entries.
-        OneInput::Transpose | OneInput::Extract(_) | OneInput::Assign(_) => None,
+        OneInput::Transpose => job_of_transpose(a),
+        // Each piece would have to look for its entries.
+        OneInput::Extract(_) | OneInput::Assign(_) => None,
     }
+}
+
+/// How a transpose is cut: each piece takes some columns out of all rows. That pays where columns have an entry each, or
+/// more.
+fn job_of_transpose(a: &Store) -> Option<Job<'_>> {
+    let by = lists_of(a)?;
+    if by.cols() > by.nvals() {
+        return None;
+    }
+    Some(Job {
+        by,
+        along: Along::Columns,
+        work: by.nvals(),
+        pieces_a_thread: TRANSPOSE_PIECES,
+    })
 }
 
 /// How an operation on two inputs is cut.
@@ -116,6 +152,7 @@ fn job_of_product<'a>(a: &'a Store, b: &Store) -> Option<Job<'a>> {
     let products = (b.nvals() / b.rows().max(1)).max(1);
     Some(Job {
         by,
+        along: Along::Rows,
         work: a.nvals().saturating_mul(products),
         pieces_a_thread: PRODUCT_PIECES,
     })
@@ -126,6 +163,7 @@ fn job_along(by: &Store, work: u64) -> Option<Job<'_>> {
     let by = lists_of(by)?;
     Some(Job {
         by,
+        along: Along::Rows,
         work,
         pieces_a_thread: EVEN_PIECES,
     })
@@ -200,4 +238,44 @@ fn next_cut(by: &Sparse, row: u64, least: u64, entries: usize) -> Option<u64>
         return None;
     }
     Some(next)
+}
+
+/// The columns at which lists are cut into so many parts of about as many entries, as far as some of these tell, and of
+/// at least so many columns.
+fn cut_columns(alloc: Global, by: &Sparse, least: u64, pieces: u64) -> Result<Vec<u64>, NoMemory>
+    ensures { IfOk result (λ columns. AllPairs (λ column later. column < later) columns.items) }
+{
+    let some = some_columns(alloc, by)?;
+    let count = some.len() as u64;
+    let mut columns = Vec::new(alloc);
+    let mut last = 0u64;
+    for piece in 1..pieces {
+        let place = count.saturating_mul(piece) / pieces;
+        if let Some(column) = some.get(place as usize)
+            && may_cut(by.cols(), last, *column, least)
+        {
+            columns.push(*column)?;
+            last = *column;
+        }
+    }
+    Ok(columns)
+}
+
+/// Whether a column stands far enough behind the last one at which so many were cut, and before their end.
+fn may_cut(cols: u64, last: u64, column: u64, least: u64) -> bool
+    ensures { IsTrue result → last < column }
+{
+    last < column && column - last >= least && column < cols && cols - column >= least
+}
+
+/// The columns of some entries, in order.
+fn some_columns(alloc: Global, by: &Sparse) -> Result<Vec<u64>, NoMemory> {
+    let all = by.fibers_in(0..by.rows()).flat().inner;
+    let step = all.len() / SAMPLE + 1;
+    let mut some = Vec::new(alloc);
+    for column in all.iter().step_by(step) {
+        some.push(*column)?;
+    }
+    some.sort_unstable();
+    Ok(some)
 }

@@ -8,7 +8,7 @@ ghost use Rattle.store.specs.Stored.{content_of};
 
 use calls::{IndexList, Region, Shape};
 use model::NoMemory;
-use shapes::{assign_const_rows, assign_rows, extract_rows, resize, transpose};
+use shapes::{assign_const_rows, assign_rows, extract_rows, resize, transpose, transpose_range};
 use std::alloc::Global;
 use std::ops::Range;
 use store::{RowBlock, Store};
@@ -45,11 +45,12 @@ pub(crate) fn transposed_rows(
     requires rows { range.end ≤ a.now.cols }
     ensures { IfOk result (HasRows range.start range.end a.now.rows (transposed_content (content_of a.now))) }
 {
-    let t = transpose(alloc, a.as_sparse(alloc)?.get())?;
-    if range.start == 0 && range.end == t.rows() {
-        return Ok(t.into_block());
+    let a = a.as_sparse(alloc)?;
+    let a = a.get();
+    if range.start == 0 && range.end == a.cols() {
+        return Ok(transpose(alloc, a)?.into_block());
     }
-    t.copy_rows(alloc, range)
+    transpose_range(alloc, a, range)
 }
 
 /// The rows in a range of what stands in a store at a region.

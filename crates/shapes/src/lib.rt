@@ -4,6 +4,7 @@
 
 mod assigning;
 mod collecting;
+mod columns;
 mod counting;
 mod extracting;
 mod few;
@@ -18,6 +19,7 @@ mod spans;
 mod transposing;
 
 pub use assigning::assign_rows;
+pub use columns::transpose_range;
 pub use extracting::extract_rows;
 pub use filling::assign_const_rows;
 pub use putting::put_rows;
