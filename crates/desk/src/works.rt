@@ -22,7 +22,9 @@ ghost use Rattle.runner.specs.Tickets.{IsStoreFor};
 use crate::picker::Picker;
 use board::{Board, Look, Piece, Stores};
 use calls::{Computation, Recipe};
-use kernel::{Block, computed_over, eval_piece, join, patch_over};
+use kernel::{
+    Block, OneThread, VectorProducts, computed_over, eval_piece, eval_piece_by, join, patch_over,
+};
 use model::NoMemory;
 use pieces::join_blocks;
 use runner::Failed;
@@ -70,13 +72,18 @@ pub fn take<P: Picker, N: Drop>(picker: &mut P, board: &mut Board<N>) -> Option<
 }
 
 /// The store of the object that a piece makes which is all of its task. What it was made of stays in the piece, but for
-/// a store that was edited, or that nobody shared and that was written in place.
-pub fn made_of(alloc: Global, piece: &mut Piece) -> Result<Arc<Store>, NoMemory>
+/// a store that was edited, or that nobody shared and that was written in place. A product of a vector and a matrix that
+/// goes along bitmaps is made by `products`.
+pub fn made_of<V: VectorProducts>(
+    products: &V,
+    alloc: Global,
+    piece: &mut Piece,
+) -> Result<Arc<Store>, NoMemory>
     requires work { IsWork piece.old }
     requires whole { is_whole piece.old ≡ true }
     ensures { IfOk result (λ store. IsStoreFor (object_by piece.old) (arc_value store)) }
 {
-    let block = block_by(alloc, piece)?;
+    let block = block_by(products, alloc, piece)?;
     Ok(Arc::new(alloc, join(alloc, piece.recipe.get(), block))?)
 }
 
@@ -86,7 +93,7 @@ pub fn part_of(alloc: Global, piece: &mut Piece) -> Result<Block, NoMemory>
     ensures block { IfOk result (IsPartOf (cols_of (object_by piece.old).shape) (object_by piece.old).content) }
     ensures recipe { piece.new.recipe ≡ piece.old.recipe }
 {
-    block_by(alloc, piece)
+    block_by(&OneThread, alloc, piece)
 }
 
 /// The store of what a recipe makes, of the blocks of all pieces, in the order of their rows. It takes time and memory
@@ -120,7 +127,7 @@ pub fn work<N: Drop>(alloc: Global, board: &mut Board<N>, piece: Piece)
 {
     let number = piece.number;
     let mut piece = piece;
-    match made_of(alloc, &mut piece) {
+    match made_of(&OneThread, alloc, &mut piece) {
         Ok(store) => {
             let _ = board.hand_in(number, store);
         }
@@ -131,7 +138,11 @@ pub fn work<N: Drop>(alloc: Global, board: &mut Board<N>, piece: Piece)
 }
 
 /// The block of a piece's rows. The recipe stays in the piece.
-fn block_by(alloc: Global, piece: &mut Piece) -> Result<Block, NoMemory>
+fn block_by<V: VectorProducts>(
+    products: &V,
+    alloc: Global,
+    piece: &mut Piece,
+) -> Result<Block, NoMemory>
     requires { IsWork piece.old }
     ensures block { IfOk result (IsPieceOf (recipe_of piece.old.recipe) (maps_in piece.old.inputs)
         piece.old.rows.start piece.old.rows.end) }
@@ -143,12 +154,13 @@ fn block_by(alloc: Global, piece: &mut Piece) -> Result<Block, NoMemory>
         inputs,
         ..
     } = piece;
-    block_of(alloc, recipe.get(), inputs, rows.start..rows.end)
+    block_of(products, alloc, recipe.get(), inputs, rows.start..rows.end)
 }
 
 /// What a recipe gives of stores. The edits of a patch are done in its store, where nobody shares that, and so what an
 /// operation writes.
-fn block_of(
+fn block_of<V: VectorProducts>(
+    products: &V,
     alloc: Global,
     recipe: &Recipe,
     inputs: &mut Stores,
@@ -169,7 +181,7 @@ fn block_of(
         Recipe::Computed(computation) => {
             let of = recipe.signature();
             if rows.start == 0 && rows.end == of.shape.rows() {
-                return computed_block(alloc, recipe, computation, inputs);
+                return computed_block(products, alloc, recipe, computation, inputs);
             }
             eval_piece(alloc, recipe, &inputs.lent(), rows)
         }
@@ -178,7 +190,8 @@ fn block_of(
 }
 
 /// All that an operation gives of stores. Where nobody shares what its output had, that is taken over.
-fn computed_block(
+fn computed_block<V: VectorProducts>(
+    products: &V,
     alloc: Global,
     recipe: &Recipe,
     computation: &Computation,
@@ -191,12 +204,12 @@ fn computed_block(
 {
     match take_unshared(&mut inputs.old) {
         Some(old) => {
-            let store = computed_over(alloc, &computation.accepted, old, &inputs.lent())?;
+            let store = computed_over(products, alloc, &computation.accepted, old, &inputs.lent())?;
             Ok(Block::Whole(store))
         }
         None => {
             let rows = recipe.signature().shape.rows();
-            eval_piece(alloc, recipe, &inputs.lent(), 0..rows)
+            eval_piece_by(products, alloc, recipe, &inputs.lent(), 0..rows)
         }
     }
 }

@@ -1,7 +1,7 @@
 -- Blocks of what recipes give of maps.
 use Rattle.std.specs.Prelude.{ℕ, ◌≡◌}
 use Rattle.calls.specs.declared.recipe.Recipe.{Recipe}
-use Rattle.calls.specs.declared.recipe.Recipe.TheVariants.{Computed}
+use Rattle.calls.specs.declared.recipe.Recipe.TheVariants.{Computed, Transposed}
 use Rattle.calls.specs.declared.role.Role.{Role}
 use Rattle.calls.specs.Recipes.{known_of, meaning_of}
 use Rattle.kernel.specs.declared.block.Block.{Block}
@@ -22,11 +22,14 @@ IsPieceOf recipe maps start end (Rows block) =
     HasRows start end (cols_of (known_of recipe).shape) (meaning_of recipe maps) block
 IsPieceOf recipe maps start end (Whole store) = IsResultOf recipe maps store
 
--- an operation gives rows, or all of it where all rows were asked for, and a recipe of another kind all of it
+-- an operation or a transpose gives rows, or all of it where all rows were asked for, and a recipe of another kind all
 abbrev pub HasForm : Recipe → ℕ → ℕ → Block → Type 0
 HasForm (Computed computation) start end (Rows block) = Unit {0}
 HasForm (Computed computation) start end (Whole store) =
     (start ≡ 0) × (end ≡ rows_of (known_of (Computed computation)).shape)
+HasForm (Transposed turn) start end (Rows block) = Unit {0}
+HasForm (Transposed turn) start end (Whole store) =
+    (start ≡ 0) × (end ≡ rows_of (known_of (Transposed turn)).shape)
 HasForm recipe start end (Rows block) = ⊥
 HasForm recipe start end (Whole store) = Unit {0}
 

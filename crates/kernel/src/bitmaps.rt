@@ -35,7 +35,7 @@ use bitmap::Bitmap;
 use calls::{OneInput, Out, Positions, Region, Shape, Signature, TwoInputs};
 use elementwise::{apply_bitmap, select_bitmap};
 use model::{Lent, NoMemory};
-use spgemm::{multiply_bitmap, multiply_by_bitmap, suits_bitmap, suits_rows};
+use spgemm::{VectorProducts, multiply_by_bitmap, suits_bitmap, suits_rows};
 use std::alloc::Global;
 use store::{Form, Store};
 
@@ -48,8 +48,13 @@ enum Writing<'a> {
     Over { old: &'a Bitmap, op: BinaryOp },
 }
 
-/// All that a task leaves in its output, where no mask keeps some of that as it was, and it goes along bitmaps.
-pub(crate) fn task_bitmap(alloc: Global, task: &Task<'_>) -> Result<Option<Bitmap>, NoMemory>
+/// All that a task leaves in its output, where no mask keeps some of that as it was, and it goes along bitmaps. Products
+/// with a vector are made by `products`.
+pub(crate) fn task_bitmap<P: VectorProducts>(
+    products: &P,
+    alloc: Global,
+    task: &Task<'_>,
+) -> Result<Option<Bitmap>, NoMemory>
     ensures { IfOk result (λ found. IfSome found
         (HasAll (rows_of task.now.out.c.signature.shape) (cols_of task.now.out.c.signature.shape)
         (result_of (out_of task.now) (operation_of task.now)))) }
@@ -57,7 +62,7 @@ pub(crate) fn task_bitmap(alloc: Global, task: &Task<'_>) -> Result<Option<Bitma
     let Some(writing) = writing_of(task) else {
         return Ok(None);
     };
-    let Some(computed) = computed_bitmap(alloc, task, writing)? else {
+    let Some(computed) = computed_bitmap(products, alloc, task, writing)? else {
         return Ok(None);
     };
     let written = write(alloc, writing, computed)?;
@@ -65,7 +70,8 @@ pub(crate) fn task_bitmap(alloc: Global, task: &Task<'_>) -> Result<Option<Bitma
 }
 
 /// What a task computes, in the output's domain.
-fn computed_bitmap(
+fn computed_bitmap<P: VectorProducts>(
+    products: &P,
     alloc: Global,
     task: &Task<'_>,
     writing: Writing<'_>,
@@ -77,7 +83,7 @@ fn computed_bitmap(
         → region_written (operation_lent task.now.operation) ≡ None)) }
 {
     let c = task.out.c.signature;
-    let Some(bitmap) = answers_bitmap(alloc, task, writing)? else {
+    let Some(bitmap) = answers_bitmap(products, alloc, task, writing)? else {
         return Ok(None);
     };
     let from = answer_of(c, task.operation);
@@ -85,7 +91,8 @@ fn computed_bitmap(
 }
 
 /// What a task computes, in the domain of its answers.
-fn answers_bitmap(
+fn answers_bitmap<P: VectorProducts>(
+    products: &P,
     alloc: Global,
     task: &Task<'_>,
     writing: Writing<'_>,
@@ -98,8 +105,8 @@ fn answers_bitmap(
 {
     let c = task.out.c.signature;
     match writing {
-        Writing::Anew => operation_bitmap(alloc, c, task.operation),
-        Writing::Over { .. } => accumulated_bitmap(alloc, c, task.operation),
+        Writing::Anew => operation_bitmap(products, alloc, c, task.operation),
+        Writing::Over { .. } => accumulated_bitmap(products, alloc, c, task.operation),
     }
 }
 
@@ -159,7 +166,8 @@ fn bitmap_in_domain(mut bitmap: Bitmap, from: Domain, to: Domain) -> Bitmap
 }
 
 /// What an operation computes that is accumulated, in the domain of its answers, where it goes along bitmaps.
-fn accumulated_bitmap(
+fn accumulated_bitmap<P: VectorProducts>(
+    products: &P,
     alloc: Global,
     c: Signature,
     operation: Lent<'_, Input<'_>>,
@@ -173,12 +181,13 @@ fn accumulated_bitmap(
         Lent::Fill { value, region } => {
             filled_bitmap(alloc, c.shape, region, c.domain.wrapped(value))
         }
-        operation => operation_bitmap(alloc, c, operation),
+        operation => operation_bitmap(products, alloc, c, operation),
     }
 }
 
 /// What an operation computes, in the domain of its answers, where it goes along bitmaps. It has no region.
-fn operation_bitmap(
+fn operation_bitmap<P: VectorProducts>(
+    products: &P,
     alloc: Global,
     c: Signature,
     operation: Lent<'_, Input<'_>>,
@@ -193,7 +202,7 @@ fn operation_bitmap(
     match operation {
         Lent::Fill { .. } => Ok(None),
         Lent::OfOne { computes, a } => one_bitmap(alloc, c, computes, a),
-        Lent::OfTwo { computes, a, b } => two_bitmap(alloc, c, computes, a, b),
+        Lent::OfTwo { computes, a, b } => two_bitmap(products, alloc, c, computes, a, b),
     }
 }
 
@@ -218,7 +227,8 @@ fn one_bitmap(
 }
 
 /// What is computed of two inputs.
-fn two_bitmap(
+fn two_bitmap<P: VectorProducts>(
+    products: &P,
     alloc: Global,
     c: Signature,
     computes: TwoInputs,
@@ -231,7 +241,9 @@ fn two_bitmap(
         (computed_of_two computes (object_of a.entry) (object_of b.entry)))) }
 {
     match computes {
-        TwoInputs::Multiply { form, semiring } => multiplied_bitmap(alloc, form, semiring, a, b),
+        TwoInputs::Multiply { form, semiring } => multiplied_bitmap(
+            products, alloc, form, semiring, a, b,
+        ),
         TwoInputs::Combine { positions, op } => combined_bitmap(alloc, positions, op, a, b),
     }
 }
@@ -322,7 +334,8 @@ fn combined_bitmap(
 
 /// The product of a vector that is a bitmap and a matrix of lists, or the other way round, where that is better made as
 /// a bitmap.
-fn multiplied_bitmap(
+fn multiplied_bitmap<P: VectorProducts>(
+    products: &P,
     alloc: Global,
     form: model::Form,
     semiring: SemiringName,
@@ -340,14 +353,15 @@ fn multiplied_bitmap(
         unreachable!();
     };
     match form {
-        model::Form::VectorMatrix => multiply_vector(alloc, semiring, a.store, b.store),
+        model::Form::VectorMatrix => multiply_vector(products, alloc, semiring, a.store, b.store),
         model::Form::MatrixVector => multiply_by_vector(alloc, semiring, a.store, b.store),
         model::Form::MatrixMatrix => Ok(None),
     }
 }
 
 /// The product of a vector and a matrix.
-fn multiply_vector(
+fn multiply_vector<P: VectorProducts>(
+    products: &P,
     alloc: Global,
     semiring: Semiring,
     u: &Store,
@@ -364,7 +378,7 @@ fn multiply_vector(
     if !suits_bitmap(vector, matrix) {
         return Ok(None);
     }
-    let made = multiply_bitmap(alloc, vector, matrix, semiring)?;
+    let made = products.multiply_bitmap(alloc, vector, matrix, semiring)?;
     Ok(Some(made))
 }
 

@@ -24,12 +24,15 @@ use bitmap::Bitmap;
 use calls::{Accepted, Roles};
 use masks::{Mask, MaskTest, StoredMask, write_into};
 use model::NoMemory;
+use spgemm::VectorProducts;
 use std::alloc::Global;
 use store::{RowBlock, Store};
 
 /// All rows of what an operation leaves, of the stores that take its roles and of what its output had, which is taken
-/// over: where few entries are written, they are put into it. Where it goes along bitmaps, all is made anew.
-pub fn computed_over(
+/// over: where few entries are written, they are put into it. Where it goes along bitmaps, all is made anew, a product
+/// with a vector by `products`.
+pub fn computed_over<P: VectorProducts>(
+    products: &P,
     alloc: Global,
     accepted: &Accepted,
     old: Store,
@@ -43,7 +46,7 @@ pub fn computed_over(
     ensures content { IfOk result (λ store. (i j : ℕ) → content_of store i j
         ≡ meaning accepted.now.out accepted.now.operation (λ role. map_in (beside old stores.now role)) i j) }
 {
-    if let Some(bitmap) = bitmap_over(alloc, accepted, &old, stores)? {
+    if let Some(bitmap) = bitmap_over(products, alloc, accepted, &old, stores)? {
         return Ok(Store::from_bitmap(bitmap));
     }
     let mut old = old;
@@ -83,7 +86,8 @@ fn unwritten_rows(
 }
 
 /// All that an operation on the stores that take its roles leaves, where it goes along bitmaps.
-fn bitmap_over(
+fn bitmap_over<P: VectorProducts>(
+    products: &P,
     alloc: Global,
     accepted: &Accepted,
     old: &Store,
@@ -103,7 +107,7 @@ fn bitmap_over(
         ..*stores
     };
     let task = taken(accepted, stores, &unread);
-    task_bitmap(alloc, &task)
+    task_bitmap(products, alloc, &task)
 }
 
 /// The positions that an accepted operation writes, by the store of its mask.

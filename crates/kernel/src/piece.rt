@@ -17,19 +17,37 @@ ghost use Rattle.store.specs.Stored.{content_of};
 use crate::bitmaps::task_bitmap;
 use crate::block::Block;
 use crate::input::Input;
-use crate::moving::{resized, transposed};
+use crate::moving::{resized, transposed, transposed_rows};
 use crate::task::{Task, task_rows};
 use calls::{Accepted, Computation, Operation, Out, Patch, Recipe, Roles, Signature};
 use model::{Lent, NoMemory};
 use patch::apply_edits;
+use spgemm::{OneThread, VectorProducts};
 use std::alloc::Global;
 use std::ops::Range;
 use std::sync::Arc;
 use store::Store;
 
 /// The rows in a range of what a recipe gives of the stores that take its roles. Its time and memory are those of the
-/// operation on these rows; a recipe of another kind isn't cut, and gives all rows.
+/// operation, or of the transpose, on these rows; a recipe of another kind isn't cut, and gives all rows.
 pub fn eval_piece(
+    alloc: Global,
+    recipe: &Recipe,
+    stores: &Roles<&Store>,
+    range: Range<u64>,
+) -> Result<Block, NoMemory>
+    requires inputs { AreInputs (known_by recipe.now) stores.now }
+    requires range { range.start ≤ range.end }
+    requires rows { range.end ≤ rows_of (makes recipe.now).shape }
+    ensures piece { IfOk result (IsPieceOf recipe.now (maps_in stores.now) range.start range.end) }
+    ensures form { IfOk result (HasForm recipe.now range.start range.end) }
+{
+    eval_piece_by(&OneThread, alloc, recipe, stores, range)
+}
+
+/// What `eval_piece` gives, where a product of a vector and a matrix that goes along bitmaps is made by `products`.
+pub fn eval_piece_by<P: VectorProducts>(
+    products: &P,
     alloc: Global,
     recipe: &Recipe,
     stores: &Roles<&Store>,
@@ -43,7 +61,7 @@ pub fn eval_piece(
 {
     let store = match recipe {
         Recipe::Computed(computation) => {
-            return computed_piece(alloc, recipe, computation, stores, range);
+            return computed_piece(products, alloc, recipe, computation, stores, range);
         }
         Recipe::New(of) => Store::new(alloc, of.shape.rows(), of.shape.cols()),
         Recipe::Given(given) => given.store.try_clone()?,
@@ -52,7 +70,13 @@ pub fn eval_piece(
             let old = taking(change.of, stores.old);
             resized(alloc, old, change.shape.rows(), change.shape.cols())?
         }
-        Recipe::Transposed(turn) => transposed(alloc, taking(turn.of, stores.first))?,
+        Recipe::Transposed(turn) => {
+            let a = taking(turn.of, stores.first);
+            if range.start > 0 || range.end < a.cols() {
+                return Ok(Block::Rows(transposed_rows(alloc, a, range)?));
+            }
+            transposed(alloc, a)?
+        }
     };
     Ok(Block::Whole(store))
 }
@@ -99,7 +123,8 @@ fn edited(alloc: Global, patch: &Patch, store: Store) -> Result<Store, NoMemory>
 
 /// The rows in a range of what an operation leaves: what it computes, accumulated, masked and written back. All rows
 /// may come as a bitmap.
-fn computed_piece(
+fn computed_piece<P: VectorProducts>(
+    products: &P,
     alloc: Global,
     recipe: &Recipe,
     computation: &Computation,
@@ -120,7 +145,7 @@ fn computed_piece(
     let task = taken(accepted, *stores, &unread);
     if range.start == 0
         && range.end == shape.rows()
-        && let Some(bitmap) = task_bitmap(alloc, &task)?
+        && let Some(bitmap) = task_bitmap(products, alloc, &task)?
     {
         let mut store = Store::from_bitmap(bitmap);
         store.settle(alloc);

@@ -6,7 +6,7 @@ use crate::cutting::Cutting;
 use crate::demand::Demand;
 
 /// How much work a worker is woken for, in entries that are read: about what a thread does while another wakes.
-pub const SHARE: u64 = 4_096;
+pub const SHARE: u64 = 16_384;
 
 /// Who of the threads of a pool sleeps.
 #[derive(Clone, Copy, Debug)]
@@ -103,6 +103,11 @@ impl Crew {
     /// How many workers have nothing to do, as far as is known: those that sleep, and those that are about to rise.
     pub fn idle(&self) -> u64 {
         self.sleeping.saturating_add(self.called)
+    }
+
+    /// How many threads could help with a task, as far as is known: so many as the workers that are awake leave.
+    pub fn helpers(&self) -> u64 {
+        self.cutting.threads.saturating_sub(self.awake.max(1))
     }
 
     /// Calls workers that sleep for what there is to do, where that is more than for those that are awake. Says how

@@ -14,20 +14,37 @@ const LEAST: u64 = 64;
 /// hand less over, and to have the store in the cache of another processor, takes longer than to do it.
 const PARTS: u64 = 8;
 
-/// So many tasks that can be done, of so much work each.
+/// So many tasks that can be done, of so much work each, by so many threads each at the most.
 #[derive(Clone, Copy, Debug)]
 pub struct Demand {
     tasks: u64,
     work: u64,
+    threads_each: u64,
 }
 
 impl Demand {
-    /// There are so many tasks of so much work each.
+    /// There are so many tasks of so much work each. One thread does each; if it cuts a task, it calls others itself.
     pub fn new(tasks: u64, work: u64) -> Demand
         ensures tasks { result.tasks ≡ tasks }
         ensures work { result.work ≡ work }
     {
-        Demand { tasks, work }
+        Demand {
+            tasks,
+            work,
+            threads_each: 1,
+        }
+    }
+
+    /// There are so many tasks of so much work each, one of which was cut: several threads do its pieces.
+    pub fn of_pieces(tasks: u64, work: u64) -> Demand
+        ensures tasks { result.tasks ≡ tasks }
+        ensures work { result.work ≡ work }
+    {
+        Demand {
+            tasks,
+            work,
+            threads_each: PARTS,
+        }
     }
 
     /// Nothing to do.
@@ -37,13 +54,13 @@ impl Demand {
         Demand::new(0, 0)
     }
 
-    /// How many threads are worth while, where one is for such a share of work, but at most one for each part of a
-    /// task. A share of 0 is worth nobody's while.
+    /// How many threads are worth while, where one is for such a share of work. A share of 0 is worth nobody's while.
     pub fn threads(&self, share: u64) -> u64
         ensures none { self.now.tasks ≡ 0 → result ≡ 0 }
     {
         let most = self.work.saturating_mul(self.tasks.min(PARTS));
-        most.checked_div(share).unwrap_or(0)
+        let worth = most.checked_div(share).unwrap_or(0);
+        worth.min(self.tasks.saturating_mul(self.threads_each))
     }
 }
 

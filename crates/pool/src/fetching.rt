@@ -57,9 +57,9 @@ pub fn fetch_alone<J: Naming, R: Wait + Threads, G: Gate + Drop, P: Picker + Dro
         let demand = own.demand_beside(&work.piece);
         if demand.threads(share) > 0 {
             hand_over(rt, shared, own, demand);
-            return Err(done(alloc, shared, work));
+            return Err(done(rt, alloc, shared, work));
         }
-        if let Left::Joint(joint) = own.finish(&named.log, done(alloc, shared, work)) {
+        if let Left::Joint(joint) = own.finish(&named.log, done(rt, alloc, shared, work)) {
             own.finish(&named.log, joint.run(rt, alloc));
         }
     }
@@ -96,7 +96,7 @@ pub fn fetch_beside<J: Naming, R: Wait + Threads, G: Gate + Drop, P: Picker + Dr
             Some(work) => {
                 let called = locked.call_beside(&work.piece);
                 leave(shared, guard, spent, called);
-                last = Some(done(alloc, shared, work));
+                last = Some(done(rt, alloc, shared, work));
             }
             None if spent.is_none() && locked.is_to_come(ticket.slot) => {
                 locked.crew.awaited = Some(ticket.slot);

@@ -44,7 +44,7 @@ pub fn serve<J: Naming, R: Wait + Threads, G: Gate + Drop, P: Picker + Drop>(
             Some(work) => {
                 let called = locked.call_beside(&work.piece);
                 leave(shared, guard, spent, called);
-                last = Some(done(alloc, shared, work));
+                last = Some(done(rt, alloc, shared, work));
             }
             None if spent.is_none() => {
                 locked.crew.sleep();
@@ -96,11 +96,12 @@ pub fn leave<J: Naming, G: Gate + Drop, P: Picker + Drop>(
 }
 
 /// Does a piece of a task, behind the gate.
-pub fn done<J: Naming, G: Gate + Drop, P: Picker + Drop>(
+pub fn done<J: Naming, R: Threads, G: Gate + Drop, P: Picker + Drop>(
+    rt: &R,
     alloc: Global,
     shared: &Shared<J, G, P>,
     work: Work<J>,
 ) -> Finished<J> {
     shared.gate.enter(work.ticket.slot, work.piece.piece);
-    work.run(alloc)
+    work.run(rt, alloc)
 }

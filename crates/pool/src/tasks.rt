@@ -147,7 +147,11 @@ impl<J: Naming, P: Picker + Drop> Tasks<J, P> {
             slot: piece.number,
             note: note.again(),
         };
-        Work { ticket, piece }
+        Work {
+            ticket,
+            piece,
+            helpers: self.crew.helpers(),
+        }
     }
 
     /// A piece of one of the tasks that can be done, to be done by a thread that doesn't have the board; None where
@@ -266,7 +270,12 @@ impl<J: Naming, P: Picker + Drop> Tasks<J, P> {
         if tasks == 0 {
             return Demand::none();
         }
-        Demand::new(tasks, work_in(piece))
+        let work = work_in(piece);
+        if piece.is_whole() {
+            Demand::new(tasks, work)
+        } else {
+            Demand::of_pieces(tasks, work)
+        }
     }
 
     /// What there is to do for others once a store was found. One task is left for the calling thread.

@@ -36,7 +36,7 @@ const TASKS: u64 = 200;
 const WORKERS: u64 = 2;
 
 /// How many rows the large matrix has, each with one entry: enough for four pieces.
-const ROWS: u64 = 70_000;
+const ROWS: u64 = 540_000;
 
 /// How many columns it has: so many that its store is no bitmap.
 const COLS: u64 = 1_000;

@@ -14,7 +14,7 @@ use board::Piece;
 use calls::Recipe;
 use desk::{Ticket, joined_of, made_of, part_of};
 use journal::{Naming, Note};
-use kernel::Block;
+use kernel::{Block, SeveralThreads, VectorProducts};
 use model::NoMemory;
 use std::alloc::Global;
 use std::sync::Arc;
@@ -26,6 +26,8 @@ use store::Store;
 pub struct Work<J: Naming> {
     pub ticket: Ticket<Note<J>>,
     pub piece: Piece,
+    /// How many threads could help with it, as far as was known when it was taken.
+    pub helpers: u64,
     ghost work: { ∥ IsWork piece ∥₁ },
     ghost makes: { object_of ticket.note ≡ object_by piece },
 }
@@ -83,16 +85,18 @@ impl<J: Naming> Left<J> {
 }
 
 impl<J: Naming> Work<J> {
-    /// Does it.
-    pub fn run(self, alloc: Global) -> Finished<J>
+    /// Does it, with threads that are started to help where they can.
+    pub fn run<R: Threads>(self, rt: &R, alloc: Global) -> Finished<J>
         ensures { result.ticket ≡ self.ticket }
     {
         let Work {
             ticket,
             mut piece,
+            helpers,
             ..
         } = self;
-        let outcome = outcome_of(alloc, &mut piece);
+        let products = SeveralThreads::new(rt, helpers);
+        let outcome = outcome_of(&products, alloc, &mut piece);
         Finished {
             ticket,
             outcome,
@@ -122,12 +126,12 @@ impl<J: Naming> Joint<J> {
 }
 
 /// What comes of a piece.
-fn outcome_of(alloc: Global, piece: &mut Piece) -> Outcome
+fn outcome_of<V: VectorProducts>(products: &V, alloc: Global, piece: &mut Piece) -> Outcome
     requires { IsWork piece.old }
     ensures { IsOutcomeFor (object_by piece.old) (recipe_of piece.new.recipe) result }
 {
     if piece.is_whole() {
-        match made_of(alloc, piece) {
+        match made_of(products, alloc, piece) {
             Ok(store) => Outcome::Made(store),
             Err(NoMemory) => Outcome::Refused,
         }

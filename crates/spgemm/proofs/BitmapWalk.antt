@@ -1,17 +1,18 @@
--- A walk along the rows of B, beside a vector that is asked at each of them.
-use Rattle.std.proofs.Common.{◌≡◌, ℕ, zero, suc, ◌+◌, ◌-◌, ◌≤◌, Bool, List, [], ◌++◌, Option, None, Some, append-nil, refl, sym, ◌∙◌, ap, subst, arith}
-use Rattle.std.specs.List.{cons_option}
+-- A walk along some rows of B, beside a vector that is asked at each of them.
+use Rattle.std.proofs.Common.{◌≡◌, ℕ, zero, suc, ◌+◌, ◌-◌, ◌≤◌, Bool, List, [], ◌∷◌, ◌++◌, Option, None, Some, append-nil, refl, sym, ◌∙◌, ap, subst, arith}
+use Rattle.std.specs.List.{cons_option, filter_map}
 use Rattle.std.specs.Option.{option_map}
 use Rattle.std.proofs.lemmas.Grind.{flat_map-append}
+use Rattle.std.proofs.lemmas.List.Elements.{filter_map-append}
 use Rattle.algebra.specs.declared.binary.BinaryOp.{BinaryOp}
 use Rattle.algebra.specs.declared.semiring.Semiring.{Semiring}
+use Rattle.bitmap.specs.Bitmaps.{row_part}
 use Rattle.model.specs.declared.entry.Entry.{Entry}
 use Rattle.model.specs.Entries.{count_from, entries_between, entry_at, row_entries}
 use Rattle.model.specs.Object.{Content}
 use Rattle.store.specs.Fibers.{entries_along}
 use Rattle.store.specs.Stored.{Stored, content_of}
 use Rattle.store.specs.Walks.{IsFirstRow}
-use Rattle.store.proofs.RowPuts.{next_column}
 use Rattle.spgemm.specs.declared.term.Term.{Term}
 use Rattle.spgemm.specs.Dense.{AreMarkedSums}
 use Rattle.spgemm.specs.Terms.{terms_of_row, times_found, times_row}
@@ -34,79 +35,117 @@ found_terms : (op : BinaryOp) (o : Option ℕ) (k : ℕ) (b : Stored)
 found_terms op None k b = refl
 found_terms op (Some word) k b = append-nil (times_row op word (row_entries b.cols (content_of b) k))
 
+-- ---- columns side by side
+
+counted_append : (first m n : ℕ) → count_from first (m + n) ≡ count_from first m ++ count_from (first + m) n
+unfolding count_from
+counted_append first zero n = let same : first + 0 ≡ first = omega arith in let all : 0 + n ≡ n = omega arith in rw (same, all) refl
+counted_append first (suc m) n =
+    let all : suc m + n ≡ suc (m + n) = omega arith in
+    let next : first + suc m ≡ first + 1 + m = omega arith in
+    rw (all, next) (ap (λ xs. first ∷ xs) (counted_append (first + 1) m n))
+
+part_append : (c : Content) (i first m n : ℕ) → row_part c i first (m + n) ≡ row_part c i first m ++ row_part c i (first + m) n
+part_append c i first m n =
+    let f = λ (k : ℕ). option_map (entry_at i k) (c i k) in
+    ap (filter_map f) (counted_append first m n) ∙ filter_map-append f (count_from first m) (count_from (first + m) n)
+
+part_one : (c : Content) (i at : ℕ) → row_part c i at 1 ≡ cons_option (option_map (entry_at i at) (c i at)) []
+unfolding count_from
+part_one c i at = refl
+
+-- the terms of columns are those of the first ones and of those behind them
+pub terms_append : (op : BinaryOp) (c : Content) (b : Stored) (first m n : ℕ)
+    → terms_of_row op (row_part c 0 first (m + n)) b ≡ terms_of_row op (row_part c 0 first m) b ++ terms_of_row op (row_part c 0 (first + m) n) b
+terms_append op c b first m n =
+    ap (λ row. terms_of_row op row b) (part_append c 0 first m n)
+    ∙ flat_map-append (λ (e : Entry). times_row op e.word (row_entries b.cols (content_of b) e.col)) (row_part c 0 first m) (row_part c 0 (first + m) n)
+
 -- a column more
-column_more : (op : BinaryOp) (c : Content) (b : Stored) (k : ℕ)
-    → terms_of_row op (row_entries (k + 1) c 0) b ≡ terms_of_row op (row_entries k c 0) b ++ times_found op (c 0 k) (row_entries b.cols (content_of b) k)
-column_more op c b k =
-    ap (λ row. terms_of_row op row b) (next_column c 0 k)
-    ∙ flat_map-append (λ (e : Entry). times_row op e.word (row_entries b.cols (content_of b) e.col)) (row_entries k c 0) (cons_option (option_map (entry_at 0 k) (c 0 k)) [])
-    ∙ ap (λ ts. terms_of_row op (row_entries k c 0) b ++ ts) (found_terms op (c 0 k) k b)
+column_more : (op : BinaryOp) (c : Content) (b : Stored) (first n : ℕ)
+    → terms_of_row op (row_part c 0 first (n + 1)) b ≡ terms_of_row op (row_part c 0 first n) b ++ times_found op (c 0 (first + n)) (row_entries b.cols (content_of b) (first + n))
+column_more op c b first n =
+    terms_append op c b first n 1
+    ∙ ap (λ row. terms_of_row op (row_part c 0 first n) b ++ terms_of_row op row b) (part_one c 0 (first + n))
+    ∙ ap (λ ts. terms_of_row op (row_part c 0 first n) b ++ ts) (found_terms op (c 0 (first + n)) (first + n) b)
 
 -- columns whose rows of B are empty give no terms
-columns_gap : (op : BinaryOp) (c : Content) (b : Stored) (p n : ℕ) → AreEmpty b p (p + n)
-    → terms_of_row op (row_entries (p + n) c 0) b ≡ terms_of_row op (row_entries p c 0) b
-columns_gap op c b p zero empty = let none : p + 0 ≡ p = omega arith in rw none refl
-columns_gap op c b p (suc n) empty =
+columns_gap : (op : BinaryOp) (c : Content) (b : Stored) (first p n : ℕ) → AreEmpty b (first + p) (first + (p + n))
+    → terms_of_row op (row_part c 0 first (p + n)) b ≡ terms_of_row op (row_part c 0 first p) b
+columns_gap op c b first p zero empty = let none : p + 0 ≡ p = omega arith in rw none refl
+columns_gap op c b first p (suc n) empty =
     let k = p + n in
     let next : p + suc n ≡ k + 1 = omega arith in
-    let here : times_found op (c 0 k) (row_entries b.cols (content_of b) k) ≡ [] = ap (times_found op (c 0 k)) (empty k (omega arith) (omega arith)) ∙ times_none op (c 0 k) in
-    rw next (column_more op c b k ∙ ap (λ ts. terms_of_row op (row_entries k c 0) b ++ ts) here ∙ append-nil (terms_of_row op (row_entries k c 0) b)
-    ∙ columns_gap op c b p n (λ i low high. empty i low (omega arith)))
+    let here : times_found op (c 0 (first + k)) (row_entries b.cols (content_of b) (first + k)) ≡ [] = ap (times_found op (c 0 (first + k))) (empty (first + k) (omega arith) (omega arith)) ∙ times_none op (c 0 (first + k)) in
+    rw next (column_more op c b first k ∙ ap (λ ts. terms_of_row op (row_part c 0 first k) b ++ ts) here ∙ append-nil (terms_of_row op (row_part c 0 first k) b)
+    ∙ columns_gap op c b first p n (λ i low high. empty i low (omega arith)))
 
 -- so the columns up to one behind them have the terms of those before
-columns_past : (op : BinaryOp) (c : Content) (b : Stored) (low past : ℕ) → low ≤ past → AreEmpty b low past
-    → terms_of_row op (row_entries past c 0) b ≡ terms_of_row op (row_entries low c 0) b
-columns_past op c b low past le empty =
+columns_past : (op : BinaryOp) (c : Content) (b : Stored) (first low past : ℕ) → low ≤ past
+    → AreEmpty b (first + low) (first + past)
+    → terms_of_row op (row_part c 0 first past) b ≡ terms_of_row op (row_part c 0 first low) b
+columns_past op c b first low past le empty =
     let n = past - low in
     let whole : low + n ≡ past = omega arith in
-    ap (λ k. terms_of_row op (row_entries k c 0) b) (sym whole) ∙ columns_gap op c b low n (λ i above below. empty i above (omega arith))
+    ap (λ k. terms_of_row op (row_part c 0 first k) b) (sym whole) ∙ columns_gap op c b first low n (λ i above below. empty i above (omega arith))
 
 -- ---- the walk
 
--- the terms of the first columns are summed, and of B the rows behind them are left
-pub record IsWalkedAcross (semiring : Semiring) (c : Content) (b : Stored) (marks : List Bool)
+-- of so many columns from first on the terms of some are summed, and of B the rows behind them are left
+pub record IsWalkedAcross (semiring : Semiring) (c : Content) (b : Stored) (first past : ℕ) (marks : List Bool)
     (sums : List ℕ) (rest : List Entry) : Type 0 where
   pub done : ℕ
-  pub le : done ≤ b.rows
-  pub left : AreLeftFrom b done b.rows rest
-  pub sums_are : AreMarkedSums semiring.add (terms_of_row semiring.multiply (row_entries done c 0) b) marks sums
+  pub le : first + done ≤ past
+  pub left : AreLeftFrom b (first + done) past rest
+  pub sums_are : AreMarkedSums semiring.add (terms_of_row semiring.multiply (row_part c 0 first done) b) marks sums
 
-pub across_none : (semiring : Semiring) (c : Content) (b : Stored) (marks : List Bool) (sums : List ℕ)
-    (rest : List Entry) → rest ≡ entries_between 0 b.rows b.cols (content_of b)
-    → AreMarkedSums semiring.add [] marks sums → IsWalkedAcross semiring c b marks sums rest
+pub across_none : (semiring : Semiring) (c : Content) (b : Stored) (first past : ℕ) (marks : List Bool)
+    (sums : List ℕ) (rest : List Entry) → first ≤ past → rest ≡ entries_between first past b.cols (content_of b)
+    → AreMarkedSums semiring.add [] marks sums → IsWalkedAcross semiring c b first past marks sums rest
 unfolding count_from
-across_none semiring c b marks sums rest is here = record { done = 0; le = omega arith; left = rw is (left_all b 0 b.rows); sums_are = here }
+across_none semiring c b first past marks sums rest order is here =
+    let from : first + 0 ≡ first = omega arith in
+    record { done = 0; le = omega arith; left = rw (is, from) (left_all b first past); sums_are = here }
 
-pub across_next : (semiring : Semiring) (c : Content) (b : Stored) (marks : List Bool) (sums : List ℕ)
-    (rest : List Entry) (line : ℕ) (line_cols line_words : List ℕ) (others : List Entry)
-    → IsWalkedAcross semiring c b marks sums rest → IsFirstRow line line_cols line_words rest others
+pub across_next : (semiring : Semiring) (c : Content) (b : Stored) (first past : ℕ) (marks : List Bool)
+    (sums : List ℕ) (rest : List Entry) (line : ℕ) (line_cols line_words : List ℕ) (others : List Entry)
+    → IsWalkedAcross semiring c b first past marks sums rest → IsFirstRow line line_cols line_words rest others
     → entries_along line line_cols line_words ≡ row_entries b.cols (content_of b) line
-across_next semiring c b marks sums rest line line_cols line_words others here starts =
-    let next = next_row b here.done b.rows line line_cols line_words rest others here.left starts in next.entries
+across_next semiring c b first past marks sums rest line line_cols line_words others here starts =
+    let next = next_row b (first + here.done) past line line_cols line_words rest others here.left starts in next.entries
 
-pub across_more : (semiring : Semiring) (c : Content) (b : Stored) (marks : List Bool) (sums : List ℕ)
-    (rest : List Entry) (line : ℕ) (line_cols line_words : List ℕ) (others : List Entry) (marks' : List Bool)
-    (sums' : List ℕ) → IsWalkedAcross semiring c b marks sums rest → IsFirstRow line line_cols line_words rest others
+pub across_more : (semiring : Semiring) (c : Content) (b : Stored) (first past : ℕ) (marks : List Bool)
+    (sums : List ℕ) (rest : List Entry) (line : ℕ) (line_cols line_words : List ℕ) (others : List Entry)
+    (marks' : List Bool) (sums' : List ℕ) → IsWalkedAcross semiring c b first past marks sums rest
+    → IsFirstRow line line_cols line_words rest others
     → ((terms : List Term) → AreMarkedSums semiring.add terms marks sums → AreMarkedSums semiring.add (terms ++ times_found semiring.multiply (c 0 line) (entries_along 0 line_cols line_words)) marks' sums')
-    → IsWalkedAcross semiring c b marks' sums' others
-across_more semiring c b marks sums rest line line_cols line_words others marks' sums' here starts add =
+    → IsWalkedAcross semiring c b first past marks' sums' others
+across_more semiring c b first past marks sums rest line line_cols line_words others marks' sums' here starts add =
     let op = semiring.multiply in
-    let next = next_row b here.done b.rows line line_cols line_words rest others here.left starts in
-    let before = columns_past op c b here.done line next.above next.empty in
+    let next = next_row b (first + here.done) past line line_cols line_words rest others here.left starts in
+    let count = line - first in
+    let at : first + count ≡ line = omega (arith, next.above) in
+    let behind : first + (count + 1) ≡ line + 1 = omega (arith, at) in
+    let before = columns_past op c b first here.done count (omega (arith, next.above)) (rw at next.empty) in
     let row : times_found op (c 0 line) (row_entries b.cols (content_of b) line) ≡ times_found op (c 0 line) (entries_along 0 line_cols line_words) =
     ap (times_found op (c 0 line)) (sym next.entries) ∙ found_any op (c 0 line) line line_cols line_words in
-    let more = column_more op c b line ∙ ap (λ ts. ts ++ times_found op (c 0 line) (row_entries b.cols (content_of b) line)) before
-    ∙ ap (λ ts. terms_of_row op (row_entries here.done c 0) b ++ ts) row in
+    let sofar = terms_of_row op (row_part c 0 first here.done) b in
+    let more : terms_of_row op (row_part c 0 first (count + 1)) b ≡ sofar ++ times_found op (c 0 line) (entries_along 0 line_cols line_words) =
+    column_more op c b first count
+    ∙ ap (λ k. terms_of_row op (row_part c 0 first count) b ++ times_found op (c 0 k) (row_entries b.cols (content_of b) k)) at
+    ∙ ap (λ ts. ts ++ times_found op (c 0 line) (row_entries b.cols (content_of b) line)) before
+    ∙ ap (λ ts. sofar ++ ts) row in
     record {
-      done = line + 1;
-      le = omega (arith, next.below);
-      left = next.others_left;
-      sums_are = subst (λ ts. AreMarkedSums semiring.add ts marks' sums') (sym more) (add (terms_of_row op (row_entries here.done c 0) b) here.sums_are);
+      done = count + 1;
+      le = omega (arith, next.below, at);
+      left = rw behind next.others_left;
+      sums_are = subst (λ ts. AreMarkedSums semiring.add ts marks' sums') (sym more) (add sofar here.sums_are);
     }
 
-pub across_all : (semiring : Semiring) (c : Content) (b : Stored) (marks : List Bool) (sums : List ℕ)
-    (rest : List Entry) → IsWalkedAcross semiring c b marks sums rest → rest ≡ []
-    → AreMarkedSums semiring.add (terms_of_row semiring.multiply (row_entries b.rows c 0) b) marks sums
-across_all semiring c b marks sums rest here none =
+pub across_all : (semiring : Semiring) (c : Content) (b : Stored) (first past : ℕ) (marks : List Bool)
+    (sums : List ℕ) (rest : List Entry) → IsWalkedAcross semiring c b first past marks sums rest → rest ≡ []
+    → AreMarkedSums semiring.add (terms_of_row semiring.multiply (row_part c 0 first (past - first)) b) marks sums
+across_all semiring c b first past marks sums rest here none =
+    let all : first + (past - first) ≡ past = omega (arith, here.le) in
     subst (λ ts. AreMarkedSums semiring.add ts marks sums)
-    (sym (columns_past semiring.multiply c b here.done b.rows here.le (left_none b here.done b.rows rest here.left none))) here.sums_are
+    (sym (columns_past semiring.multiply c b first here.done (past - first) (omega (arith, here.le)) (rw all (left_none b (first + here.done) past rest here.left none)))) here.sums_are

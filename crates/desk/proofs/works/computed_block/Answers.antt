@@ -12,14 +12,14 @@ use Rattle.desk.proofs.OverLaws.{lent-kept, over-result, same-maps, takes-stores
 use Rattle.desk.proofs.works.computed_block.Goals as goal
 
 pub computed_over-requires-clause-inputs : goal.computed_over-requires-clause-inputs
-computed_over-requires-clause-inputs c =
+computed_over-requires-clause-inputs g c =
     let had = c.args.inputs.now in
     takes-stores c.in-Some.old c.lent.result had c.in-Some.ensures.taken (c.lent.ensures Mask) (c.lent.ensures First) (c.lent.ensures Second)
     (known_by_role c.deref.result.now.out c.deref.result.now.operation)
     (rw (c.requires.recipe, sym c.deref.ensures) at c.requires.takes)
 
 pub returns-in_ok-store-in-Some : goal.returns-in_ok-store-in-Some
-returns-in_ok-store-in-Some c =
+returns-in_ok-store-in-Some g c =
     let had = c.args.inputs.now in
     let made = rw c.deref.ensures at c.in_ok-store-in-Some.ensures in
     over-result c.args.recipe.now c.args.computation.now c.requires.recipe _ _
@@ -27,11 +27,11 @@ returns-in_ok-store-in-Some c =
     c.in_ok-store-in-Some.store made.rows made.cols made.content
 
 pub returns-in-None : goal.returns-in-None
-returns-in-None c =
+returns-in-None g c =
     let recipe = c.args.recipe.now in
     let had = c.args.inputs.now in
     let same = lent-kept c.lent-in-None.result had (record had { old = c.take_unshared.new.place }) c.lent-in-None.ensures (c.in-None.ensures.kept refl) refl refl refl in
     let maps : maps_in c.lent-in-None.result ≡ maps_had had = λ x role. map_in (same role x) in
-    IfOk-weaker c.eval_piece.result _ _
+    IfOk-weaker c.eval_piece_by.result _ _
     (λ block is. subst (λ (m : Role → Content). IsPieceOf recipe m 0 (rows_of (known_of recipe).shape) block) maps is)
-    (rw (c.rows-rows.ensures, c.signature.ensures) at c.eval_piece.ensures.piece)
+    (rw (c.rows-rows.ensures, c.signature.ensures) at c.eval_piece_by.ensures.piece)

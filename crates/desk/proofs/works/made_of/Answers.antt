@@ -13,7 +13,7 @@ use Rattle.store.specs.Stored.{Stored}
 use Rattle.desk.proofs.works.made_of.Goals as goal
 
 pub join-requires : goal.join-requires
-join-requires c =
+join-requires g c =
     let piece = c.args.piece.now in
     let same : c.get.result.now ≡ recipe_of piece.recipe = c.get.ensures ∙ ap recipe_of c.block_by.ensures.recipe in
     subst (λ (r : Recipe). HasAllRows r c.in_ok-block.block) (sym same)
@@ -21,7 +21,7 @@ join-requires c =
     (whole piece c.requires.work c.requires.whole c.in_ok-block.block c.in_ok-block.ensures.block))
 
 pub returns : goal.returns
-returns c =
+returns g c =
     let piece = c.args.piece.now in
     let same : c.get.result.now ≡ recipe_of piece.recipe = c.get.ensures ∙ ap recipe_of c.block_by.ensures.recipe in
     subst (λ (s : Stored). IsStoreFor (object_by piece) s) (sym c.in_ok-new.ensures.ok)

@@ -8,6 +8,6 @@ use Rattle.kernel.proofs.bitmaps.accumulated_bitmap.Goals as goal
 
 pub returns-in-Fill : goal.returns-in-Fill
 unfolding operation
-returns-in-Fill c =
+returns-in-Fill g c =
     let fits : FitsSigned w128 c.in-Fill.value = search rules in
     rw c.in-Fill.is (rw (c.wrapped.ensures, to_z-of_z w128 c.in-Fill.value fits) at c.filled_bitmap.ensures)

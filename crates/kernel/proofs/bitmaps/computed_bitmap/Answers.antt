@@ -12,7 +12,7 @@ use Rattle.model.specs.Table.{plan_of}
 use Rattle.kernel.proofs.bitmaps.computed_bitmap.Goals as goal
 
 pub returns-clause-all : goal.returns-clause-all
-returns-clause-all c =
+returns-clause-all g c =
     let task = c.args.task.now in
     let sig = task.out.c.signature in
     let domain : c.answer_of-from.result ≡ (plan_of sig (renamed_operation signature_of (operation_of task))).domain =

@@ -3,8 +3,8 @@ use Rattle.kernel.proofs.bitmaps.operation_bitmap.Goals as goal
 
 pub returns-in-OfOne-clause-all : goal.returns-in-OfOne-clause-all
 unfolding operation
-returns-in-OfOne-clause-all c = rw c.in-OfOne.is c.one_bitmap.ensures.all
+returns-in-OfOne-clause-all g c = rw c.in-OfOne.is c.one_bitmap.ensures.all
 
 pub returns-in-OfTwo-clause-all : goal.returns-in-OfTwo-clause-all
 unfolding operation
-returns-in-OfTwo-clause-all c = rw c.in-OfTwo.is c.two_bitmap.ensures
+returns-in-OfTwo-clause-all g c = rw c.in-OfTwo.is c.two_bitmap.ensures

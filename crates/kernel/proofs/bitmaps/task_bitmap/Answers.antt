@@ -3,7 +3,7 @@ use Rattle.kernel.proofs.BitmapLaws.{all-written}
 use Rattle.kernel.proofs.bitmaps.task_bitmap.Goals as goal
 
 pub returns : goal.returns
-returns c =
+returns g c =
     let had = c.in_ok-computed.ensures in
     let left = c.in_ok-written.ensures in
     all-written c.args.task.now c.in-Some.writing c.in-Some-2.computed c.in_ok-written.written c.in-Some.ensures

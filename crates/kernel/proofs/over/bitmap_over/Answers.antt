@@ -9,12 +9,12 @@ use Rattle.model.specs.Object.{Content}
 use Rattle.kernel.proofs.over.bitmap_over.Goals as goal
 
 pub taken-task-requires-clause-inputs : goal.taken-task-requires-clause-inputs
-taken-task-requires-clause-inputs c =
+taken-task-requires-clause-inputs g c =
     let accepted = c.args.accepted.now in
     takes-beside (known_by_role accepted.out accepted.operation) c.args.old c.args.stores.now c.requires.inputs
 
 pub returns : goal.returns
-returns c =
+returns g c =
     let accepted = c.args.accepted.now in
     let maps : Role → Content = λ role. map_in (beside c.args.old.now c.args.stores.now role) in
     let same : maps_in (record c.args.stores.now { old = Some c.args.old }) ≡ maps = λ x role. maps-beside c.args.old c.args.stores.now role x in

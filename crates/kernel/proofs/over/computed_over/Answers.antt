@@ -16,39 +16,39 @@ use Rattle.store.specs.Stored.{Block, block_content}
 use Rattle.kernel.proofs.over.computed_over.Goals as goal
 
 pub mask_in-mask-requires : goal.mask_in-mask-requires
-mask_in-mask-requires c = c.requires.inputs Mask
+mask_in-mask-requires g c = c.requires.inputs Mask
 
 pub write_into-requires-clause-past : goal.write_into-requires-clause-past
-write_into-requires-clause-past c =
+write_into-requires-clause-past g c =
     let out = c.args.accepted.now.out in
     c.in_ok-t.ensures.past_is ∙ sym (old-taken out c.args.accepted.now.operation c.args.old (c.requires.inputs Old)).rows
 
 pub write_into-requires-clause-cols : goal.write_into-requires-clause-cols
-write_into-requires-clause-cols c =
+write_into-requires-clause-cols g c =
     let out = c.args.accepted.now.out in
     c.in_ok-t.ensures.cols_are ∙ sym (old-taken out c.args.accepted.now.operation c.args.old (c.requires.inputs Old)).cols
 
 pub write_into-requires-clause-mask : goal.write_into-requires-clause-mask
-write_into-requires-clause-mask c =
+write_into-requires-clause-mask g c =
     let out = c.args.accepted.now.out in
     let old = old-taken out c.args.accepted.now.operation c.args.old (c.requires.inputs Old) in
     mask-cols c.mask_in-mask.result _ _ c.args.old.cols c.mask_in-mask.ensures.shape (sym old.cols)
 
 pub prove_eq-unreachable-requires : goal.prove_eq-unreachable-requires
-prove_eq-unreachable-requires c =
+prove_eq-unreachable-requires g c =
     let old = old-taken c.args.accepted.now.out c.args.accepted.now.operation c.args.old (c.requires.inputs Old) in
     c.if-prove_eq.true (c.rows.ensures.rows ∙ c.write_into.ensures.rows ∙ old.rows ∙ sym c.rows-2.ensures)
 
 pub returns-clause-rows : goal.returns-clause-rows
-returns-clause-rows c =
+returns-clause-rows g c =
     c.write_into.ensures.rows ∙ (old-taken c.args.accepted.now.out c.args.accepted.now.operation c.args.old (c.requires.inputs Old)).rows
 
 pub returns-clause-cols : goal.returns-clause-cols
-returns-clause-cols c =
+returns-clause-cols g c =
     c.write_into.ensures.cols ∙ (old-taken c.args.accepted.now.out c.args.accepted.now.operation c.args.old (c.requires.inputs Old)).cols
 
 pub returns-clause-content : goal.returns-clause-content
-returns-clause-content c =
+returns-clause-content g c =
     let accepted = c.args.accepted.now in
     let maps : Role → Content = λ role. map_in (beside c.args.old c.args.stores.now role) in
     let out = out_with accepted.out maps in

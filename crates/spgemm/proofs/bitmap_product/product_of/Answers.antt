@@ -1,11 +1,12 @@
 use Rattle.std.proofs.Common.{◌∙◌}
 use Rattle.spgemm.proofs.BitmapSums.{product_down}
-use Rattle.spgemm.proofs.bitmap_product.multiply_bitmap.Goals as goal
+use Rattle.spgemm.proofs.bitmap_product.product_of.Goals as goal
 
 pub returns-clause-content : goal.returns-clause-content
 returns-clause-content c = λ i j.
+    let f = c.args.factors in
     let made = c.of_bits-made.result in
-    product_down c.args.semiring c.args.u.now c.args.a.now made c.in_ok-bits.bits.items c.in_ok-bits.sums.items i j
+    product_down f.semiring f.u.now f.a.now made c.in_ok-bits.bits.items c.in_ok-bits.words.items i j
     (record {
       sums = c.in_ok-bits.ensures.sums;
       each = c.in_ok-bits.ensures.words;

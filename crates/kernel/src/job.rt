@@ -1,0 +1,242 @@
+//! What of a task decides where it is cut into pieces of rows.
+use crate::bitmaps::makes_column;
+use calls::{Accepted, OneInput, Operation, Recipe, Region, Roles, TwoInputs};
+use model::Form as Factors;
+use store::{Form, Sparse, Store};
+
+/// How much work each piece has at least, in entries: less takes about as long as to wake a thread for it and to join it.
+const LEAST_WORK: u64 = 131_072;
+
+/// How many pieces each thread gets of a product of matrices of lists: its rows may take very different times, and no
+/// thread is to work on a long piece while the others have nothing left.
+const PRODUCT_PIECES: u64 = 4;
+
+/// How many pieces each thread gets of other operations, of which each entry, or each row, takes about the same time.
+const EVEN_PIECES: u64 = 2;
+
+/// How many pieces each thread gets of a transpose, of which each goes along all rows of the input.
+const TRANSPOSE_PIECES: u64 = 1;
+
+/// How many pieces there are at most: each takes a part of the time in which they are handed out and joined.
+pub(crate) const MOST_PIECES: u64 = 256;
+
+/// How much work it takes to look an index of a list up, or to put it in order, in entries.
+const LISTED: u64 = 4;
+
+/// What of a task decides where it is cut.
+#[derive(Clone, Copy)]
+pub(crate) struct Job<'a> {
+    pub(crate) along: Along<'a>,
+    // About how many entries, or products, the whole task goes along.
+    work: u64,
+    // ..and how many each piece does, beside its part of these.
+    again: u64,
+    pieces_a_thread: u64,
+}
+
+/// Along what the pieces of a task are even.
+#[derive(Clone, Copy)]
+pub(crate) enum Along<'a> {
+    /// The entries in an input's rows, which are the output's.
+    Rows(&'a Sparse),
+    /// The entries in an input's columns, which are the output's rows.
+    Columns(&'a Sparse),
+    /// The output's rows, of which there are so many.
+    Evenly(u64),
+}
+
+impl<'a> Job<'a> {
+    /// How a recipe is cut; None where it isn't.
+    pub(crate) fn of(recipe: &Recipe, stores: &Roles<&'a Store>) -> Option<Job<'a>> {
+        let a = stores.first?;
+        let job = match recipe {
+            Recipe::Transposed(_) => job_of_transpose(a)?,
+            Recipe::Computed(computation) => job_of_operation(&computation.accepted, a, stores)?,
+            _ => return None,
+        };
+        Some(Job {
+            again: job.again.saturating_add(turned_entries(stores)),
+            ..job
+        })
+    }
+
+    /// How many pieces are about worth it for so many threads.
+    pub(crate) fn count_pieces(&self, threads: u64) -> u64 {
+        if threads < 2 {
+            return 1;
+        }
+        // Where rows have many entries each, there are up to twice as many pieces.
+        let most = threads
+            .saturating_mul(self.pieces_a_thread)
+            .min(MOST_PIECES / 2);
+        most.min(self.work / LEAST_WORK.max(self.again))
+    }
+}
+
+/// How an operation is cut whose first input is `a`.
+fn job_of_operation<'a>(
+    accepted: &Accepted,
+    a: &'a Store,
+    stores: &Roles<&'a Store>,
+) -> Option<Job<'a>> {
+    match &accepted.operation {
+        Operation::Fill { .. } => None,
+        Operation::OfOne { computes, .. } => job_of_one(accepted, computes, a, stores.old),
+        Operation::OfTwo { computes, .. } => {
+            job_of_two(accepted, *computes, a, stores.second?, stores.old)
+        }
+    }
+}
+
+/// How an operation on one input is cut.
+fn job_of_one<'a>(
+    accepted: &Accepted,
+    computes: &OneInput,
+    a: &'a Store,
+    old: Option<&'a Store>,
+) -> Option<Job<'a>> {
+    match computes {
+        OneInput::Apply(_) | OneInput::Select { .. } | OneInput::ReduceRows(_) => {
+            job_along(a, a.nvals())
+        }
+        OneInput::Transpose => job_of_transpose(a),
+        OneInput::Extract(region) => job_of_extract(region, a, accepted.out.c.shape.rows()),
+        // A vector is written in place, where few entries are.
+        OneInput::Assign(_) if accepted.out.c.shape.cols() == 1 => None,
+        OneInput::Assign(region) => job_of_assign(region, a, old?),
+    }
+}
+
+/// How a transpose is cut: each piece takes some columns out of all rows. That pays where columns have an entry each,
+/// or more.
+fn job_of_transpose(a: &Store) -> Option<Job<'_>> {
+    let lists = lists_of(a)?;
+    if lists.cols() > lists.nvals() {
+        return None;
+    }
+    Some(Job {
+        along: Along::Columns(lists),
+        work: lists.nvals(),
+        again: 0,
+        pieces_a_thread: TRANSPOSE_PIECES,
+    })
+}
+
+/// How an extraction to so many rows is cut: along the input's, or along those that are listed. Each piece puts the
+/// columns that are listed in order.
+fn job_of_extract<'a>(region: &Region, a: &'a Store, rows: u64) -> Option<Job<'a>> {
+    let lists = lists_of(a)?;
+    let (listed, _) = listed_in(region);
+    if listed == 0 {
+        return Some(Job {
+            again: work_for_lists(region),
+            ..job_along(a, a.nvals())?
+        });
+    }
+    let entries_a_row = (lists.nvals() / lists.rows().max(1)).max(1);
+    Some(Job {
+        along: Along::Evenly(rows),
+        work: listed.saturating_mul(entries_a_row),
+        again: work_for_lists(region),
+        pieces_a_thread: EVEN_PIECES,
+    })
+}
+
+/// How it is cut that entries are put into a matrix: along what was there, which is written anew. Each piece looks
+/// through the lists.
+fn job_of_assign<'a>(region: &Region, a: &Store, old: &'a Store) -> Option<Job<'a>> {
+    Some(Job {
+        again: work_for_lists(region),
+        ..job_along(old, old.nvals().saturating_add(a.nvals()))?
+    })
+}
+
+/// The work that the lists of a region make for each piece.
+fn work_for_lists(region: &Region) -> u64 {
+    let (rows, cols) = listed_in(region);
+    rows.saturating_add(cols).saturating_mul(LISTED)
+}
+
+/// How many rows and columns a region lists; `:` lists none.
+fn listed_in(region: &Region) -> (u64, u64) {
+    match region {
+        Region::One(rows) => (rows.count(0), 0),
+        Region::Two(rows, cols) => (rows.count(0), cols.count(0)),
+    }
+}
+
+/// How an operation on two inputs is cut.
+fn job_of_two<'a>(
+    accepted: &Accepted,
+    computes: TwoInputs,
+    a: &'a Store,
+    b: &'a Store,
+    old: Option<&Store>,
+) -> Option<Job<'a>> {
+    match computes {
+        TwoInputs::Combine { .. } => {
+            // Both have the output's rows. The pieces are even along the one that has more entries.
+            let by = if a.nvals() < b.nvals() { b } else { a };
+            job_along(by, a.nvals().saturating_add(b.nvals()))
+        }
+        TwoInputs::Multiply { form, .. } => match form {
+            Factors::MatrixMatrix => Some(job_of_product(a, b)),
+            Factors::MatrixVector if makes_column(&accepted.out, old, a, b) => None,
+            Factors::MatrixVector => job_along(a, a.nvals()),
+            // Each piece would go along all rows of the matrix.
+            Factors::VectorMatrix => None,
+        },
+    }
+}
+
+/// How a product of two matrices is cut: for each entry of the first there are about as many products as entries in a
+/// row of the second. The rows of a bitmap have about as many entries each.
+fn job_of_product<'a>(a: &'a Store, b: &Store) -> Job<'a> {
+    let products = (b.nvals() / b.rows().max(1)).max(1);
+    let (along, pieces_a_thread) = match a.form() {
+        Form::Sparse(lists) => (Along::Rows(lists), PRODUCT_PIECES),
+        Form::Bitmap(bitmap) => (Along::Evenly(bitmap.rows()), EVEN_PIECES),
+    };
+    Job {
+        along,
+        work: a.nvals().saturating_mul(products),
+        again: 0,
+        pieces_a_thread,
+    }
+}
+
+/// How an operation is cut that takes about the same time for each entry.
+fn job_along(by: &Store, work: u64) -> Option<Job<'_>> {
+    let lists = lists_of(by)?;
+    Some(Job {
+        along: Along::Rows(lists),
+        work,
+        again: 0,
+        pieces_a_thread: EVEN_PIECES,
+    })
+}
+
+/// The lists of a store that is no bitmap: of one each piece would make the lists anew, and an operation that goes
+/// along bitmaps is done in one piece.
+fn lists_of(store: &Store) -> Option<&Sparse> {
+    match store.form() {
+        Form::Sparse(lists) => Some(lists),
+        Form::Bitmap(_) => None,
+    }
+}
+
+/// How many entries each piece turns into lists, before it begins: those of the bitmaps among the stores.
+fn turned_entries(stores: &Roles<&Store>) -> u64 {
+    bitmap_entries(stores.old)
+        .saturating_add(bitmap_entries(stores.mask))
+        .saturating_add(bitmap_entries(stores.first))
+        .saturating_add(bitmap_entries(stores.second))
+}
+
+/// The entries of a store that is a bitmap.
+fn bitmap_entries(store: Option<&Store>) -> u64 {
+    match store {
+        Some(store) if lists_of(store).is_none() => store.nvals(),
+        _ => 0,
+    }
+}
