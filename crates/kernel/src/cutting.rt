@@ -100,16 +100,17 @@ fn cut_columns(alloc: Global, by: &Sparse, least: u64, pieces: u64) -> Result<Ve
     Ok(columns)
 }
 
-/// Some of so many rows, at which they are cut into so many parts of about as many, and of at least so many.
+/// Some of so many rows, at which they are cut into so many parts of about as many, and of at least so many but for the
+/// last.
 fn cut_evenly(alloc: Global, rows: u64, least: u64, pieces: u64) -> Result<Vec<u64>, NoMemory>
     ensures { IfOk result (λ cuts. AllPairs (λ row later. row < later) cuts.items) }
 {
-    let part = rows.div_ceil(pieces.max(1));
+    let part = rows.div_ceil(pieces.max(1)).max(least);
     let mut cuts = Vec::new(alloc);
     let mut last = 0u64;
     for piece in 1..pieces {
         let row = part.saturating_mul(piece);
-        if may_cut(rows, last, row, least) {
+        if last < row && row < rows {
             cuts.push(row)?;
             last = row;
         }
@@ -117,11 +118,11 @@ fn cut_evenly(alloc: Global, rows: u64, least: u64, pieces: u64) -> Result<Vec<u
     Ok(cuts)
 }
 
-/// Whether a row or column stands far enough behind the last one at which so many were cut, and before their end.
-fn may_cut(count: u64, last: u64, at: u64, least: u64) -> bool
-    ensures { IsTrue result → last < at }
+/// Whether a column stands far enough behind the last one at which so many were cut, and before their end.
+fn may_cut(cols: u64, last: u64, column: u64, least: u64) -> bool
+    ensures { IsTrue result → last < column }
 {
-    last < at && at - last >= least && at < count && count - at >= least
+    last < column && column - last >= least && column < cols && cols - column >= least
 }
 
 /// The columns of some entries, in order.

@@ -81,7 +81,7 @@ fn job_of_operation<'a>(
 ) -> Option<Job<'a>> {
     match &accepted.operation {
         Operation::Fill { .. } => None,
-        Operation::OfOne { computes, .. } => job_of_one(accepted, computes, a, stores.old),
+        Operation::OfOne { computes, .. } => job_of_one(accepted, computes, a),
         Operation::OfTwo { computes, .. } => {
             job_of_two(accepted, *computes, a, stores.second?, stores.old)
         }
@@ -89,21 +89,15 @@ fn job_of_operation<'a>(
 }
 
 /// How an operation on one input is cut.
-fn job_of_one<'a>(
-    accepted: &Accepted,
-    computes: &OneInput,
-    a: &'a Store,
-    old: Option<&'a Store>,
-) -> Option<Job<'a>> {
+fn job_of_one<'a>(accepted: &Accepted, computes: &OneInput, a: &'a Store) -> Option<Job<'a>> {
     match computes {
         OneInput::Apply(_) | OneInput::Select { .. } | OneInput::ReduceRows(_) => {
             job_along(a, a.nvals())
         }
         OneInput::Transpose => job_of_transpose(a),
         OneInput::Extract(region) => job_of_extract(region, a, accepted.out.c.shape.rows()),
-        // A vector is written in place, where few entries are.
-        OneInput::Assign(_) if accepted.out.c.shape.cols() == 1 => None,
-        OneInput::Assign(region) => job_of_assign(region, a, old?),
+        // Most of what was there is copied, which to join the pieces would do again.
+        OneInput::Assign(_) => None,
     }
 }
 
@@ -139,15 +133,6 @@ fn job_of_extract<'a>(region: &Region, a: &'a Store, rows: u64) -> Option<Job<'a
         work: listed.saturating_mul(entries_a_row),
         again: work_for_lists(region),
         pieces_a_thread: EVEN_PIECES,
-    })
-}
-
-/// How it is cut that entries are put into a matrix: along what was there, which is written anew. Each piece looks
-/// through the lists.
-fn job_of_assign<'a>(region: &Region, a: &Store, old: &'a Store) -> Option<Job<'a>> {
-    Some(Job {
-        again: work_for_lists(region),
-        ..job_along(old, old.nvals().saturating_add(a.nvals()))?
     })
 }
 
