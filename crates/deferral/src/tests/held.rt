@@ -20,7 +20,8 @@ use std::time::{Clock, Duration};
 const TURNS: u64 = 10_000;
 
 // A full vector is made first, and then read by one task and edited by another.
-const SCRIPT: &str = "vector V INT64 8192\nvector W INT64 8192\nfill V - - 3 : -\nwait V complete\n\
+const SCRIPT: &str =
+    "vector V INT64 65536\nvector W INT64 65536\nfill V - - 3 : -\nwait V complete\n\
         apply W - - IDENTITY.INT64 V -\nset V 5 9\nremove V 6\nget V 5\nnvals V\nget W 5\nget W 6\nnvals W\n";
 
 /// Pieces that came to the gate, and those that gave up there.
