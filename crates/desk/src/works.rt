@@ -72,8 +72,8 @@ pub fn take<P: Picker, N: Drop>(picker: &mut P, board: &mut Board<N>) -> Option<
 }
 
 /// The store of the object that a piece makes which is all of its task. What it was made of stays in the piece, but for
-/// a store that was edited, or that nobody shared and that was written in place. A product of a vector and a matrix that
-/// goes along bitmaps is made by `products`.
+/// a store that was edited, or that nobody shared and that was written in place. A product of a vector and a matrix
+/// that goes along bitmaps is made by `products`.
 pub fn made_of<V: VectorProducts>(
     products: &V,
     alloc: Global,

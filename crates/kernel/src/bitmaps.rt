@@ -48,8 +48,8 @@ enum Writing<'a> {
     Over { old: &'a Bitmap, op: BinaryOp },
 }
 
-/// All that a task leaves in its output, where no mask keeps some of that as it was, and it goes along bitmaps. Products
-/// with a vector are made by `products`.
+/// All that a task leaves in its output, where no mask keeps some of that as it was, and it goes along bitmaps.
+/// Products with a vector are made by `products`.
 pub(crate) fn task_bitmap<P: VectorProducts>(
     products: &P,
     alloc: Global,

@@ -4,7 +4,8 @@ use calls::{Accepted, OneInput, Operation, Recipe, Region, Roles, TwoInputs};
 use model::Form as Factors;
 use store::{Form, Sparse, Store};
 
-/// How much work each piece has at least, in entries: less takes about as long as to wake a thread for it and to join it.
+/// How much work each piece has at least, in entries: less takes about as long as to wake a thread for it, and to join
+/// it.
 const LEAST_WORK: u64 = 131_072;
 
 /// How many pieces each thread gets of a product of matrices of lists: its rows may take very different times, and no
