@@ -11,8 +11,8 @@ ghost use Rattle.model.specs.Entries.{word_at};
 ghost use Rattle.model.specs.Object.{cast_content};
 ghost use Rattle.bitmap.specs.Bitmaps.{place_of};
 
-use crate::Bitmap;
-use crate::making::{united, zipped};
+use crate::making::Words;
+use crate::{Bitmap, WordMaker};
 use algebra::{BinaryOp, Domain, Monoid};
 use lanes::{and_words, cast_words, count_ones, fold_present, or_words};
 use model::NoMemory;
@@ -84,7 +84,12 @@ impl Bitmap {
     }
 
     /// The entries at the places whose bits are set.
-    pub fn keep(&self, alloc: Global, keeps: &[u64]) -> Result<Bitmap, NoMemory>
+    pub fn keep<M: WordMaker>(
+        &self,
+        maker: &M,
+        alloc: Global,
+        keeps: &[u64],
+    ) -> Result<Bitmap, NoMemory>
         requires { length keeps.now ≡ self.now.rows * self.now.cols / 64 + 1 }
         ensures rows { IfOk result (λ b. b.rows ≡ self.now.rows) }
         ensures cols { IfOk result (λ b. b.cols ≡ self.now.cols) }
@@ -92,8 +97,8 @@ impl Bitmap {
             ≡ (if has_bit keeps.now (place_of self.now.cols i j) then word_at self.now.entries i j else None)) }
     {
         let mut bits = vec![in alloc; 0; self.bits.len()]?;
-        let words = self.words.clone()?;
         and_words(&self.bits, keeps, &mut bits);
+        let words = maker.make(alloc, Words::Copied { a: &self.words })?;
         Ok(Bitmap {
             count: count_ones(&bits),
             bits,
@@ -103,7 +108,8 @@ impl Bitmap {
     }
 
     /// What the operator gives where both bitmaps have an entry, and nothing elsewhere.
-    pub fn intersect(
+    pub fn intersect<M: WordMaker>(
+        maker: &M,
         alloc: Global,
         a: &Bitmap,
         b: &Bitmap,
@@ -118,7 +124,15 @@ impl Bitmap {
     {
         let mut bits = vec![in alloc; 0; a.bits.len()]?;
         and_words(&a.bits, &b.bits, &mut bits);
-        let words = zipped(alloc, op, &a.words, &b.words)?;
+        let (left, right) = (&a.words, &b.words);
+        let words = maker.make(
+            alloc,
+            Words::Zipped {
+                op,
+                a: left,
+                b: right,
+            },
+        )?;
         Ok(Bitmap {
             count: count_ones(&bits),
             bits,
@@ -129,7 +143,13 @@ impl Bitmap {
 
     /// What the operator gives where both bitmaps have an entry, and where one alone has one its word, cast to the
     /// domain of the answer.
-    pub fn unite(alloc: Global, a: &Bitmap, b: &Bitmap, op: BinaryOp) -> Result<Bitmap, NoMemory>
+    pub fn unite<M: WordMaker>(
+        maker: &M,
+        alloc: Global,
+        a: &Bitmap,
+        b: &Bitmap,
+        op: BinaryOp,
+    ) -> Result<Bitmap, NoMemory>
         requires rows { b.now.rows ≡ a.now.rows }
         requires cols { b.now.cols ≡ a.now.cols }
         ensures rows { IfOk result (λ r. r.rows ≡ a.now.rows) }
@@ -141,7 +161,16 @@ impl Bitmap {
     {
         let mut bits = vec![in alloc; 0; a.bits.len()]?;
         or_words(&a.bits, &b.bits, &mut bits);
-        let words = united(alloc, op, &a.bits, &b.bits, &a.words, &b.words)?;
+        let words = maker.make(
+            alloc,
+            Words::United {
+                op,
+                left: &a.bits,
+                right: &b.bits,
+                a: &a.words,
+                b: &b.words,
+            },
+        )?;
         Ok(Bitmap {
             count: count_ones(&bits),
             bits,

@@ -6,5 +6,8 @@ mod column;
 mod full;
 mod kernels;
 mod making;
+mod threads;
 
 pub use bitmap::Bitmap;
+pub use making::Words;
+pub use threads::{OneThread, SeveralThreads, WordMaker};

@@ -1,108 +1,215 @@
-//! Words of two lists combined, in memory of their own. They are made part by part, so that a part stays in the cache
-//! between the time when its memory is cleared and the operator.
-ghost use Rattle.std.specs.Prelude.{◌≡◌, ◌<◌, ◌+◌, ◌*◌, ◌++◌, ℕ, IfOk, OnOk, length, slice_index};
-ghost use Rattle.algebra.specs.Operators.{eval_of};
-ghost use Rattle.lanes.specs.Bits.{has_bit, united_at};
-ghost use Rattle.lanes.specs.Lists.{zip_with};
+//! Words that are made of those of others, each of what stands in its place there.
+ghost use Rattle.std.specs.Prelude.{◌≡◌, ◌<◌, ◌≤◌, ◌+◌, ◌*◌, ◌/◌, ◌%◌, ◌==◌, ℕ, IfOk, OnOk, length, slice_index};
+ghost use Rattle.std.specs.Int.{bit_at};
+ghost use Rattle.algebra.specs.IndexOperators.{passes};
+ghost use Rattle.bitmap.specs.Words.{Fits, IsMade, places_of};
 
-use algebra::BinaryOp;
-use lanes::{unite_present, zip_words};
+use algebra::{BinaryOp, IndexOp};
+use lanes::{WordFunction, mark_passing, unite_present, write_answers, zip_words};
 use model::NoMemory;
 use std::alloc::Global;
+use std::thread::{Threads, join_mut};
 
 /// How many words a part has: those of whole words of bits. Each part costs a call by the operator, and smaller ones
 /// gained nothing where all lists lie in the second cache.
 const PART: usize = 4096;
 
-/// What the operator gives for the words of both lists in the same place.
-pub(crate) fn zipped(
-    alloc: Global,
-    op: BinaryOp,
-    a: &[u64],
-    b: &[u64],
-) -> Result<Vec<u64>, NoMemory>
-    requires { length b.now ≡ length a.now }
-    ensures { IfOk result (λ made. made.items ≡ zip_with (eval_of op.kind op.domain) a.now b.now) }
+/// What words are made of.
+#[derive(Clone, Copy)]
+pub enum Words<'a> {
+    /// Words as they are.
+    Copied {
+        a: &'a [u64],
+    },
+    /// What a function gives for each word.
+    Mapped {
+        function: WordFunction,
+        a: &'a [u64],
+    },
+    /// What an index operator gives for each word, with the word `s` as its scalar, in rows of so many columns.
+    Answers {
+        op: IndexOp,
+        s: u64,
+        cols: u64,
+        a: &'a [u64],
+    },
+    /// A bit for each word, 64 in one: whether it passes such a test. One word more is made where 64 divides their
+    /// number.
+    Passing {
+        op: IndexOp,
+        s: u64,
+        cols: u64,
+        a: &'a [u64],
+    },
+    /// What an operator gives for the words of both lists in the same place.
+    Zipped {
+        op: BinaryOp,
+        a: &'a [u64],
+        b: &'a [u64],
+    },
+    /// What a union has in each place, by the bits of both sides.
+    United {
+        op: BinaryOp,
+        left: &'a [u64],
+        right: &'a [u64],
+        a: &'a [u64],
+        b: &'a [u64],
+    },
+}
+
+impl<'a> Words<'a> {
+    /// How many there are.
+    pub(crate) fn places(self) -> usize
+        ensures { result ≡ places_of self.entry }
+    {
+        match self {
+            Words::Passing { a, .. } => a.len() / 64 + 1,
+            Words::Copied { a }
+            | Words::Mapped { a, .. }
+            | Words::Answers { a, .. }
+            | Words::Zipped { a, .. }
+            | Words::United { a, .. } => a.len(),
+        }
+    }
+
+    /// How many words are read of a list.
+    pub(crate) fn read(self) -> usize {
+        match self {
+            Words::Passing { a, .. } => a.len(),
+            _ => self.places(),
+        }
+    }
+
+    /// Makes those of a part, of which `start` is the first.
+    fn fill(self, start: usize, part: &mut [u64])
+        requires fits { Fits self }
+        requires inside { start + length part.old ≤ places_of self }
+        requires bits { start % 64 ≡ 0 }
+        ensures length { length part.new ≡ length part.old }
+        ensures words { (k : ℕ) → k < length part.old → IsMade self.entry (start + k) (slice_index part.new k) }
+    {
+        let past = start + part.len();
+        match self {
+            Words::Copied { a } => part.copy_from_slice(&a[start..past]),
+            Words::Mapped { function, a } => {
+                part.copy_from_slice(&a[start..past]);
+                function.change(part);
+            }
+            Words::Answers { op, s, cols, a } => {
+                part.copy_from_slice(&a[start..past]);
+                write_answers(op, s, cols, start, part);
+            }
+            Words::Passing { op, s, cols, a } => fill_passing(op, s, cols, a, start, part),
+            Words::Zipped { op, a, b } => zip_words(op, &a[start..past], &b[start..past], part),
+            Words::United {
+                op,
+                left,
+                right,
+                a,
+                b,
+            } => {
+                let (left, right) = (&left[start / 64..], &right[start / 64..]);
+                unite_present(op, left, right, &a[start..past], &b[start..past], part);
+            }
+        }
+    }
+}
+
+/// Makes a part of the bits of words that pass, of which that in place `start` is the first.
+fn fill_passing(op: IndexOp, s: u64, cols: u64, words: &[u64], start: usize, part: &mut [u64])
+    requires cols { 0 < length words.now → 0 < cols }
+    requires inside { start + length part.old ≤ length words.now / 64 + 1 }
+    ensures length { length part.new ≡ length part.old }
+    ensures bits { (k b : ℕ) → k < length part.old → b < 64 → 64 * (start + k) + b < length words.now
+        → (bit_at (slice_index part.new k) b == 1) ≡ passes op.kind op.domain
+        (slice_index words.now (64 * (start + k) + b)) ((64 * (start + k) + b) / cols)
+        ((64 * (start + k) + b) % cols) s }
 {
-    let mut made = Vec::with_capacity(alloc, a.len())?;
-    let (mut lefts, mut rights) = (a, b);
-    while !lefts.is_empty() {
-        let count = lefts.len().min(PART);
-        let (left, other_lefts) = lefts.split_at(count);
-        let (right, other_rights) = rights.split_at(count);
-        append_zipped(&mut made, op, left, right)?;
-        (lefts, rights) = (other_lefts, other_rights);
+    let from = words.len().min(64 * start);
+    let past = words.len().min(from + 64 * part.len());
+    mark_passing(op, s, cols, from, &words[from..past], part);
+}
+
+/// The words, by the calling thread. They are made part by part, so that a part stays in the cache between the time
+/// when its memory is cleared and the operator.
+pub(crate) fn make_alone(alloc: Global, words: Words<'_>) -> Result<Vec<u64>, NoMemory>
+    requires { Fits words }
+    ensures length { IfOk result (λ made. length made.items ≡ places_of words.entry) }
+    ensures words { IfOk result (λ made. (k : ℕ) → k < places_of words.entry
+        → IsMade words.entry k (slice_index made.items k)) }
+{
+    let places = words.places();
+    let mut made = Vec::with_capacity(alloc, places)?;
+    for part in 0..places.div_ceil(PART) {
+        let past = places.min((part + 1) * PART);
+        append(&mut made, words, past)?;
     }
     Ok(made)
 }
 
-/// Appends what the operator gives for the words of both lists.
-fn append_zipped(made: &mut Vec<u64>, op: BinaryOp, a: &[u64], b: &[u64]) -> Result<(), NoMemory>
-    requires { length b.now ≡ length a.now }
-    ensures { OnOk result (made.new.items
-        ≡ made.old.items ++ zip_with (eval_of op.kind op.domain) a.now b.now) }
-{
-    let done = made.len();
-    made.resize(done + a.len(), 0)?;
-    zip_words(op, a, b, &mut made[done..]);
-    Ok(())
-}
-
-/// What a union has in each place, by the bits of both sides.
-pub(crate) fn united(
-    alloc: Global,
-    op: BinaryOp,
-    left: &[u64],
-    right: &[u64],
-    a: &[u64],
-    b: &[u64],
-) -> Result<Vec<u64>, NoMemory>
-    requires left { length a.now < 64 * length left.now }
-    requires right { length a.now < 64 * length right.now }
-    requires lengths { length b.now ≡ length a.now }
-    ensures length { IfOk result (λ made. length made.items ≡ length a.now) }
-    ensures words { IfOk result (λ made. (k : ℕ) → k < length a.now → slice_index made.items k
-        ≡ united_at op.kind op.domain (has_bit left.now k) (has_bit right.now k) (slice_index a.now k)
-        (slice_index b.now k)) }
-{
-    let mut made = Vec::with_capacity(alloc, a.len())?;
-    for part in 0..a.len().div_ceil(PART) {
-        let from = part * PART;
-        let past = a.len().min(from + PART);
-        let bits = from / 64;
-        append_united(
-            &mut made,
-            op,
-            &left[bits..],
-            &right[bits..],
-            &a[from..past],
-            &b[from..past],
-        )?;
-    }
-    Ok(made)
-}
-
-/// Appends what a union has in each place.
-fn append_united(
-    made: &mut Vec<u64>,
-    op: BinaryOp,
-    left: &[u64],
-    right: &[u64],
-    a: &[u64],
-    b: &[u64],
-) -> Result<(), NoMemory>
-    requires left { length a.now < 64 * length left.now }
-    requires right { length a.now < 64 * length right.now }
-    requires lengths { length b.now ≡ length a.now }
-    ensures length { OnOk result (length made.new.items ≡ length made.old.items + length a.now) }
+/// Appends the words up to a place.
+fn append(made: &mut Vec<u64>, words: Words<'_>, past: usize) -> Result<(), NoMemory>
+    requires fits { Fits words }
+    requires order { length made.old.items ≤ past }
+    requires inside { past ≤ places_of words }
+    requires bits { length made.old.items % 64 ≡ 0 }
+    ensures length { OnOk result (length made.new.items ≡ past) }
     ensures before { OnOk result ((k : ℕ) → k < length made.old.items
         → slice_index made.new.items k ≡ slice_index made.old.items k) }
-    ensures words { OnOk result ((k : ℕ) → k < length a.now → slice_index made.new.items (length made.old.items + k)
-        ≡ united_at op.kind op.domain (has_bit left.now k) (has_bit right.now k) (slice_index a.now k)
-        (slice_index b.now k)) }
+    ensures words { OnOk result ((k : ℕ) → length made.old.items ≤ k → k < past
+        → IsMade words.entry k (slice_index made.new.items k)) }
 {
-    let done = made.len();
-    made.resize(done + a.len(), 0)?;
-    unite_present(op, left, right, a, b, &mut made[done..]);
+    let start = made.len();
+    match words {
+        Words::Copied { a } => made.extend_from_slice(&a[start..past])?,
+        Words::Mapped { function, a } => {
+            made.extend_from_slice(&a[start..past])?;
+            function.change(&mut made[start..]);
+        }
+        Words::Answers { op, s, cols, a } => {
+            made.extend_from_slice(&a[start..past])?;
+            write_answers(op, s, cols, start, &mut made[start..]);
+        }
+        _ => {
+            made.resize(past, 0)?;
+            words.fill(start, &mut made[start..]);
+        }
+    }
     Ok(())
+}
+
+/// Makes the words of a part, of which `start` is the first, by a thread for each so many of them.
+pub(crate) fn fill_beside<R: Threads>(
+    rt: &R,
+    words: Words<'_>,
+    start: usize,
+    each: usize,
+    part: &mut [u64],
+)
+    requires fits { Fits words }
+    requires each { 0 < each }
+    requires whole { each % 64 ≡ 0 }
+    requires bits { start % 64 ≡ 0 }
+    requires inside { start + length part.old ≤ places_of words }
+    ensures length { length part.new ≡ length part.old }
+    ensures words { (k : ℕ) → k < length part.old → IsMade words.entry (start + k) (slice_index part.new k) }
+{
+    if part.len() <= each {
+        words.fill(start, part);
+        return;
+    }
+    let (low, high) = part.split_at_mut(each);
+    let next = start + each;
+    let mut front = ||
+        requires { (Fits words) × (start + length low.now ≤ places_of words) × (start % 64 ≡ 0) }
+        ensures { (length low.exit.now ≡ length low.entry.now) × ((k : ℕ) → k < length low.entry.now
+            → IsMade words.entry (start + k) (slice_index low.exit.now k)) }
+    { words.fill(start, low) };
+    let mut back = ||
+        requires { (Fits words) × (0 < each) × (each % 64 ≡ 0) × (next % 64 ≡ 0)
+            × (next + length high.now ≤ places_of words) }
+        ensures { (length high.exit.now ≡ length high.entry.now) × ((k : ℕ) → k < length high.entry.now
+            → IsMade words.entry (next + k) (slice_index high.exit.now k)) }
+    { fill_beside(rt, words, next, each, high) };
+    join_mut(rt, &mut front, &mut back);
 }

@@ -1,10 +1,8 @@
 -- What is made at the places of a bitmap is made at its positions.
-use Rattle.std.proofs.Common.{◌≡◌, ℕ, ◌*◌, ◌+◌, ◌/◌, ◌%◌, ◌<◌, ◌≤◌, ◌&&◌, eqb, ltb, set, take, drop, true, false, if◌then◌else◌, cond, Bool, List, get_or, length, Option, Some, None, refl, ◌∙◌, ap, inl, inr, arith}
-use Rattle.std.specs.Int.{bit_at}
+use Rattle.std.proofs.Common.{◌≡◌, ℕ, ◌*◌, ◌/◌, ◌%◌, ◌<◌, ◌&&◌, ltb, true, false, if◌then◌else◌, cond, Bool, List, get_or, length, Option, Some, None, refl, ◌∙◌, ap, inl, inr, arith}
 use Rattle.std.specs.Option.{option_and_then, option_map}
-use Rattle.std.proofs.lemmas.Bool.{cases_Bool, cases_eq}
+use Rattle.std.proofs.lemmas.Bool.{cases_Bool}
 use Rattle.std.proofs.lemmas.Bool.Decides.{nat_tests}
-use Rattle.std.proofs.lemmas.List.{get_or-drop, get_or-set_other, get_or-set_same, get_or-take}
 use Rattle.std.proofs.lemmas.Nat.{div-mul-add, mod-mul-add}
 use Rattle.bitmap.specs.Bitmaps.{place_of}
 use Rattle.bitmap.proofs.PlaceLaws.{place_inside}
@@ -65,26 +63,3 @@ module _ (rows cols : ℕ) (es : List Entry) (words : List ℕ) (are : AreWordsO
             ap (λ b. cond b (Some w) None) (each at place.0 ∙ rw (div-mul-add i cols j place.1, mod-mul-add i cols j place.1, are.here i j w is) refl)
       ] in
       go (word_at es i j) refl
-
--- ---- words of bits
-
-pub part_word : (xs : List ℕ) (from n k : ℕ) → k < n → get_or (take n (drop from xs)) k 0 ≡ get_or xs (from + k) 0
-part_word xs from n k within = get_or-take n (drop from xs) k 0 within ∙ get_or-drop from xs k 0
-
--- a word of bits that is put in its place
-pub marked : (bits : List ℕ) (at word : ℕ) (f : ℕ → Bool) (m : ℕ) → at < length bits → m ≤ 64
-    → ((k : ℕ) → k < 64 * at → has_bit bits k ≡ f k)
-    → ((k : ℕ) → k < m → eqb (bit_at word k) 1 ≡ f (64 * at + k))
-    → (k : ℕ) → k < 64 * at + m → has_bit (set bits at word) k ≡ f k
-marked bits at word f m inside few done here k below =
-    elim (cases_eq (k / 64) at) [
-      | inl same ↦
-          let place : 64 * at + k % 64 ≡ k = omega arith in
-          let low : k % 64 < m = omega arith in
-          ap (λ i. eqb (bit_at (get_or (set bits at word) i 0) (k % 64)) 1) same
-          ∙ ap (λ w. eqb (bit_at w (k % 64)) 1) (get_or-set_same bits at word 0 inside)
-          ∙ here (k % 64) low ∙ ap f place
-      | inr other ↦
-          ap (λ w. eqb (bit_at w (k % 64)) 1) (get_or-set_other bits at (k / 64) word 0 other)
-          ∙ done k (omega (arith, other))
-    ]

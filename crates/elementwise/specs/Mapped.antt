@@ -1,13 +1,9 @@
 -- Entries of which each gets another word.
 use Rattle.std.specs.Prelude.{ℕ, if◌then◌else◌, Bool, List, map}
 use Rattle.algebra.specs.IndexOperators.{index_eval_of}
-use Rattle.algebra.specs.Operators.{eval_of}
-use Rattle.algebra.specs.UnaryOperators.{unary_eval_of}
 use Rattle.algebra.specs.declared.index.IndexOp.{IndexOp}
 use Rattle.model.specs.declared.entry.Entry.{Entry}
 use Rattle.model.specs.Entries.{entry_at}
-use Rattle.elementwise.specs.declared.mapping.WordFunction.{WordFunction}
-use Rattle.elementwise.specs.declared.mapping.WordFunction.TheVariants as function
 
 -- each entry with what a function gives for its row, its column and its word
 abbrev pub mapped : (ℕ → ℕ → ℕ → ℕ) → List Entry → List Entry
@@ -17,12 +13,6 @@ mapped f es = map (λ e. entry_at e.row e.col (f e.row e.col e.word)) es
 -- inner index
 abbrev pub as_they_lie : Bool → (ℕ → ℕ → ℕ → ℕ) → ℕ → ℕ → ℕ → ℕ
 as_they_lie is_column f outer inner word = if is_column then f inner outer word else f outer inner word
-
--- what a function of a word alone gives
-abbrev pub word_made : WordFunction → ℕ → ℕ
-word_made (function.Unary op) word = unary_eval_of op.kind op.domain word
-word_made (function.First op value) word = eval_of op.kind op.domain value word
-word_made (function.Second op value) word = eval_of op.kind op.domain word value
 
 -- what an index operator gives, with the word s as its scalar
 abbrev pub answer_by : IndexOp → ℕ → ℕ → ℕ → ℕ → ℕ

@@ -7,8 +7,9 @@ ghost use Rattle.store.specs.Fibers.{AreFlat, entries_in};
 ghost use Rattle.store.specs.Stored.{block_content, content_of};
 
 use crate::indexed::index_fibers;
-use crate::mapping::{WordFunction, map_fibers};
+use crate::mapping::map_fibers;
 use algebra::Function;
+use lanes::WordFunction;
 use model::NoMemory;
 use std::alloc::Global;
 use std::ops::Range;

@@ -4,8 +4,8 @@ ghost use Rattle.elementwise.specs.Mapped.{answer_by, as_they_lie, mapped};
 ghost use Rattle.lanes.specs.Lists.{zip_with};
 ghost use Rattle.store.specs.Fibers.{AreFlat, entries_from, entries_in};
 
-use crate::arms::with_index;
 use algebra::IndexOp;
+use lanes::with_index;
 use model::NoMemory;
 use std::alloc::Global;
 use store::{FiberEnd, FiberLists, Fibers};

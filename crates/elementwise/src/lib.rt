@@ -4,7 +4,6 @@
 #![tactic(auto)]
 
 mod apply;
-mod arms;
 mod bitmaps;
 mod indexed;
 mod intersect;

@@ -5,8 +5,8 @@ ghost use Rattle.elementwise.specs.Kept.{kept_indices, kept_words, passes_as_it_
 ghost use Rattle.store.specs.Fibers.{AreFlat, end_at, entries_from, entries_in};
 ghost use Rattle.store.specs.Walks.{AreLeft};
 
-use crate::arms::with_index;
 use algebra::IndexOp;
+use lanes::with_index;
 use model::NoMemory;
 use std::alloc::Global;
 use store::{FiberEnd, FiberLists, Fibers, FlatFibers};

@@ -9,9 +9,9 @@ ghost use Rattle.store.specs.Fibers.{AreFlat, entries_in};
 ghost use Rattle.store.specs.Stored.{AreIn, block_content, content_of, transposed};
 ghost use Rattle.store.specs.Walks.{AreLeft};
 
-use crate::mapping::{WordFunction, map_fibers};
+use crate::mapping::map_fibers;
 use algebra::Monoid;
-use lanes::{fold_words, with_monoid};
+use lanes::{WordFunction, fold_words, with_monoid};
 use model::NoMemory;
 use std::alloc::Global;
 use std::ops::Range;

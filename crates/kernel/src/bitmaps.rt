@@ -31,7 +31,7 @@ use crate::input::Input;
 use crate::output::accumulator_of;
 use crate::task::Task;
 use algebra::{BinaryOp, Domain, FunctionName, IndexName, OpName, Semiring, SemiringName};
-use bitmap::Bitmap;
+use bitmap::{Bitmap, WordMaker};
 use calls::{OneInput, Out, Positions, Region, Shape, Signature, TwoInputs};
 use elementwise::{apply_bitmap, select_bitmap};
 use model::{Lent, NoMemory};
@@ -49,7 +49,7 @@ enum Writing<'a> {
 }
 
 /// All that a task leaves in its output, where no mask keeps some of that as it was, and it goes along bitmaps.
-/// Products with a vector are made by `products`.
+/// The words, and products with a vector, are made by `products`.
 pub(crate) fn task_bitmap<P: VectorProducts>(
     products: &P,
     alloc: Global,
@@ -65,7 +65,7 @@ pub(crate) fn task_bitmap<P: VectorProducts>(
     let Some(computed) = computed_bitmap(products, alloc, task, writing)? else {
         return Ok(None);
     };
-    let written = write(alloc, writing, computed)?;
+    let written = write(products, alloc, writing, computed)?;
     Ok(Some(written))
 }
 
@@ -139,7 +139,12 @@ fn writes_all(out: &Out<Signature>, old: Option<&Store>) -> bool {
 }
 
 /// What is left where a bitmap was computed.
-fn write(alloc: Global, writing: Writing<'_>, computed: Bitmap) -> Result<Bitmap, NoMemory>
+fn write<M: WordMaker>(
+    maker: &M,
+    alloc: Global,
+    writing: Writing<'_>,
+    computed: Bitmap,
+) -> Result<Bitmap, NoMemory>
     requires { FitsOver writing computed }
     ensures rows { IfOk result (λ b. b.rows ≡ computed.rows) }
     ensures cols { IfOk result (λ b. b.cols ≡ computed.cols) }
@@ -148,7 +153,7 @@ fn write(alloc: Global, writing: Writing<'_>, computed: Bitmap) -> Result<Bitmap
 {
     match writing {
         Writing::Anew => Ok(computed),
-        Writing::Over { old, op } => Bitmap::unite(alloc, old, &computed, op),
+        Writing::Over { old, op } => Bitmap::unite(maker, alloc, old, &computed, op),
     }
 }
 
@@ -201,13 +206,14 @@ fn operation_bitmap<P: VectorProducts>(
 {
     match operation {
         Lent::Fill { .. } => Ok(None),
-        Lent::OfOne { computes, a } => one_bitmap(alloc, c, computes, a),
+        Lent::OfOne { computes, a } => one_bitmap(products, alloc, c, computes, a),
         Lent::OfTwo { computes, a, b } => two_bitmap(products, alloc, c, computes, a, b),
     }
 }
 
 /// What is computed of one input.
-fn one_bitmap(
+fn one_bitmap<M: WordMaker>(
+    maker: &M,
     alloc: Global,
     c: Signature,
     computes: &OneInput,
@@ -220,8 +226,8 @@ fn one_bitmap(
     ensures region { IfOk result (λ found. IfSome found (λ _. region_put computes.now ≡ None)) }
 {
     match computes {
-        OneInput::Apply(function) => applied_bitmap(alloc, a, *function),
-        OneInput::Select { op, scalar } => selected_bitmap(alloc, a, *op, *scalar),
+        OneInput::Apply(function) => applied_bitmap(maker, alloc, a, *function),
+        OneInput::Select { op, scalar } => selected_bitmap(maker, alloc, a, *op, *scalar),
         _ => Ok(None),
     }
 }
@@ -244,12 +250,15 @@ fn two_bitmap<P: VectorProducts>(
         TwoInputs::Multiply { form, semiring } => multiplied_bitmap(
             products, alloc, form, semiring, a, b,
         ),
-        TwoInputs::Combine { positions, op } => combined_bitmap(alloc, positions, op, a, b),
+        TwoInputs::Combine { positions, op } => combined_bitmap(
+            products, alloc, positions, op, a, b,
+        ),
     }
 }
 
 /// A function of each entry.
-fn applied_bitmap(
+fn applied_bitmap<M: WordMaker>(
+    maker: &M,
     alloc: Global,
     a: Input<'_>,
     function: FunctionName,
@@ -266,12 +275,13 @@ fn applied_bitmap(
     let Some(function) = function.resolve() else {
         unreachable!();
     };
-    let made = apply_bitmap(alloc, bitmap, function)?;
+    let made = apply_bitmap(maker, alloc, bitmap, function)?;
     Ok(Some(made))
 }
 
 /// The entries for which an index operator's answer is true.
-fn selected_bitmap(
+fn selected_bitmap<M: WordMaker>(
+    maker: &M,
     alloc: Global,
     a: Input<'_>,
     op: IndexName,
@@ -290,12 +300,13 @@ fn selected_bitmap(
         unreachable!();
     };
     let s = op.scalar().wrapped(scalar);
-    let made = select_bitmap(alloc, bitmap, op, s)?;
+    let made = select_bitmap(maker, alloc, bitmap, op, s)?;
     Ok(Some(made))
 }
 
 /// An operator's answers for two inputs, at the positions that either or both have.
-fn combined_bitmap(
+fn combined_bitmap<M: WordMaker>(
+    maker: &M,
     alloc: Global,
     positions: Positions,
     op: OpName,
@@ -322,11 +333,11 @@ fn combined_bitmap(
     };
     match positions {
         Positions::Union => {
-            let made = Bitmap::unite(alloc, left, right, op)?;
+            let made = Bitmap::unite(maker, alloc, left, right, op)?;
             Ok(Some(made))
         }
         Positions::Intersection => {
-            let made = Bitmap::intersect(alloc, left, right, op)?;
+            let made = Bitmap::intersect(maker, alloc, left, right, op)?;
             Ok(Some(made))
         }
     }

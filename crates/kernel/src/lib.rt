@@ -18,10 +18,11 @@ mod piece;
 mod product;
 mod task;
 
+pub use bitmap::{OneThread, SeveralThreads};
 pub use block::Block;
 pub use cutting::cuts;
 pub use evaluation::evaluate;
 pub use joining::join;
 pub use over::computed_over;
 pub use piece::{eval_piece, eval_piece_by, patch_over};
-pub use spgemm::{OneThread, SeveralThreads, VectorProducts};
+pub use spgemm::VectorProducts;

@@ -2,5 +2,6 @@ pub mod BitLaws
 pub mod Folded
 pub mod Kept
 pub mod Lists
+pub mod PartLaws
 pub mod PresentLaws
 pub mod WorkedFolds

@@ -8,6 +8,8 @@ mod binary;
 mod bits;
 mod bound;
 mod casts;
+mod function;
+mod indexed;
 mod monoid;
 mod present;
 mod unary;
@@ -19,6 +21,8 @@ pub use bits::{
 };
 pub use bound::{bind_first, bind_second};
 pub use casts::cast_words;
+pub use function::WordFunction;
+pub use indexed::{mark_passing, write_answers};
 pub use monoid::fold_words;
 pub use present::{fold_present, unite_present};
 pub use unary::map_words;

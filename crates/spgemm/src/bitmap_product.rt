@@ -14,7 +14,7 @@ use crate::bitmap_sums::{Factors, Sums, sum_alone, sum_beside};
 use crate::dense::MOST_PLACES;
 use crate::many::set_marked;
 use algebra::Semiring;
-use bitmap::Bitmap;
+use bitmap::{Bitmap, OneThread, SeveralThreads, WordMaker};
 use model::NoMemory;
 use std::alloc::Global;
 use std::thread::Threads;
@@ -37,8 +37,8 @@ pub fn suits_bitmap(u: &Bitmap, a: &Sparse) -> bool
         && products >= a.cols() / COLUMNS_A_PRODUCT
 }
 
-/// Who makes products of vectors and matrices that go from a bitmap to a bitmap.
-pub trait VectorProducts {
+/// Who makes products of vectors and matrices that go from a bitmap to a bitmap, beside the words of bitmaps.
+pub trait VectorProducts: WordMaker {
     /// All of the product of a vector and `a` over a semiring (`GrB_vxm` of GraphBLAS C API 2.0), from a bitmap to a
     /// bitmap. An entry stands where some k has both u(k) and A(k, i), also where its sum is 0, and is the sum of these
     /// products in rising order of k. It goes along the rows of `a` that have entries and asks the vector at each: its
@@ -60,10 +60,6 @@ pub trait VectorProducts {
             (transposed_content (word_at u.now.entries)) (content_of a.now)) i j) };
 }
 
-/// The calling thread alone.
-#[derive(Clone, Copy, Debug)]
-pub struct OneThread;
-
 impl VectorProducts for OneThread {
     fn multiply_bitmap(
         &self,
@@ -78,21 +74,7 @@ impl VectorProducts for OneThread {
     }
 }
 
-/// The calling thread and others, which are started for the time of a product. Where there are many products, each
-/// makes those of some rows, and its sums, which take memory for each column.
-#[derive(Drop)]
-pub struct SeveralThreads<'a, R> {
-    starter: &'a R,
-    others: u64,
-}
-
-impl<'a, R> SeveralThreads<'a, R> {
-    /// So many threads beside the calling one, which a handle starts.
-    pub fn new(starter: &'a R, others: u64) -> SeveralThreads<'a, R> {
-        SeveralThreads { starter, others }
-    }
-}
-
+// Where there are many products, each thread makes those of some rows, and its sums, which take memory for each column.
 impl<'a, R: Threads> VectorProducts for SeveralThreads<'a, R> {
     fn multiply_bitmap(
         &self,
@@ -102,7 +84,7 @@ impl<'a, R: Threads> VectorProducts for SeveralThreads<'a, R> {
         semiring: Semiring,
     ) -> Result<Bitmap, NoMemory> {
         let factors = Factors::of(u, a, semiring);
-        let sums = sum_beside(self.starter, self.others, alloc, factors)?;
+        let sums = sum_beside(self.starter(), self.others(), alloc, factors)?;
         product_of(alloc, factors, sums)
     }
 }

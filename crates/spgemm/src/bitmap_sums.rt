@@ -78,8 +78,8 @@ pub(crate) fn sum_beside<R: Threads>(
     requires { factors.a.now.cols ≤ factors.places }
     ensures { IfOk result (AreSumsOf factors.entry 0 factors.entry.a.now.rows) }
 {
-    // The sums of each thread are put to the others', place by place.
-    let least = WORTH_A_THREAD.max(factors.places as u64);
+    // The sums of each thread are put to the others', place by place, which takes a part of a product's time each.
+    let least = WORTH_A_THREAD.max(factors.places as u64 / 4);
     let parts = (products_of(factors) / least).min(others.saturating_add(1));
     sum_parts(rt, alloc, factors, 0..factors.a.rows(), parts)
 }

@@ -1,12 +1,11 @@
-use Rattle.std.proofs.Common.{◌∙◌, ap, get_or}
-use Rattle.std.proofs.lemmas.List.{get_or-map}
+use Rattle.std.proofs.Common.{◌∙◌}
 use Rattle.std.proofs.lemmas.Result.{IfOk-weaker}
-use Rattle.elementwise.specs.Mapped.{word_made}
+use Rattle.lanes.specs.Functions.{word_made}
 use Rattle.elementwise.proofs.BitmapLaws.{AreWordsOf, made_at}
 use Rattle.elementwise.proofs.bitmaps.map_bitmap.Goals as goal
 
 pub returns-clause-content : goal.returns-clause-content
-returns-clause-content c =
+returns-clause-content g c =
     let a = c.args.a.now in
     let old = c.words.result.now in
     let f = word_made c.args.function in
@@ -17,5 +16,5 @@ returns-clause-content c =
     } in
     IfOk-weaker c.with_words.result _ _
     (λ b content i j. content i j ∙ made_at a.rows a.cols a.entries old are (λ _ _. f) c.in_ok-words.words.items
-    (λ at within. ap (λ ws. get_or ws at 0) c.in_ok-words.ensures ∙ get_or-map f old at 0 0 within) i j)
+    c.in_ok-words.ensures.words i j)
     c.with_words.ensures.content

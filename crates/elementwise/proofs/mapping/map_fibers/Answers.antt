@@ -1,16 +1,23 @@
 -- The entries lie where they lay.
-use Rattle.std.proofs.Common.{◌≡◌, ◌∙◌, ap, map, rules}
-use Rattle.std.proofs.lemmas.List.{length-map}
+use Rattle.std.proofs.Common.{◌≡◌, ◌∙◌, ap, arith, map, rules, sym}
+use Rattle.std.proofs.lemmas.List.{ext_get_or, get_or-map, length-map}
 use Rattle.model.specs.declared.entry.Entry.{Entry}
 use Rattle.store.specs.Fibers.{entries_from, outers}
-use Rattle.elementwise.specs.Mapped.{mapped, word_made}
+use Rattle.elementwise.specs.Mapped.{mapped}
+use Rattle.lanes.specs.Functions.{word_made}
 use Rattle.elementwise.proofs.MappedLaws.{flat-mapped, placed-mapped}
 use Rattle.elementwise.proofs.mapping.map_fibers.Goals as goal
 use Rattle.elementwise.proofs.mapping.map_fibers.Goals.{In_ok-words}
 
 words_are : (c : In_ok-words) → c.in_ok-words.words.items ≡ map (word_made c.args.function)
     (map (λ (e : Entry). e.word) c.args.fibers.now.entries)
-words_are c = c.in_ok-words.ensures ∙ ap (map (word_made c.args.function)) c.words.ensures
+words_are c =
+    let made = c.in_ok-words.ensures in
+    let f = word_made c.args.function in
+    let old = c.words.result.now in
+    ext_get_or 0 c.in_ok-words.words.items (map f old) (made.length ∙ sym (length-map old f))
+    (λ k within. made.words k (omega arith) ∙ sym (get_or-map f old k 0 0 (omega arith)))
+    ∙ ap (map f) c.words.ensures
 
 pub returns-clause-flat : goal.returns-clause-flat
 returns-clause-flat c =

@@ -7,7 +7,7 @@ use Rattle.store.specs.Stored.{Stored, content_of}
 use Rattle.kernel.proofs.bitmaps.applied_bitmap.Goals as goal
 
 pub returns : goal.returns
-returns c =
+returns g c =
     let a = c.args.a in
     let lent : of_bitmap c.in-Bitmap.bitmap.now ≡ a.store.now = rw c.in-Bitmap.is at c.form.ensures in
     let made = rw c.in-Some.ensures.1 at c.in_ok-made.ensures in

@@ -10,7 +10,7 @@ use Rattle.store.specs.Stored.{Stored, content_of}
 use Rattle.kernel.proofs.bitmaps.combined_bitmap.Goals as goal
 
 pub returns-in_ok-made-in-Union : goal.returns-in_ok-made-in-Union
-returns-in_ok-made-in-Union c =
+returns-in_ok-made-in-Union g c =
     let a = c.args.a in
     let b = c.args.b in
     let op = c.in-Some.op in
@@ -31,7 +31,7 @@ returns-in_ok-made-in-Union c =
     })
 
 pub returns-in_ok-made-in-Intersection : goal.returns-in_ok-made-in-Intersection
-returns-in_ok-made-in-Intersection c =
+returns-in_ok-made-in-Intersection g c =
     let a = c.args.a in
     let b = c.args.b in
     let op = c.in-Some.op in

@@ -13,7 +13,7 @@ use Rattle.store.specs.Stored.{Stored, content_of}
 use Rattle.kernel.proofs.bitmaps.selected_bitmap.Goals as goal
 
 pub returns : goal.returns
-returns c =
+returns g c =
     let a = c.args.a in
     let op = c.in-Some.op in
     let named = c.in-Some.ensures.1 in

@@ -1,6 +1,6 @@
 -- The inputs take the roles of the recipe once they are transposed or exchanged, and what it makes of them is what the
 -- operation leaves.
-use Rattle.std.proofs.Common.{◌≡◌, ◌∙◌, ap}
+use Rattle.std.proofs.Common.{◌∙◌, ap}
 use Rattle.std.proofs.lemmas.Result.{IfOk-weaker}
 use Rattle.calls.specs.declared.recipe.Accepted.{Accepted}
 use Rattle.calls.specs.Recipes.{known_by_role, meaning}

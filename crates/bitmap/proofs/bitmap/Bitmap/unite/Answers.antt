@@ -12,7 +12,7 @@ use Rattle.bitmap.proofs.PlaceLaws.{map_of}
 use Rattle.bitmap.proofs.bitmap.Bitmap.unite.Goals as goal
 
 pub invariant_of-result : goal.invariant_of-result
-invariant_of-result c =
+invariant_of-result g c =
     let a = c.a.inside in
     let b = c.b.inside in
     let rows : b.rows ≡ a.rows = rw (← c.a.view_is, ← c.b.view_is) at c.requires.rows in
@@ -28,7 +28,7 @@ invariant_of-result c =
     either_places a.rows a.cols a.count b.rows b.cols b.count c.count_ones.result bits words a.bits.items a.words.items b.bits.items b.words.items c.a.invariant c.b.invariant words_long long bits_are small counted
 
 pub returns-clause-content : goal.returns-clause-content
-returns-clause-content c =
+returns-clause-content g c =
     let a = c.a.inside in
     let b = c.b.inside in
     let f = eval_of c.args.op.kind c.args.op.domain in

@@ -3,7 +3,7 @@ use Rattle.std.proofs.Common.{◌≡◌, ◌+◌, ◌/◌, ◌%◌, ◌<◌, ◌
 use Rattle.std.proofs.lemmas.Bool.{cases_eq}
 use Rattle.std.proofs.lemmas.Nat.{div-mul-add, mod-mul-add}
 use Rattle.lanes.proofs.BitLaws.{mark_away, mark_here}
-use Rattle.elementwise.proofs.bitmaps.passing_bits.Goals as goal
+use Rattle.lanes.proofs.indexed.passing_bits.Goals as goal
 
 pub loop-k-preserved : goal.loop-k-preserved
 loop-k-preserved c =

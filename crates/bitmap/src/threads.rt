@@ -1,0 +1,77 @@
+//! Who makes the words of bitmaps: the calling thread, or others beside it.
+ghost use Rattle.std.specs.Prelude.{◌≡◌, ◌<◌, ℕ, IfOk, length, slice_index};
+ghost use Rattle.bitmap.specs.Words.{Fits, IsMade, places_of};
+
+use crate::making::{Words, fill_beside, make_alone};
+use model::NoMemory;
+use std::alloc::Global;
+use std::thread::Threads;
+
+/// How many words a thread is started for: to start it takes about a tenth of the time of these.
+const WORTH_A_THREAD: usize = 1 << 16;
+
+/// Who makes the words of bitmaps.
+pub trait WordMaker {
+    /// Words in memory of their own. It takes time for each of them. NoMemory where there is none for them.
+    fn make(&self, alloc: Global, words: Words<'_>) -> Result<Vec<u64>, NoMemory>
+        requires { Fits words }
+        ensures length { IfOk result (λ made. length made.items ≡ places_of words.entry) }
+        ensures words { IfOk result (λ made. (k : ℕ) → k < places_of words.entry
+            → IsMade words.entry k (slice_index made.items k)) };
+}
+
+/// The calling thread alone.
+#[derive(Clone, Copy, Debug)]
+pub struct OneThread;
+
+impl WordMaker for OneThread {
+    fn make(&self, alloc: Global, words: Words<'_>) -> Result<Vec<u64>, NoMemory> {
+        make_alone(alloc, words)
+    }
+}
+
+/// The calling thread and others, which are started for the time of a call.
+#[derive(Drop)]
+pub struct SeveralThreads<'a, R> {
+    starter: &'a R,
+    others: u64,
+}
+
+impl<'a, R> SeveralThreads<'a, R> {
+    /// So many threads beside the calling one, which a handle starts.
+    pub fn new(starter: &'a R, others: u64) -> SeveralThreads<'a, R> {
+        SeveralThreads { starter, others }
+    }
+
+    /// The handle that starts them.
+    pub fn starter(&self) -> &'a R {
+        self.starter
+    }
+
+    /// How many threads there are beside the calling one.
+    pub fn others(&self) -> u64 {
+        self.others
+    }
+}
+
+impl<'a, R: Threads> WordMaker for SeveralThreads<'a, R> {
+    fn make(&self, alloc: Global, words: Words<'_>) -> Result<Vec<u64>, NoMemory> {
+        let places = words.places();
+        let parts = (words.read() / WORTH_A_THREAD) as u64;
+        let parts = parts.min(self.others.saturating_add(1)) as usize;
+        if parts < 2 {
+            return make_alone(alloc, words);
+        }
+
+        // Where several threads write, the memory has to be cleared beforehand.
+        let mut made = vec![in alloc; 0; places]?;
+        fill_beside(
+            self.starter,
+            words,
+            0,
+            places / parts / 64 * 64 + 64,
+            &mut made,
+        );
+        Ok(made)
+    }
+}
