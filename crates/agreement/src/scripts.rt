@@ -5,7 +5,7 @@ use crate::compared::Compared;
 use crate::held::Files;
 use desk::Order;
 use lines::{Line, first_line, parse_line};
-use mmio::read_entries;
+use mmio::{FileReader, OneThread};
 use model::{Act, Call, Shape};
 use script::Sources;
 use std::alloc::{AllocError, Global};
@@ -124,7 +124,7 @@ fn shape_of(alloc: Global, line: &[u8], files: Files<'_>) -> Option<Shape> {
         ) => Some(shape),
         Line::Load(load) => {
             let bytes = files.bytes(load.file.as_bytes())?;
-            let (rows, cols, _) = read_entries(alloc, bytes, load.domain).ok()?;
+            let (rows, cols, _) = OneThread.read_entries(alloc, bytes, load.domain).ok()?;
             Some(Shape::Two(rows, cols))
         }
         _ => None,

@@ -9,15 +9,15 @@ use desk::{Order, Picker};
 use journal::{Log, Naming};
 use model::NoMemory;
 use pool::{Gate, Open, Pool};
-use script::Sources;
+use script::{Sources, threads_of};
 use std::alloc::Global;
 use std::marker::Brand;
 use std::sync::Wait;
 use std::thread::Threads;
 
 /// Runs a script as `script::run` does. Work is put off and done by so many threads, and by the calling one while it
-/// waits, in this order as far as its inputs permit; a large call is cut into pieces of at least so many rows. A thread
-/// that can't be started is left out.
+/// waits, in this order as far as its inputs permit; a large call is cut into pieces of at least so many rows. As many
+/// threads read and write a large file. A thread that can't be started is left out.
 pub fn run_pooled<R, S>(
     rt: &R,
     alloc: Global,
@@ -39,22 +39,13 @@ where
 {
     let log = Log::new(alloc)?;
     run_over_pool::<Brand, R, S, Open, Order>(
-        rt.clone()?,
-        alloc,
-        log,
-        script,
-        sources,
-        workers,
-        rows,
-        Open,
-        order,
-        out,
+        rt, alloc, log, script, sources, workers, rows, Open, order, out,
     )
 }
 
 /// The same over a log that has a name, whoever picks what is done next, and whatever holds threads before a task.
 pub(crate) fn run_over_pool<J, R, S, G, P>(
-    rt: R,
+    rt: &R,
     alloc: Global,
     log: Log,
     script: &[u8],
@@ -78,8 +69,10 @@ where
     ensures err { OnErr result ((n : ℕ)
         × Ran (take n (readings_in (S.held sources.now) script.now)) out.old.items out.new.items) }
 {
-    let mut pool = Pool::<J, R, G, P>::new(rt, alloc, log, workers, rows, gate, picker)?;
-    let ended = script::run(alloc, script, sources, &mut pool, out);
+    let handle = rt.clone()?;
+    let mut pool = Pool::<J, R, G, P>::new(handle, alloc, log, workers, rows, gate, picker)?;
+    let files = threads_of(rt, workers);
+    let ended = script::run_by(&files, alloc, script, sources, &mut pool, out);
     pool.close();
     ended
 }

@@ -7,7 +7,7 @@ ghost use Rattle.gbrun.specs.declared.options.Options.{Options as Chosen};
 use crate::options::Options;
 use model::NoMemory;
 use runner::Runner;
-use script::Sources;
+use script::{FileReader, FileWriter, Sources};
 use std::alloc::Global;
 
 /// What makes the run of a script. A program that is given one of any kind can't make up what the run appends or how
@@ -18,9 +18,11 @@ pub trait Evaluation {
     // Whether a run of a script with these files and options may be this one.
     ghost admits: { (List ℕ → Option (List ℕ)) → List ℕ → Chosen → Made → Type 0 };
 
-    /// Runs a script with these files over a runner that was chosen by the options, and appends its answers to none.
-    fn run<S: Sources, R: Runner>(
+    /// Runs a script with these sources of files, which `files` reads and writes, over a runner that was chosen by the
+    /// options, and appends its answers to none.
+    fn run<F: FileReader + FileWriter, S: Sources, R: Runner>(
         &mut self,
+        files: &F,
         alloc: Global,
         script: &[u8],
         sources: &S,
@@ -35,8 +37,8 @@ pub trait Evaluation {
         ensures { IfSome (made self.now) (λ run. result.now ≡ run.appended) };
 }
 
-/// The run that `script::run` makes. Where memory ran out, its contract and that of `script::run` say no more of the
-/// text than that it answers some first lines. The answers show neither the options nor the runner.
+/// The run that `script::run_by` makes. Where memory ran out, its contract and that of `script::run_by` say no more of
+/// the text than that it answers some first lines. The answers show neither the options nor the runner.
 #[derive(Drop)]
 pub struct Answers {
     pub text: Vec<u8>,
@@ -61,8 +63,9 @@ impl Evaluation for Answers {
 
     ghost admits = { AnswersRun };
 
-    fn run<S: Sources, R: Runner>(
+    fn run<F: FileReader + FileWriter, S: Sources, R: Runner>(
         &mut self,
+        files: &F,
         alloc: Global,
         script: &[u8],
         sources: &S,
@@ -70,7 +73,7 @@ impl Evaluation for Answers {
         runner: &mut R,
     ) -> Result<(), NoMemory> {
         self.text.clear();
-        let ended = script::run(alloc, script, sources, runner, &mut self.text);
+        let ended = script::run_by(files, alloc, script, sources, runner, &mut self.text);
         self.ended = Some(ended);
         ended
     }

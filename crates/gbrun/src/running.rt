@@ -10,7 +10,7 @@ use inline::Inline;
 use journal::{Log, Naming};
 use model::NoMemory;
 use pool::{Open, Pool};
-use script::Sources;
+use script::{OneThread, Sources, threads_of};
 use std::alloc::Global;
 use std::marker::Brand;
 use std::sync::Wait;
@@ -39,7 +39,7 @@ where
         return Ok(run_inline::<Brand, S, X>(alloc, History::new(), script, sources, options, run));
     }
     let log = Log::new(alloc)?;
-    run_pooled::<Brand, H, S, X>(rt.clone()?, alloc, log, script, sources, options, run)
+    run_pooled::<Brand, H, S, X>(rt, alloc, log, script, sources, options, run)
 }
 
 /// Over a history that has a name.
@@ -56,12 +56,12 @@ fn run_inline<J: BookNaming, S: Sources, X: Evaluation>(
     ensures { IsMade (X.admits (S.held sources.now) script.now options.entry) result (X.made run.new) }
 {
     let mut runner: Inline<J, Order> = Inline::new(alloc, history, options.order);
-    run.run(alloc, script, sources, options, &mut runner)
+    run.run(&OneThread, alloc, script, sources, options, &mut runner)
 }
 
-/// Over a log that has a name.
+/// Over a log that has a name. As many threads as there are workers read and write files.
 fn run_pooled<J, H, S, X>(
-    rt: H,
+    rt: &H,
     alloc: Global,
     log: Log,
     script: &[u8],
@@ -86,8 +86,16 @@ where
         order,
         ..
     } = options;
-    let mut pool = Pool::<J, H, Open, Order>::new(rt, alloc, log, workers, rows, Open, order)?;
-    let ended = run.run(alloc, script, sources, options, &mut pool);
+    let handle = rt.clone()?;
+    let mut pool = Pool::<J, H, Open, Order>::new(handle, alloc, log, workers, rows, Open, order)?;
+    let ended = run.run(
+        &threads_of(rt, workers),
+        alloc,
+        script,
+        sources,
+        options,
+        &mut pool,
+    );
     pool.close();
     Ok(ended)
 }

@@ -2,6 +2,7 @@ mod DigitLaws
 mod FrontLaws
 mod HeadLaws
 mod ListingLaws
+mod PartLaws
 mod SaidLaws
 mod UsualLaws
 mod ValueLaws

@@ -1,11 +1,12 @@
 -- Texts put together from their parts.
-use Rattle.std.proofs.Common.{◌≡◌, ℕ, ◌+◌, ◌<◌, List, [], ◌∷◌, ◌++◌, ◌∙◌, append_assoc, arith, get_or, length, map, subst, take, Result, Ok, Err, OnErr, OnOk, is_ok, true}
+use Rattle.std.proofs.Common.{◌≡◌, ℕ, zero, suc, refl, ap, ◌+◌, ◌-◌, ◌<◌, ◌≤◌, List, [], ◌∷◌, ◌++◌, ◌∙◌, append_assoc, arith, get_or, length, map, subst, take, Result, Ok, Err, OnErr, OnOk, is_ok, true}
 use Rattle.std.specs.List.{All, flat_map}
 use Rattle.std.proofs.lemmas.List.{append-nil, get_or_default, map-append, take_more}
 use Rattle.std.proofs.lemmas.List.Concat.{flat_map-append}
 use Rattle.algebra.specs.declared.domain.Domain.{Domain}
 use Rattle.model.specs.declared.entry.Entry.{Entry}
-use Rattle.model.specs.Entries.{entry_at}
+use Rattle.model.specs.Entries.{count_from, entries_between, entry_at, row_entries}
+use Rattle.model.specs.Object.{Content}
 use Rattle.model.specs.Text.{ended, entry_line}
 use Rattle.store.specs.Fibers.{entries_along}
 use Rattle.store.specs.Walks.{IsFirstRow}
@@ -61,3 +62,30 @@ cols_below n index cols words all others starts h k d within =
     let same = starts.lengths in
     let col : (entry_at index (get_or cols k 0) (get_or words k 0)).col < n = rw (row_at index cols words k (entry_at 0 0 0) same within) at (first_row_below n index cols words all others starts h k (entry_at 0 0 0) (omega (arith, length_row index cols words same))).1 in
     rw (get_or_default cols k d 0 within) col
+
+-- ---- rows of a store, and those behind them
+
+counted_apart : (first n m : ℕ) → count_from first (n + m) ≡ count_from first n ++ count_from (first + n) m
+unfolding count_from
+counted_apart first zero m = let none : 0 + m ≡ m = omega arith in let same : first + 0 ≡ first = omega arith in rw (none, same) refl
+counted_apart first (suc n) m =
+    let more : suc n + m ≡ suc (n + m) = omega arith in
+    let at : first + suc n ≡ first + 1 + n = omega arith in
+    rw (more, at) (ap (λ ks. first ∷ ks) (counted_apart (first + 1) n m))
+
+-- the lines of rows are those of the first ones, and then those of the others
+pub lines_apart : (domain : Domain) (middle past cols : ℕ) (c : Content) → middle ≤ past
+    → flat_map ended (map (entry_line domain) (entries_between 0 past cols c))
+    ≡ flat_map ended (map (entry_line domain) (entries_between 0 middle cols c))
+    ++ flat_map ended (map (entry_line domain) (entries_between middle past cols c))
+unfolding entries_between
+lines_apart domain middle past cols c inside =
+    let whole : past - 0 ≡ (middle - 0) + (past - middle) = omega (arith, inside) in
+    let start : 0 + (middle - 0) ≡ middle = omega arith in
+    let rows = row_entries cols c in
+    let line = entry_line domain in
+    let apart = ap (count_from 0) whole ∙ rw start at (counted_apart 0 (middle - 0) (past - middle)) in
+    ap (λ ks. flat_map ended (map line (flat_map rows ks))) apart
+    ∙ ap (λ es. flat_map ended (map line es)) (flat_map-append rows (count_from 0 (middle - 0)) (count_from middle (past - middle)))
+    ∙ ap (flat_map ended) (map-append line (flat_map rows (count_from 0 (middle - 0))) (flat_map rows (count_from middle (past - middle))))
+    ∙ flat_map-append ended (map line (flat_map rows (count_from 0 (middle - 0)))) (map line (flat_map rows (count_from middle (past - middle))))

@@ -1,6 +1,8 @@
 -- The lines of a text that say something, and the entries that they list one after another.
-use Rattle.std.specs.Prelude.{ℕ, ◌-◌, ◌==◌, if◌then◌else◌, List, [], ◌∷◌, ◌++◌, length, map, Result, Ok, Err}
-use Rattle.std.specs.Result.{result_map_both}
+use Rattle.std.specs.Prelude.{ℕ, suc, ◌-◌, ◌≡◌, ◌==◌, if◌then◌else◌, List, [], ◌∷◌, ◌++◌, length, map, Result, Ok, Err}
+use Rattle.std.specs.Prelude.{None}
+use Rattle.std.specs.List.{All}
+use Rattle.std.specs.Result.{result_err, result_map_both}
 use Rattle.algebra.specs.declared.domain.Domain.{Domain}
 use Rattle.model.specs.declared.entry.Entry.{Entry}
 use Rattle.model.specs.declared.market.Heading.{Heading}
@@ -9,7 +11,10 @@ use Rattle.model.specs.declared.market.Mistake.{Mistake}
 use Rattle.model.specs.declared.market.Mistake.TheVariants as mistake
 use Rattle.model.specs.declared.market.MmFault.{MmFault}
 use Rattle.model.specs.Grammar.{lines_of, words_of}
-use Rattle.model.specs.MatrixMarket.{Matrix, ToldLine, entry_said, fault_at, misread, told_lines, with_mirror}
+use Rattle.model.specs.MatrixMarket.{Line, Matrix, ToldLine, entries_said, entry_said, fault_at, misread, told_lines}
+use Rattle.model.specs.MatrixMarket.{with_mirror}
+use Rattle.mmio.specs.declared.listing.Stop.{Stop}
+use Rattle.mmio.specs.declared.listing.Stop.TheVariants as stop
 
 -- the lines of a text that say something
 unfoldable pub told_in : List ℕ → List ToldLine
@@ -48,3 +53,24 @@ fault_in text wrong = fault_at (length (lines_of text)) wrong
 
 abbrev pub located : {X : Type 0} → List ℕ → Result X Misread → Result X MmFault
 located text found = result_map_both (λ x. x) (fault_in text) found
+
+-- ---- parts of a text
+
+-- a line says an entry
+abbrev pub SaysEntry : Domain → Heading → Line → Type 0
+SaysEntry domain h line = result_err (entry_said domain h line) ≡ None
+
+-- the lines of a text that say something, each as its words
+abbrev pub words_told : List ℕ → List Line
+words_told text = map (λ line. line.words) (told_in text)
+
+-- each line of a text that says something says an entry; these are the entries, of so many lines
+pub record Lists (domain : Domain) (h : Heading) (text : List ℕ) (entries : List Entry) (lines : ℕ) : Type 0 where
+  pub each : All (SaysEntry domain h) (words_told text)
+  pub listed : entries ≡ entries_said domain h (words_told text)
+  pub count : lines ≡ length (words_told text)
+
+-- why what a text lists isn't known to its end: for want of memory, or since a line is wrong
+abbrev pub IsStop : Result (List Entry) Misread → Stop → Type 0
+IsStop listed stop.NoMemory = Unit {0}
+IsStop listed (stop.At m behind) = listed ≡ Err (record { left = suc (length (lines_of behind.now)); mistake = m })

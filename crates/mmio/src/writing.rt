@@ -1,21 +1,74 @@
 //! Objects as Matrix Market texts.
-ghost use Rattle.std.specs.Prelude.{◌≡◌, ◌-◌, ◌<◌, ◌^◌, ◌++◌, ℕ, List, OnErr, OnOk, length, map};
+ghost use Rattle.std.specs.Prelude.{◌≡◌, ◌-◌, ◌<◌, ◌≤◌, ◌^◌, ◌++◌, ℕ, List, IfOk, OnErr, OnOk, length, map};
 ghost use Rattle.std.specs.List.{All, flat_map};
 ghost use Rattle.model.specs.Entries.{entry_at};
 ghost use Rattle.model.specs.Object.{cols_of, rows_of};
 ghost use Rattle.model.specs.Text.{canonical_lines, ended, entry_line, size_line};
-ghost use Rattle.mmio.specs.Written.{Grows};
+ghost use Rattle.mmio.specs.Written.{Grows, IsCountable, lines_between};
 ghost use Rattle.store.specs.Fibers.{entries_along};
 ghost use Rattle.store.specs.Stored.{content_of};
 
 use crate::texts::{LONGEST, put_line};
 use algebra::Domain;
+use bitmap::{OneThread, SeveralThreads};
 use model::{NoMemory, Shape};
-use std::alloc::AllocError;
+use std::alloc::{AllocError, Global};
+use std::ops::Range;
+use std::thread::{Threads, join_mut};
 use store::{Row, Rows, Sparse, Store};
 
 /// The first line of a canonical text (NIST Matrix Market, coordinate format).
 const BANNER: &[u8] = b"%%MatrixMarket matrix coordinate integer general\n";
+
+/// How many lines a thread is started for: to start it takes about a tenth of the time of these.
+const WORTH_A_THREAD: usize = 1 << 12;
+
+/// Who writes the lines of files: the calling thread, or others beside it.
+pub trait FileWriter {
+    /// Appends a line for each entry of the first rows of a store, row by row, with indices from 1. After an error some
+    /// of them are there. Its time follows the number of entries.
+    fn write_entries(
+        &self,
+        store: &Sparse,
+        past: u64,
+        domain: Domain,
+        out: &mut Vec<u8>,
+    ) -> Result<(), AllocError>
+        requires { IsCountable store.now }
+        ensures ok { OnOk result (out.new.items ≡ out.old.items ++ lines_between domain store.now 0 past) }
+        ensures grows { Grows out.old.items out.new.items };
+}
+
+impl FileWriter for OneThread {
+    fn write_entries(
+        &self,
+        store: &Sparse,
+        past: u64,
+        domain: Domain,
+        out: &mut Vec<u8>,
+    ) -> Result<(), AllocError> {
+        write_between(out, domain, store, 0..past)
+    }
+}
+
+impl<R: Threads> FileWriter for SeveralThreads<'_, R> {
+    fn write_entries(
+        &self,
+        store: &Sparse,
+        past: u64,
+        domain: Domain,
+        out: &mut Vec<u8>,
+    ) -> Result<(), AllocError> {
+        let entries = store.nvals() as usize;
+        let parts = (entries / WORTH_A_THREAD) as u64;
+        let parts = parts.min(self.others().saturating_add(1)) as usize;
+        if parts < 2 {
+            return write_between(out, domain, store, 0..past);
+        }
+        let each = entries / parts + 1;
+        write_beside(self.starter(), domain, store, past, entries, each, out)
+    }
+}
 
 /// Appends the canonical text of an object: a banner, its shape and number of entries, and a line for each
 /// entry, row by row, with indices from 1. A vector is written as one column. An error leaves what is
@@ -27,9 +80,26 @@ pub fn write(store: &Store, shape: Shape, domain: Domain, out: &mut Vec<u8>) -> 
         (record { domain = domain; shape = shape; content = content_of store.now }))) }
     ensures err { OnErr result (out.new.items ≡ out.old.items) }
 {
+    write_by(&OneThread, store, shape, domain, out)
+}
+
+/// The same where a writer writes the lines of the entries.
+pub fn write_by<W: FileWriter>(
+    writer: &W,
+    store: &Store,
+    shape: Shape,
+    domain: Domain,
+    out: &mut Vec<u8>,
+) -> Result<(), NoMemory>
+    requires rows { store.now.rows ≡ rows_of shape }
+    requires cols { store.now.cols ≡ cols_of shape }
+    ensures ok { OnOk result (out.new.items ≡ out.old.items ++ flat_map ended (canonical_lines
+        (record { domain = domain; shape = shape; content = content_of store.now }))) }
+    ensures err { OnErr result (out.new.items ≡ out.old.items) }
+{
     let lists = store.as_sparse(*out.allocator())?;
     let length = out.len();
-    if write_lines(lists.get(), shape, domain, out).is_err() {
+    if write_lines(writer, lists.get(), shape, domain, out).is_err() {
         out.truncate(length);
         return Err(NoMemory);
     }
@@ -37,7 +107,8 @@ pub fn write(store: &Store, shape: Shape, domain: Domain, out: &mut Vec<u8>) -> 
 }
 
 /// Appends the lines of a canonical text. After an error some of them are there.
-fn write_lines(
+fn write_lines<W: FileWriter>(
+    writer: &W,
     store: &Sparse,
     shape: Shape,
     domain: Domain,
@@ -51,7 +122,81 @@ fn write_lines(
 {
     out.extend_from_slice(BANNER)?;
     write_size(out, shape.rows(), shape.cols(), store.nvals())?;
-    write_rows(out, domain, store.rows_in(0..shape.rows()))
+    writer.write_entries(store, shape.rows(), domain, out)
+}
+
+/// Appends the lines of the first rows of a store, which have about so many entries. The calling thread writes those in
+/// front, and another one each part behind them of about `each` entries.
+fn write_beside<R: Threads>(
+    rt: &R,
+    domain: Domain,
+    store: &Sparse,
+    past: u64,
+    entries: usize,
+    each: usize,
+    out: &mut Vec<u8>,
+) -> Result<(), AllocError>
+    requires { IsCountable store.now }
+    ensures ok { OnOk result (out.new.items ≡ out.old.items ++ lines_between domain store.now 0 past) }
+    ensures grows { Grows out.old.items out.new.items }
+{
+    if entries <= each || past == 0 {
+        return write_between(out, domain, store, 0..past);
+    }
+    let left = entries - each;
+    let middle = store.part_end(0..past, left);
+    if middle == past {
+        return write_between(out, domain, store, 0..past);
+    }
+    let alloc = *out.allocator();
+    let front = &mut *out;
+    let mut theirs = || -> Result<Vec<u8>, AllocError>
+        requires { (IsCountable store.now) × (middle ≤ past) }
+        ensures { IfOk result (λ text. lines_between domain store.entry.now 0 middle ++ text.items
+            ≡ lines_between domain store.entry.now 0 past) }
+    { text_of(alloc, domain, store, middle..past) };
+    let mut ours = || -> Result<(), AllocError>
+        requires { IsCountable store.now }
+        ensures { (OnOk result (front.exit.now.items
+            ≡ front.entry.now.items ++ lines_between domain store.entry.now 0 middle))
+            × Grows front.entry.now.items front.exit.now.items }
+    { write_beside(rt, domain, store, middle, left, each, front) };
+    let (text, written) = join_mut(rt, &mut theirs, &mut ours);
+    match (text, written) {
+        (Ok(text), Ok(())) => out.extend_from_slice(&text),
+        _ => Err(AllocError),
+    }
+}
+
+/// The lines of some rows of a store, which follow those of the rows before.
+fn text_of(
+    alloc: Global,
+    domain: Domain,
+    store: &Sparse,
+    rows: Range<u64>,
+) -> Result<Vec<u8>, AllocError>
+    requires countable { IsCountable store.now }
+    requires order { rows.start ≤ rows.end }
+    ensures { IfOk result (λ text. lines_between domain store.now 0 rows.start ++ text.items
+        ≡ lines_between domain store.now 0 rows.end) }
+{
+    let mut text = Vec::new(alloc);
+    write_between(&mut text, domain, store, rows)?;
+    Ok(text)
+}
+
+/// Appends the lines of some rows of a store.
+fn write_between(
+    out: &mut Vec<u8>,
+    domain: Domain,
+    store: &Sparse,
+    rows: Range<u64>,
+) -> Result<(), AllocError>
+    requires { IsCountable store.now }
+    ensures ok { OnOk result (out.new.items ≡ out.old.items ++ lines_between domain store.now rows.start rows.end) }
+    ensures grows { Grows out.old.items out.new.items }
+{
+    write_rows(out, domain, store.rows_in(rows))
 }
 
 /// Appends the size line of a canonical text.

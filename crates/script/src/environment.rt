@@ -15,6 +15,7 @@ ghost use Rattle.session.specs.Performed.{environment_of, made_in, state_of};
 use crate::printing::print;
 use crate::replies::write_reply;
 use algebra::Domain;
+use mmio::FileWriter;
 use model::{Act, Call, Lookup, Out, Shape, Status, TwoInputs};
 use runner::Runner;
 use session::{Obj, Reply, Session};
@@ -52,7 +53,12 @@ impl<R: Runner + Drop> Environment<R> {
     /// Does a call, and writes the data lines of its answer. An error leaves the objects as they were;
     /// what it leaves at the text's end is no answer.
     #[tactic(auto, unfolding(model::specs::Run::data_lines_of))]
-    pub fn perform(&mut self, call: Call<&str, &str>, text: &mut Vec<u8>) -> Result<(), Status>
+    pub fn perform<W: FileWriter>(
+        &mut self,
+        writer: &W,
+        call: Call<&str, &str>,
+        text: &mut Vec<u8>,
+    ) -> Result<(), Status>
         requires { made_in self.old.session < 2 ^ 64 - 1 }
         ensures { IsAnswered self.old self.new (renamed (λ name. name.now) (λ name. name.now) call.entry)
             text.old.items text.new.items result }
@@ -64,19 +70,25 @@ impl<R: Runner + Drop> Environment<R> {
                 shape,
             } => self.create(name, domain, shape),
             Call::Dup { name, object } => self.dup(name, object),
-            Call::On { object, act } => self.act(object, act, text),
+            Call::On { object, act } => self.act(writer, object, act, text),
             call => self.perform_known(call, text),
         }
     }
 
     /// Does something to the object of a name, or writes what it answers.
-    fn act(&mut self, object: &str, act: Act, text: &mut Vec<u8>) -> Result<(), Status>
+    fn act<W: FileWriter>(
+        &mut self,
+        writer: &W,
+        object: &str,
+        act: Act,
+        text: &mut Vec<u8>,
+    ) -> Result<(), Status>
         requires { made_in self.old.session < 2 ^ 64 - 1 }
         ensures { IsAnswered self.old self.new (Call.On object.now act) text.old.items text.new.items result }
     {
         match act {
             Act::Free => self.free(object),
-            Act::Print => self.print(object, text),
+            Act::Print => self.print(writer, object, text),
             act => self.perform_known(Call::On { object, act }, text),
         }
     }
@@ -134,14 +146,19 @@ impl<R: Runner + Drop> Environment<R> {
     }
 
     /// Writes the canonical text of the object of a name.
-    fn print(&mut self, name: &str, text: &mut Vec<u8>) -> Result<(), Status>
+    fn print<W: FileWriter>(
+        &mut self,
+        writer: &W,
+        name: &str,
+        text: &mut Vec<u8>,
+    ) -> Result<(), Status>
         requires { made_in self.old.session < 2 ^ 64 - 1 }
         ensures { IsAnswered self.old self.new (Call.On name.now Act.Print) text.old.items text.new.items result }
     {
         let Some(object) = self.find(name) else {
             return Err(Status::UninitializedObject);
         };
-        print(&mut self.session, object, text)
+        print(writer, &mut self.session, object, text)
     }
 
     /// Makes an object under a new name.

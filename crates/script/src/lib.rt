@@ -11,5 +11,6 @@ mod sources;
 mod text;
 
 pub use lines::{Line, LineFault, Load, loaded_file, parse_line};
-pub use running::run;
+pub use mmio::{FileReader, FileWriter, OneThread, threads_of};
+pub use running::{run, run_by};
 pub use sources::Sources;

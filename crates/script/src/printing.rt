@@ -5,14 +5,15 @@ ghost use Rattle.model.specs.Run.{object_at};
 ghost use Rattle.model.specs.Text.{canonical_lines, ended};
 ghost use Rattle.session.specs.Performed.{IsPerformed, environment_of};
 
-use mmio::write;
+use mmio::{FileWriter, write_by};
 use model::{Act, Call, Status};
 use runner::Runner;
 use session::{Obj, Session};
 
 /// Appends the canonical text of an object of a session, whose objects stay as they are. What an error leaves at the
 /// text's end is no answer.
-pub fn print<R: Runner + Drop>(
+pub fn print<W: FileWriter, R: Runner + Drop>(
+    writer: &W,
     session: &mut Session<R>,
     object: Obj,
     text: &mut Vec<u8>,
@@ -24,6 +25,6 @@ pub fn print<R: Runner + Drop>(
     let shape = session.shape(object)?;
     let domain = session.domain(object)?;
     let store = session.store(object)?;
-    write(store, shape, domain, text)?;
+    write_by(writer, store, shape, domain, text)?;
     Ok(())
 }

@@ -14,6 +14,7 @@ use crate::environment::Environment;
 use crate::sources::Sources;
 use crate::text;
 use lines::{Line, LineFault, first_line, parse_line};
+use mmio::{FileReader, FileWriter, OneThread};
 use model::{Call, NoMemory, Operation, Status};
 use runner::Runner;
 use std::alloc::{AllocError, Global};
@@ -43,11 +44,30 @@ pub fn run<S: Sources, R: Runner>(
     ensures err { OnErr result ((n : ℕ)
         × Ran (take n (readings_in (S.held sources.now) script.now)) out.old.items out.new.items) }
 {
-    answer_lines(alloc, script, sources, runner, out)
+    run_by(&OneThread, alloc, script, sources, runner, out)
+}
+
+/// The same where `files` reads and writes files.
+pub fn run_by<F: FileReader + FileWriter, S: Sources, R: Runner>(
+    files: &F,
+    alloc: Global,
+    script: &[u8],
+    sources: &S,
+    runner: &mut R,
+    out: &mut Vec<u8>,
+) -> Result<(), NoMemory>
+    ensures headline { OnOk result ((text : List ℕ) → out.new.items ≡ out.old.items ++ text → TellsOfNoWant text
+        → text ≡ out_of (S.held sources.now) script.now) }
+    ensures ok { OnOk result (Ran (readings_in (S.held sources.now) script.now) out.old.items out.new.items) }
+    ensures err { OnErr result ((n : ℕ)
+        × Ran (take n (readings_in (S.held sources.now) script.now)) out.old.items out.new.items) }
+{
+    answer_lines(files, alloc, script, sources, runner, out)
 }
 
 /// Appends the answers of a script's lines, over a runner that goes with the objects.
-fn answer_lines<S: Sources, R: Runner + Drop>(
+fn answer_lines<F: FileReader + FileWriter, S: Sources, R: Runner + Drop>(
+    files: &F,
     alloc: Global,
     script: &[u8],
     sources: &S,
@@ -65,7 +85,15 @@ fn answer_lines<S: Sources, R: Runner + Drop>(
     while !rest.is_empty() {
         let (line, others) = first_line(rest);
         text.clear();
-        answer_line(alloc, sources, &mut environment, number, line, &mut text)?;
+        answer_line(
+            files,
+            alloc,
+            sources,
+            &mut environment,
+            number,
+            line,
+            &mut text,
+        )?;
         out.extend_from_slice(&text)?;
         rest = others;
         number += 1;
@@ -74,7 +102,8 @@ fn answer_lines<S: Sources, R: Runner + Drop>(
 }
 
 /// Writes the answer to one line, if it has one.
-fn answer_line<S: Sources, R: Runner + Drop>(
+fn answer_line<F: FileReader + FileWriter, S: Sources, R: Runner + Drop>(
+    files: &F,
     alloc: Global,
     sources: &S,
     environment: &mut Environment<R>,
@@ -109,7 +138,7 @@ fn answer_line<S: Sources, R: Runner + Drop>(
         Ok(Line::Silent) => Ok(()),
         Ok(Line::Call(call)) => {
             text::write_status(text, number, Status::Ok)?;
-            match environment.perform(call, text) {
+            match environment.perform(files, call, text) {
                 Ok(()) => Ok(()),
                 Err(status) => {
                     text.clear();
@@ -117,7 +146,7 @@ fn answer_line<S: Sources, R: Runner + Drop>(
                 }
             }
         }
-        Ok(Line::Load(load)) => match environment.load(sources, load) {
+        Ok(Line::Load(load)) => match environment.load(files, sources, load) {
             Ok(()) => text::write_status(text, number, Status::Ok),
             Err(status) => text::write_status(text, number, status),
         },

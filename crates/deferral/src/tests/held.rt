@@ -68,7 +68,7 @@ where
 {
     let mut out = Vec::new(alloc);
     run_over_pool::<J, R, NoFiles, SecondHeld<R>, Order>(
-        rt,
+        &rt,
         alloc,
         log,
         SCRIPT.as_bytes(),

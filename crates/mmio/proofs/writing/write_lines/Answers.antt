@@ -10,15 +10,15 @@ use Rattle.mmio.proofs.writing.write_lines.Goals as goal
 
 pub returns-clause-ok : goal.returns-clause-ok
 unfolding canonical_lines
-returns-clause-ok c =
+returns-clause-ok g c =
     let store = c.args.store.now in
     let rows = rows_of c.args.shape in
     let cols = cols_of c.args.shape in
     let content = content_of store in
     let entries = entries_of rows cols content in
-    let all : c.rows_in.result.entries ≡ entries =
-    c.rows_in.ensures.entries ∙ ap (λ n. entries_between 0 n store.cols content) (c.rows-2.ensures ∙ sym c.requires.rows)
+    let all : entries_between 0 c.rows-2.result store.cols content ≡ entries =
+    ap (λ n. entries_between 0 n store.cols content) (c.rows-2.ensures ∙ sym c.requires.rows)
     ∙ entries_between-all store.rows store.cols content ∙ rw (c.requires.rows, c.requires.cols) refl in
-    object_text c.write_rows.result c.args.out.now.items c.extend_from_slice.new.self.items c.write_size.new.out.items c.write_rows.new.out.items
+    object_text c.write_entries.result c.args.out.now.items c.extend_from_slice.new.self.items c.write_size.new.out.items c.write_entries.new.out.items
     (codes "%%MatrixMarket matrix coordinate integer general") (size_line rows cols (length entries)) (map (entry_line c.args.domain) entries)
-    (search rules) (search rules) (rw all at c.write_rows.ensures.ok)
+    (search rules) (search rules) (rw all at c.write_entries.ensures.ok)

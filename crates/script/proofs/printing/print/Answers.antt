@@ -9,8 +9,8 @@ returns-in_err-shape-clause-performed g c =
     let refused : c.from_residual.result ≡ Err c.in_err-shape.field-0.0 = search rules in
     rw refused (untold (λ o. o.shape) c.args.session.now c.args.object c.in_err-shape.field-0.0 c.in_err-shape.ensures)
 
-pub returns-in_err-write-clause-performed : goal.returns-in_err-write-clause-performed
-returns-in_err-write-clause-performed g c =
-    let refused : c.from_residual-in_err-write.result ≡ Err status.OutOfMemory = search rules in
+pub returns-in_err-write_by-clause-performed : goal.returns-in_err-write_by-clause-performed
+returns-in_err-write_by-clause-performed g c =
+    let refused : c.from_residual-in_err-write_by.result ≡ Err status.OutOfMemory = search rules in
     let lent : c.store.result ≡ Ok c.in_ok-store.store = search rules in
     rw refused (refused_print c.args.session.now c.store.follows.lender-at-none c.args.object c.store.result c.in_ok-store.store lent c.store.follows.holds-at-none)

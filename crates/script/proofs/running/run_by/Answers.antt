@@ -1,6 +1,6 @@
 -- The lines that were answered are all of the script.
 use Rattle.script.proofs.RunLaws.{headline-where_ok}
-use Rattle.script.proofs.running.run.Goals as goal
+use Rattle.script.proofs.running.run_by.Goals as goal
 
 pub returns-clause-headline : goal.returns-clause-headline
 returns-clause-headline g c =
