@@ -15,8 +15,12 @@ use std::alloc::Global;
 use std::thread::Threads;
 use store::Tuples;
 
-/// How many bytes of a file a thread is started for: to start it takes about a tenth of the time of these.
+/// How many bytes of a file a thread is started for: to start it takes about a fifth of the time of these.
 const WORTH_A_THREAD: usize = 1 << 16;
+
+/// By fewer threads a file isn't read faster than by one, since the calling thread puts what the others list behind its
+/// own, which takes about half as long as to read it.
+const LEAST_THREADS: usize = 3;
 
 /// Who reads files: the calling thread, or others beside it.
 pub trait FileReader {
@@ -58,7 +62,7 @@ impl<R: Threads> FileReader for SeveralThreads<'_, R> {
     ) -> Result<(u64, u64, Tuples), MmFault> {
         let parts = (bytes.len() / WORTH_A_THREAD) as u64;
         let parts = parts.min(self.others().saturating_add(1)) as usize;
-        if parts < 2 {
+        if parts < LEAST_THREADS {
             return read_as(alloc, bytes, domain);
         }
         let (heading, rest) = head(domain, bytes)?;

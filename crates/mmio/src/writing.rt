@@ -20,7 +20,7 @@ use store::{Row, Rows, Sparse, Store};
 /// The first line of a canonical text (NIST Matrix Market, coordinate format).
 const BANNER: &[u8] = b"%%MatrixMarket matrix coordinate integer general\n";
 
-/// How many lines a thread is started for: to start it takes about a tenth of the time of these.
+/// How many lines a thread is started for: to start it takes about a fifth of the time of these.
 const WORTH_A_THREAD: usize = 1 << 12;
 
 /// Who writes the lines of files: the calling thread, or others beside it.

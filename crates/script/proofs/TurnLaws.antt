@@ -20,7 +20,7 @@ use Rattle.model.specs.Runs.{IsAnswered, out_of_memory}
 use Rattle.model.specs.Text.{Answer, answer_text, ended, status_name}
 use Rattle.model.proofs.SettlesLaws.{settles-same, settles-self}
 use Rattle.script.specs.Replied.{EndsAsLoad, named_setting}
-use Rattle.script.specs.Turns.{Says}
+use Rattle.script.specs.Turns.{Says, SaysBehind}
 use Rattle.session.specs.Ends.{Ends, IsAccepted}
 
 -- the first line of an answer
@@ -187,3 +187,12 @@ pub refused-load : {E : Type 0} (r : Result (Unit {0}) E) (reading : Reading Fil
 refused-load (Err refused) reading name domain file number before after s text read why texts = tt
 refused-load (Ok done) reading name domain file number before after s text read why texts =
     rw read (fault-load name domain file number before after s text why texts)
+
+-- ---- answers behind others
+
+-- all of an answer is the rest
+pub says-apart : {E : Type 0} (r : Result (Unit {0}) E) (reading : Reading File) (number : ℕ) (before after : State Name)
+    (out text : List ℕ) → OnOk r (Says number before reading text after)
+    → OnOk r (SaysBehind number before reading out out text after)
+says-apart (Err refused) reading number before after out text says = tt
+says-apart (Ok done) reading number before after out text says = ([], sym (append-nil out), says)

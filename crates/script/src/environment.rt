@@ -145,15 +145,17 @@ impl<R: Runner + Drop> Environment<R> {
         self.session.of_two(&out, computes, a, b)
     }
 
-    /// Writes the canonical text of the object of a name.
-    fn print<W: FileWriter>(
+    /// Writes the canonical text of the object of a name. An error leaves what it is written behind as it was.
+    pub fn print<W: FileWriter>(
         &mut self,
         writer: &W,
         name: &str,
         text: &mut Vec<u8>,
     ) -> Result<(), Status>
         requires { made_in self.old.session < 2 ^ 64 - 1 }
-        ensures { IsAnswered self.old self.new (Call.On name.now Act.Print) text.old.items text.new.items result }
+        ensures answered { IsAnswered self.old self.new (Call.On name.now Act.Print)
+            text.old.items text.new.items result }
+        ensures err { OnErr result (text.new.items ≡ text.old.items) }
     {
         let Some(object) = self.find(name) else {
             return Err(Status::UninitializedObject);

@@ -1,5 +1,5 @@
 //! The texts of objects.
-ghost use Rattle.std.specs.Prelude.{◌≡◌, ◌++◌, OnOk};
+ghost use Rattle.std.specs.Prelude.{◌≡◌, ◌++◌, OnErr, OnOk};
 ghost use Rattle.std.specs.List.{flat_map};
 ghost use Rattle.model.specs.Run.{object_at};
 ghost use Rattle.model.specs.Text.{canonical_lines, ended};
@@ -10,8 +10,8 @@ use model::{Act, Call, Status};
 use runner::Runner;
 use session::{Obj, Session};
 
-/// Appends the canonical text of an object of a session, whose objects stay as they are. What an error leaves at the
-/// text's end is no answer.
+/// Appends the canonical text of an object of a session, whose objects stay as they are. An error leaves what it is
+/// appended to as it was.
 pub fn print<W: FileWriter, R: Runner + Drop>(
     writer: &W,
     session: &mut Session<R>,
@@ -21,6 +21,7 @@ pub fn print<W: FileWriter, R: Runner + Drop>(
     ensures performed { IsPerformed session.old session.new (Call.On object Act.Print) result }
     ensures lines { OnOk result (text.new.items ≡ text.old.items
         ++ flat_map ended (canonical_lines (object_at (environment_of session.old) object))) }
+    ensures err { OnErr result (text.new.items ≡ text.old.items) }
 {
     let shape = session.shape(object)?;
     let domain = session.domain(object)?;

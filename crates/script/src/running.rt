@@ -1,13 +1,16 @@
 //! Runs of scripts, line by line.
 ghost use Rattle.std.specs.Prelude.{ℕ, ◌≡◌, ◌<◌, ◌≤◌, ◌+◌, ◌-◌, ◌^◌, ◌++◌, List, [], ◌∷◌, OnOk, OnErr, length, take};
 ghost use Rattle.std.specs.Str.Lines.{strip_carriage_return};
-ghost use Rattle.model.specs.Grammar.{reading_of};
+ghost use Rattle.mmio.specs.Written.{Grows};
+ghost use Rattle.model.specs.declared.call.Act.TheVariants.{Print};
+ghost use Rattle.model.specs.declared.call.Call.TheVariants.{On};
+ghost use Rattle.model.specs.Grammar.{Called, reading_of};
 ghost use Rattle.model.specs.Loads.{readings_in, with_file};
 ghost use Rattle.model.specs.Run.{out_of};
 ghost use Rattle.model.specs.Poisoned.{Ran};
 ghost use Rattle.model.specs.Runs.{TellsOfNoWant};
 ghost use Rattle.script.specs.Named.{state_in};
-ghost use Rattle.script.specs.Turns.{Says};
+ghost use Rattle.script.specs.Turns.{SaysBehind};
 ghost use Rattle.session.specs.Performed.{made_in};
 
 use crate::environment::Environment;
@@ -15,7 +18,7 @@ use crate::sources::Sources;
 use crate::text;
 use lines::{Line, LineFault, first_line, parse_line};
 use mmio::{FileReader, FileWriter, OneThread};
-use model::{Call, NoMemory, Operation, Status};
+use model::{Act, Call, NoMemory, Operation, Status};
 use runner::Runner;
 use std::alloc::{AllocError, Global};
 
@@ -84,8 +87,7 @@ fn answer_lines<F: FileReader + FileWriter, S: Sources, R: Runner + Drop>(
     let mut number = 1;
     while !rest.is_empty() {
         let (line, others) = first_line(rest);
-        text.clear();
-        answer_line(
+        append_answer(
             files,
             alloc,
             sources,
@@ -93,15 +95,47 @@ fn answer_lines<F: FileReader + FileWriter, S: Sources, R: Runner + Drop>(
             number,
             line,
             &mut text,
+            out,
         )?;
-        out.extend_from_slice(&text)?;
         rest = others;
         number += 1;
     }
     Ok(())
 }
 
-/// Writes the answer to one line, if it has one.
+/// Appends the answer to one line, if it has one, whole, with `text` as room for it. An error appends nothing.
+fn append_answer<F: FileReader + FileWriter, S: Sources, R: Runner + Drop>(
+    files: &F,
+    alloc: Global,
+    sources: &S,
+    environment: &mut Environment<R>,
+    number: u64,
+    line: &[u8],
+    text: &mut Vec<u8>,
+    out: &mut Vec<u8>,
+) -> Result<(), AllocError>
+    requires { made_in environment.old.session < 2 ^ 64 - 1 }
+    ensures says { OnOk result (SaysBehind number (state_in environment.old)
+        (with_file (S.held sources.now) (reading_of line.now)) out.old.items out.new.items []
+        (state_in environment.new)) }
+    ensures err { OnErr result (out.new.items ≡ out.old.items) }
+    ensures made { made_in environment.new.session ≤ made_in environment.old.session + 1 }
+{
+    let length = out.len();
+    text.clear();
+    if let Err(error) = answer_line(files, alloc, sources, environment, number, line, text, out) {
+        out.truncate(length);
+        return Err(error);
+    }
+    if let Err(error) = out.extend_from_slice(text) {
+        out.truncate(length);
+        return Err(error);
+    }
+    Ok(())
+}
+
+/// Writes the answer to one line, if it has one: what it prints of an object, which may be long, behind `out`, and the
+/// rest as `text`, which follows that.
 fn answer_line<F: FileReader + FileWriter, S: Sources, R: Runner + Drop>(
     files: &F,
     alloc: Global,
@@ -110,11 +144,14 @@ fn answer_line<F: FileReader + FileWriter, S: Sources, R: Runner + Drop>(
     number: u64,
     line: &[u8],
     text: &mut Vec<u8>,
+    out: &mut Vec<u8>,
 ) -> Result<(), AllocError>
     requires empty { text.old.items ≡ [] }
     requires made { made_in environment.old.session < 2 ^ 64 - 1 }
-    ensures says { OnOk result (Says number (state_in environment.old)
-        (with_file (S.held sources.now) (reading_of line.now)) text.new.items (state_in environment.new)) }
+    ensures says { OnOk result (SaysBehind number (state_in environment.old)
+        (with_file (S.held sources.now) (reading_of line.now)) out.old.items out.new.items text.new.items
+        (state_in environment.new)) }
+    ensures grows { Grows out.old.items out.new.items }
     ensures made { made_in environment.new.session ≤ made_in environment.old.session + 1 }
 {
     let read = parse_line(alloc, line);
@@ -134,6 +171,17 @@ fn answer_line<F: FileReader + FileWriter, S: Sources, R: Runner + Drop>(
             Err(status) => text::write_status(text, number, status),
         };
     }
+    if let Ok(
+        Line::Call(
+            Call::On {
+                object,
+                act: Act::Print,
+            },
+        ),
+    ) = &read
+    {
+        return answer_print(files, environment, number, object, text, out);
+    }
     match read {
         Ok(Line::Silent) => Ok(()),
         Ok(Line::Call(call)) => {
@@ -152,5 +200,34 @@ fn answer_line<F: FileReader + FileWriter, S: Sources, R: Runner + Drop>(
         },
         Err(LineFault::Syntax) => text::write_status(text, number, Status::Syntax),
         Err(LineFault::NoMemory) => text::write_status(text, number, Status::OutOfMemory),
+    }
+}
+
+/// Writes the answer to a print of the object of a name.
+fn answer_print<W: FileWriter, R: Runner + Drop>(
+    writer: &W,
+    environment: &mut Environment<R>,
+    number: u64,
+    object: &str,
+    text: &mut Vec<u8>,
+    out: &mut Vec<u8>,
+) -> Result<(), AllocError>
+    requires empty { text.old.items ≡ [] }
+    requires made { made_in environment.old.session < 2 ^ 64 - 1 }
+    ensures says { OnOk result (SaysBehind number (state_in environment.old)
+        (Called (On object.now Print)) out.old.items out.new.items text.new.items (state_in environment.new)) }
+    ensures grows { Grows out.old.items out.new.items }
+    ensures made { made_in environment.new.session ≤ made_in environment.old.session + 1 }
+{
+    let length = out.len();
+    text::write_status(text, number, Status::Ok)?;
+    out.extend_from_slice(text)?;
+    text.clear();
+    match environment.print(writer, object, out) {
+        Ok(()) => Ok(()),
+        Err(status) => {
+            out.truncate(length);
+            text::write_status(text, number, status)
+        }
     }
 }

@@ -1,6 +1,8 @@
 -- What is written is one answer to what the line is read as.
-use Rattle.std.proofs.Common.{◌≡◌, ap, refl, rules}
-use Rattle.model.specs.declared.call.Call.TheVariants.{Operate}
+use Rattle.std.proofs.Common.{◌≡◌, [], ap, refl, rules, sym}
+use Rattle.std.proofs.lemmas.List.{append-nil}
+use Rattle.model.specs.declared.call.Act.TheVariants.{Print}
+use Rattle.model.specs.declared.call.Call.TheVariants.{On, Operate}
 use Rattle.model.specs.declared.call.Operation.{Operation}
 use Rattle.model.specs.declared.call.Operation.TheVariants.{OfTwo}
 use Rattle.model.specs.declared.call.Out.{Out}
@@ -9,52 +11,55 @@ use Rattle.model.specs.Loads.{file_in, with_file}
 use Rattle.model.specs.Renamed.{renamed, renamed_out}
 use Rattle.script.specs.Named.{state_in}
 use Rattle.script.proofs.LoadLaws.{answered_with}
-use Rattle.script.proofs.TurnLaws.{refused-load, says-load, says-nothing, says-ok, says-operated, says-malformed, says-refused, says-unread}
+use Rattle.script.proofs.TurnLaws.{refused-load, says-apart, says-load, says-nothing, says-ok, says-operated, says-malformed, says-refused, says-unread}
 use Rattle.script.proofs.running.answer_line.Goals.{in-Ok, in-Err}
 use Rattle.script.proofs.running.answer_line.Goals as goal
 
 pub returns-in-Ok-Silent-clause-says : goal.returns-in-Ok-Silent-clause-says
-returns-in-Ok-Silent-clause-says g c = says-nothing (with_file (g.S.Sources.held c.args.sources.now) (reading_of c.args.line.now)) c.args.number (state_in c.args.environment.now) c.args.text.now.items (search rules) c.requires.empty
+returns-in-Ok-Silent-clause-says g c = ([], sym (append-nil c.args.out.now.items), says-nothing (with_file (g.S.Sources.held c.args.sources.now) (reading_of c.args.line.now)) c.args.number (state_in c.args.environment.now) c.args.text.now.items (search rules) c.requires.empty)
 
 pub returns-in-Ok-perform-clause-says : goal.returns-in-Ok-perform-clause-says
-returns-in-Ok-perform-clause-says g c =
-    says-ok (with_file (g.S.Sources.held c.args.sources.now) (reading_of c.args.line.now)) (renamed (λ name. name.now) (λ name. name.now) c.in-Ok-Call.call) c.args.number (state_in c.args.environment.now) (state_in c.perform.new.self) c.perform.new.text.items
-    (search rules) c.in-Ok-perform.ensures.ends
-    (rw (c.in-Ok-perform.ensures.lines, c.in_ok-write_status-in-Ok-Call.ensures, c.requires.empty) refl)
+returns-in-Ok-perform-clause-says g c = (
+  [],
+  sym (append-nil c.args.out.now.items),
+  says-ok (with_file (g.S.Sources.held c.args.sources.now) (reading_of c.args.line.now)) (renamed (λ name. name.now) (λ name. name.now) c.in-Ok-Call.call) c.args.number (state_in c.args.environment.now) (state_in c.perform.new.self) c.perform.new.text.items
+      (search rules) c.in-Ok-perform.ensures.ends
+      (rw (c.in-Ok-perform.ensures.lines, c.in_ok-write_status-in-Ok-Call.ensures, c.requires.empty) refl),
+)
 
 pub returns-in-Err-perform-clause-says : goal.returns-in-Err-perform-clause-says
 returns-in-Err-perform-clause-says g c =
-    says-refused c.write_status-in-Err-perform.result (with_file (g.S.Sources.held c.args.sources.now) (reading_of c.args.line.now)) (renamed (λ name. name.now) (λ name. name.now) c.in-Ok-Call.call) c.args.number (state_in c.args.environment.now) (state_in c.perform.new.self) c.in-Err-perform.status c.write_status-in-Err-perform.new.out.items
+    says-apart _ _ _ _ _ c.args.out.now.items _ (says-refused c.write_status-in-Err-perform.result (with_file (g.S.Sources.held c.args.sources.now) (reading_of c.args.line.now)) (renamed (λ name. name.now) (λ name. name.now) c.in-Ok-Call.call) c.args.number (state_in c.args.environment.now) (state_in c.perform.new.self) c.in-Err-perform.status c.write_status-in-Err-perform.new.out.items
     (search rules) c.in-Err-perform.ensures.ends
-    (rw c.clear.ensures.items at c.write_status-in-Err-perform.ensures)
+    (rw c.clear.ensures.items at c.write_status-in-Err-perform.ensures))
 
 pub returns-in-Err-Syntax-clause-says : goal.returns-in-Err-Syntax-clause-says
 returns-in-Err-Syntax-clause-says g c =
-    says-malformed c.write_status-in-Err-Syntax.result (with_file (g.S.Sources.held c.args.sources.now) (reading_of c.args.line.now)) c.args.number (state_in c.args.environment.now) c.write_status-in-Err-Syntax.new.out.items
+    says-apart _ _ _ _ _ c.args.out.now.items _ (says-malformed c.write_status-in-Err-Syntax.result (with_file (g.S.Sources.held c.args.sources.now) (reading_of c.args.line.now)) c.args.number (state_in c.args.environment.now) c.write_status-in-Err-Syntax.new.out.items
     (let read : reading_of c.args.line.now ≡ Malformed = search rules in ap (with_file (g.S.Sources.held c.args.sources.now)) read)
-    (rw c.requires.empty at c.write_status-in-Err-Syntax.ensures)
+    (rw c.requires.empty at c.write_status-in-Err-Syntax.ensures))
 
 pub returns-in-Err-NoMemory-clause-says : goal.returns-in-Err-NoMemory-clause-says
 returns-in-Err-NoMemory-clause-says g c =
-    says-unread c.write_status-in-Err-NoMemory.result (with_file (g.S.Sources.held c.args.sources.now) (reading_of c.args.line.now)) c.args.number (state_in c.args.environment.now) c.write_status-in-Err-NoMemory.new.out.items
+    says-apart _ _ _ _ _ c.args.out.now.items _ (says-unread c.write_status-in-Err-NoMemory.result (with_file (g.S.Sources.held c.args.sources.now) (reading_of c.args.line.now)) c.args.number (state_in c.args.environment.now) c.write_status-in-Err-NoMemory.new.out.items
     (answered_with (g.S.Sources.held c.args.sources.now) (reading_of c.args.line.now) (search rules))
-    (rw c.requires.empty at c.write_status-in-Err-NoMemory.ensures)
+    (rw c.requires.empty at c.write_status-in-Err-NoMemory.ensures))
 
 pub returns-in-Ok-load-clause-says : goal.returns-in-Ok-load-clause-says
 returns-in-Ok-load-clause-says g c =
     let load = c.in-Ok-Load.load in
     let read : reading_of c.args.line.now ≡ Loads load.name.now load.domain load.file.now = search rules in
-    says-load c.write_status-in-Ok-load.result (with_file (g.S.Sources.held c.args.sources.now) (reading_of c.args.line.now)) load.name.now load.domain (file_in (g.S.Sources.held c.args.sources.now) load.domain load.file.now)
+    says-apart _ _ _ _ _ c.args.out.now.items _ (says-load c.write_status-in-Ok-load.result (with_file (g.S.Sources.held c.args.sources.now) (reading_of c.args.line.now)) load.name.now load.domain (file_in (g.S.Sources.held c.args.sources.now) load.domain load.file.now)
     c.args.number (state_in c.args.environment.now) (state_in c.load.new.self) c.write_status-in-Ok-load.new.out.items
-    (ap (with_file (g.S.Sources.held c.args.sources.now)) read) c.in-Ok-load.ensures.ends (rw c.requires.empty at c.write_status-in-Ok-load.ensures)
+    (ap (with_file (g.S.Sources.held c.args.sources.now)) read) c.in-Ok-load.ensures.ends (rw c.requires.empty at c.write_status-in-Ok-load.ensures))
 
 pub returns-in-Err-load-clause-says : goal.returns-in-Err-load-clause-says
 returns-in-Err-load-clause-says g c =
     let load = c.in-Ok-Load.load in
     let read : reading_of c.args.line.now ≡ Loads load.name.now load.domain load.file.now = search rules in
-    refused-load c.write_status-in-Err-load.result (with_file (g.S.Sources.held c.args.sources.now) (reading_of c.args.line.now)) load.name.now load.domain (file_in (g.S.Sources.held c.args.sources.now) load.domain load.file.now)
+    says-apart _ _ _ _ _ c.args.out.now.items _ (refused-load c.write_status-in-Err-load.result (with_file (g.S.Sources.held c.args.sources.now) (reading_of c.args.line.now)) load.name.now load.domain (file_in (g.S.Sources.held c.args.sources.now) load.domain load.file.now)
     c.args.number (state_in c.args.environment.now) (state_in c.load.new.self) c.in-Err-load.status c.write_status-in-Err-load.new.out.items
-    (ap (with_file (g.S.Sources.held c.args.sources.now)) read) c.in-Err-load.ensures.ends (rw c.requires.empty at c.write_status-in-Err-load.ensures)
+    (ap (with_file (g.S.Sources.held c.args.sources.now)) read) c.in-Err-load.ensures.ends (rw c.requires.empty at c.write_status-in-Err-load.ensures))
 
 pub returns-in-Ok-Call-Operate-default-OfTwo-clause-says : goal.returns-in-Ok-Call-Operate-default-OfTwo-clause-says
 returns-in-Ok-Call-Operate-default-OfTwo-clause-says g c =
@@ -68,8 +73,13 @@ returns-in-Ok-Call-Operate-default-OfTwo-clause-says g c =
     let read : with_file held (reading_of c.args.line.now) ≡ Called (Operate out operation) =
     ap (with_file held) said in
     elim c.match-join.branch [
-      | in-Ok w ↦ rw (w.result-is, w.text-is) (says-operated w.write_status.result (with_file held (reading_of c.args.line.now)) out operation c.args.number before after w.write_status.new.out.items
-          read (rw w.in-Ok.is at c.join.ensures.ends) (rw c.requires.empty at w.write_status.ensures))
-      | in-Err w ↦ rw (w.result-is, w.text-is) (says-refused w.write_status-in-Err.result (with_file held (reading_of c.args.line.now)) (Operate out operation) c.args.number before after w.in-Err.status w.write_status-in-Err.new.out.items
-          read (rw w.in-Err.is at c.join.ensures.ends) (rw c.requires.empty at w.write_status-in-Err.ensures))
+      | in-Ok w ↦ rw (w.result-is, w.text-is) (says-apart _ _ _ _ _ c.args.out.now.items _ (says-operated w.write_status.result (with_file held (reading_of c.args.line.now)) out operation c.args.number before after w.write_status.new.out.items
+          read (rw w.in-Ok.is at c.join.ensures.ends) (rw c.requires.empty at w.write_status.ensures)))
+      | in-Err w ↦ rw (w.result-is, w.text-is) (says-apart _ _ _ _ _ c.args.out.now.items _ (says-refused w.write_status-in-Err.result (with_file held (reading_of c.args.line.now)) (Operate out operation) c.args.number before after w.in-Err.status w.write_status-in-Err.new.out.items
+          read (rw w.in-Err.is at c.join.ensures.ends) (rw c.requires.empty at w.write_status-in-Err.ensures)))
     ]
+
+pub returns-in-Ok-Call-On-default-Print-clause-says : goal.returns-in-Ok-Call-On-default-Print-clause-says
+returns-in-Ok-Call-On-default-Print-clause-says g c =
+    let said : reading_of c.args.line.now ≡ Called (On c.in-Ok-Call-On-default-Print.object.now Print) = search rules in
+    rw said c.answer_print.ensures.says
