@@ -6,11 +6,12 @@ ghost use Rattle.model.specs.declared.call.Act.TheVariants.{Print};
 ghost use Rattle.model.specs.declared.call.Call.TheVariants.{On};
 ghost use Rattle.model.specs.Grammar.{Called, reading_of};
 ghost use Rattle.model.specs.Loads.{readings_in, with_file};
+ghost use Rattle.model.specs.Renamed.{renamed};
 ghost use Rattle.model.specs.Run.{out_of};
 ghost use Rattle.model.specs.Poisoned.{Ran};
 ghost use Rattle.model.specs.Runs.{TellsOfNoWant};
 ghost use Rattle.script.specs.Named.{state_in};
-ghost use Rattle.script.specs.Turns.{SaysBehind};
+ghost use Rattle.script.specs.Turns.{Says, SaysBehind};
 ghost use Rattle.session.specs.Performed.{made_in};
 
 use crate::environment::Environment;
@@ -184,22 +185,38 @@ fn answer_line<F: FileReader + FileWriter, S: Sources, R: Runner + Drop>(
     }
     match read {
         Ok(Line::Silent) => Ok(()),
-        Ok(Line::Call(call)) => {
-            text::write_status(text, number, Status::Ok)?;
-            match environment.perform(files, call, text) {
-                Ok(()) => Ok(()),
-                Err(status) => {
-                    text.clear();
-                    text::write_status(text, number, status)
-                }
-            }
-        }
+        Ok(Line::Call(call)) => answer_call(files, environment, number, call, text),
         Ok(Line::Load(load)) => match environment.load(files, sources, load) {
             Ok(()) => text::write_status(text, number, Status::Ok),
             Err(status) => text::write_status(text, number, status),
         },
         Err(LineFault::Syntax) => text::write_status(text, number, Status::Syntax),
         Err(LineFault::NoMemory) => text::write_status(text, number, Status::OutOfMemory),
+    }
+}
+
+/// Writes the answer to a call.
+fn answer_call<W: FileWriter, R: Runner + Drop>(
+    writer: &W,
+    environment: &mut Environment<R>,
+    number: u64,
+    call: Call<&str, &str>,
+    text: &mut Vec<u8>,
+) -> Result<(), AllocError>
+    requires empty { text.old.items ≡ [] }
+    requires made { made_in environment.old.session < 2 ^ 64 - 1 }
+    ensures says { OnOk result (Says number (state_in environment.old)
+        (Called (renamed (λ name. name.now) (λ name. name.now) call.entry)) text.new.items
+        (state_in environment.new)) }
+    ensures made { made_in environment.new.session ≤ made_in environment.old.session + 1 }
+{
+    text::write_status(text, number, Status::Ok)?;
+    match environment.perform(writer, call, text) {
+        Ok(()) => Ok(()),
+        Err(status) => {
+            text.clear();
+            text::write_status(text, number, status)
+        }
     }
 }
 

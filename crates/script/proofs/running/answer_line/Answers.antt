@@ -1,7 +1,8 @@
 -- What is written is one answer to what the line is read as.
-use Rattle.std.proofs.Common.{◌≡◌, [], ap, refl, rules, sym}
+use Rattle.std.proofs.Common.{◌≡◌, [], ap, rules, sym}
 use Rattle.std.proofs.lemmas.List.{append-nil}
 use Rattle.model.specs.declared.call.Act.TheVariants.{Print}
+use Rattle.model.specs.declared.call.Call.{Call}
 use Rattle.model.specs.declared.call.Call.TheVariants.{On, Operate}
 use Rattle.model.specs.declared.call.Operation.{Operation}
 use Rattle.model.specs.declared.call.Operation.TheVariants.{OfTwo}
@@ -11,27 +12,20 @@ use Rattle.model.specs.Loads.{file_in, with_file}
 use Rattle.model.specs.Renamed.{renamed, renamed_out}
 use Rattle.script.specs.Named.{state_in}
 use Rattle.script.proofs.LoadLaws.{answered_with}
-use Rattle.script.proofs.TurnLaws.{refused-load, says-apart, says-load, says-nothing, says-ok, says-operated, says-malformed, says-refused, says-unread}
+use Rattle.script.proofs.TurnLaws.{refused-load, says-apart, says-load, says-nothing, says-operated, says-malformed, says-refused, says-unread}
 use Rattle.script.proofs.running.answer_line.Goals.{in-Ok, in-Err}
 use Rattle.script.proofs.running.answer_line.Goals as goal
 
 pub returns-in-Ok-Silent-clause-says : goal.returns-in-Ok-Silent-clause-says
 returns-in-Ok-Silent-clause-says g c = ([], sym (append-nil c.args.out.now.items), says-nothing (with_file (g.S.Sources.held c.args.sources.now) (reading_of c.args.line.now)) c.args.number (state_in c.args.environment.now) c.args.text.now.items (search rules) c.requires.empty)
 
-pub returns-in-Ok-perform-clause-says : goal.returns-in-Ok-perform-clause-says
-returns-in-Ok-perform-clause-says g c = (
-  [],
-  sym (append-nil c.args.out.now.items),
-  says-ok (with_file (g.S.Sources.held c.args.sources.now) (reading_of c.args.line.now)) (renamed (λ name. name.now) (λ name. name.now) c.in-Ok-Call.call) c.args.number (state_in c.args.environment.now) (state_in c.perform.new.self) c.perform.new.text.items
-      (search rules) c.in-Ok-perform.ensures.ends
-      (rw (c.in-Ok-perform.ensures.lines, c.in_ok-write_status-in-Ok-Call.ensures, c.requires.empty) refl),
-)
-
-pub returns-in-Err-perform-clause-says : goal.returns-in-Err-perform-clause-says
-returns-in-Err-perform-clause-says g c =
-    says-apart _ _ _ _ _ c.args.out.now.items _ (says-refused c.write_status-in-Err-perform.result (with_file (g.S.Sources.held c.args.sources.now) (reading_of c.args.line.now)) (renamed (λ name. name.now) (λ name. name.now) c.in-Ok-Call.call) c.args.number (state_in c.args.environment.now) (state_in c.perform.new.self) c.in-Err-perform.status c.write_status-in-Err-perform.new.out.items
-    (search rules) c.in-Err-perform.ensures.ends
-    (rw c.clear.ensures.items at c.write_status-in-Err-perform.ensures))
+pub returns-in-Ok-Call-clause-says : goal.returns-in-Ok-Call-clause-says
+returns-in-Ok-Call-clause-says g c =
+    let call : Call Name Name = renamed (λ name. name.now) (λ name. name.now) c.in-Ok-Call.call in
+    let held = g.S.Sources.held c.args.sources.now in
+    let said : reading_of c.args.line.now ≡ Called call = search rules in
+    let read : with_file held (reading_of c.args.line.now) ≡ Called call = ap (with_file held) said in
+    rw read (says-apart c.answer_call.result (Called call) c.args.number (state_in c.args.environment.now) (state_in c.answer_call.new.environment) c.args.out.now.items c.answer_call.new.text.items c.answer_call.ensures.says)
 
 pub returns-in-Err-Syntax-clause-says : goal.returns-in-Err-Syntax-clause-says
 returns-in-Err-Syntax-clause-says g c =
