@@ -34,20 +34,6 @@ impl Collects for Tuples {
     }
 }
 
-impl Collects for Vec<Entry> {
-    ghost entries_of = { λ list. list.items };
-
-    fn with_capacity(alloc: Global, entries: usize) -> Result<Vec<Entry>, NoMemory> {
-        Ok(Vec::with_capacity(alloc, entries)?)
-    }
-
-    #[inline(always)]
-    fn put(&mut self, entry: Entry) -> Result<(), NoMemory> {
-        self.push(entry)?;
-        Ok(())
-    }
-}
-
 /// Each entry as its row, its column and its word.
 impl Collects for Vec<(u64, u64, u64)> {
     ghost entries_of = { λ list. map (λ entry. entry_at entry.0 entry.1 entry.2) list.items };

@@ -2,18 +2,18 @@
 ghost use Rattle.std.specs.Prelude.{◌≡◌, ◌+◌, ◌++◌, ◌<◌, ◌≤◌, IfOk, length};
 ghost use Rattle.mmio.specs.Listing.{Lists, words_told};
 
-use crate::collects::Collects;
 use crate::listing::{Listed, Stop, list_lines};
 use algebra::Domain;
 use memchr::memchr;
-use model::{Entry, Heading};
+use model::{Heading, NoMemory};
 use std::alloc::Global;
 use std::thread::{Threads, join};
+use store::Tuples;
 
 /// What a text lists, as long as no part of it lists more than the heading announces; or what stopped the listing of
 /// some part. Each thread lists about so many bytes, the calling one those in front; room is made there for the entries
 /// of `whole` bytes.
-pub fn list_beside<'a, R: Threads, C: Collects>(
+pub fn list_beside<'a, R: Threads>(
     rt: &R,
     alloc: Global,
     domain: Domain,
@@ -21,23 +21,20 @@ pub fn list_beside<'a, R: Threads, C: Collects>(
     each: usize,
     whole: usize,
     text: &'a [u8],
-) -> Result<Listed<C>, Stop<'a>>
+) -> Result<Listed<Tuples>, Stop<'a>>
     requires { 0 < each }
-    ensures { IfOk result (λ listed.
-        Lists domain heading text.entry.now (C.entries_of listed.entries) listed.lines) }
+    ensures { IfOk result (λ listed. Lists domain heading text.entry.now listed.entries listed.lines) }
 {
     let (front, back) = cut(text, text.len().saturating_sub(each));
     if front.is_empty() || back.is_empty() {
         return list_lines(alloc, domain, heading, whole, text);
     }
-    let theirs = move || -> Result<Listed<Vec<Entry>>, Stop<'_>>
-        ensures { IfOk result (λ listed.
-            Lists domain heading back.entry.now listed.entries.items listed.lines) }
+    let theirs = move || -> Result<Listed<Tuples>, Stop<'_>>
+        ensures { IfOk result (λ listed. Lists domain heading back.entry.now listed.entries listed.lines) }
     { list_lines(alloc, domain, heading, back.len(), back) };
-    let ours = move || -> Result<Listed<C>, Stop<'_>>
+    let ours = move || -> Result<Listed<Tuples>, Stop<'_>>
         requires { 0 < each }
-        ensures { IfOk result (λ listed.
-            Lists domain heading front.entry.now (C.entries_of listed.entries) listed.lines) }
+        ensures { IfOk result (λ listed. Lists domain heading front.entry.now listed.entries listed.lines) }
     { list_beside(rt, alloc, domain, heading, each, whole, front) };
     let (others, listed) = join(rt, theirs, ours);
     match (listed, others) {
@@ -48,22 +45,18 @@ pub fn list_beside<'a, R: Threads, C: Collects>(
 }
 
 /// What two parts list, one behind the other.
-fn both<'a, C: Collects>(
-    listed: Listed<C>,
-    others: Listed<Vec<Entry>>,
-) -> Result<Listed<C>, Stop<'a>>
+fn both<'a>(listed: Listed<Tuples>, others: Listed<Tuples>) -> Result<Listed<Tuples>, Stop<'a>>
     ensures { IfOk result (λ all. (all.lines ≡ listed.lines + others.lines)
-        × (C.entries_of all.entries ≡ C.entries_of listed.entries ++ others.entries.items)) }
+        × (all.entries ≡ listed.entries ++ others.entries)) }
 {
-    let Listed { mut entries, lines } = listed;
     // No memory has more lines than can be counted.
-    let Some(lines) = lines.checked_add(others.lines) else {
+    let Some(lines) = listed.lines.checked_add(others.lines) else {
         return Err(Stop::NoMemory);
     };
-    for entry in others.entries.iter() {
-        entries.put(*entry).map_err(|_| Stop::NoMemory)?;
+    match listed.entries.join(others.entries) {
+        Ok(entries) => Ok(Listed { entries, lines }),
+        Err(NoMemory) => Err(Stop::NoMemory),
     }
-    Ok(Listed { entries, lines })
 }
 
 /// A text in two: the first part ends with the first line that ends behind a place, or has all lines.

@@ -18,10 +18,6 @@ use store::Tuples;
 /// How many bytes of a file a thread is started for: to start it takes about a fifth of the time of these.
 const WORTH_A_THREAD: usize = 1 << 16;
 
-/// By fewer threads a file isn't read faster than by one, since the calling thread puts what the others list behind its
-/// own, which takes about half as long as to read it.
-const LEAST_THREADS: usize = 3;
-
 /// Who reads files: the calling thread, or others beside it.
 pub trait FileReader {
     /// The matrix that a Matrix Market file stands for: its rows, its columns, and its entries in the order of
@@ -62,7 +58,7 @@ impl<R: Threads> FileReader for SeveralThreads<'_, R> {
     ) -> Result<(u64, u64, Tuples), MmFault> {
         let parts = (bytes.len() / WORTH_A_THREAD) as u64;
         let parts = parts.min(self.others().saturating_add(1)) as usize;
-        if parts < LEAST_THREADS {
+        if parts < 2 {
             return read_as(alloc, bytes, domain);
         }
         let (heading, rest) = head(domain, bytes)?;

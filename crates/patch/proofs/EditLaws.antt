@@ -16,10 +16,12 @@ use Rattle.model.specs.Entries.{IsNotBehind, entry_at}
 use Rattle.model.specs.Object.{Content}
 use Rattle.store.specs.Stored.{AreIn}
 use Rattle.store.proofs.Order.{all_pairs_from_map, all_pairs_map}
+use Rattle.masks.specs.declared.join.Joining.TheVariants.{Right}
+use Rattle.masks.specs.Joins.{join_word}
 use Rattle.masks.specs.Masks.{has_word}
 use Rattle.patch.specs.declared.edits.Edit.{Edit}
 use Rattle.patch.specs.declared.edits.Edit.TheVariants.{Set, Remove}
-use Rattle.patch.specs.Edits.{IsInside, edited, edited_once, place_of, removal_entry, set_entry}
+use Rattle.patch.specs.Edits.{IsInside, IsSet, edited, edited_once, place_of, removal_entry, set_entry}
 
 -- what a position has after an edit, by what it had
 abbrev after_one : ℕ → ℕ → Option ℕ → Edit → Option ℕ
@@ -274,6 +276,43 @@ merged-edited es c i j =
       either : (removes last : ℕ) → cond (has_word false (Some removes))
           (cond (not (has_word true (Some removes))) (Some last) None) (c i j) ≡ cond (eqb removes 0) (Some last) None
       either removes last = elim (cases_Bool (eqb removes 0)) [ inl set ↦ rw set refl | inr removed ↦ rw removed refl ]
+
+-- ---- edits that set alone
+
+over_none : (word : Option ℕ) → join_word Right word None ≡ word
+over_none None = refl
+over_none (Some w) = refl
+
+over_some : (word : Option ℕ) (new : ℕ) → join_word Right word (Some new) ≡ Some new
+over_some None new = refl
+over_some (Some w) new = refl
+
+-- a word that is set before others of its position
+set_before : (i j : ℕ) (e : Entry) (es : List Entry) (v last : Option ℕ) → (eqb i e.row && eqb j e.col) ≡ true
+    → last_at i j es ≡ last → join_word Right v (last_at i j (e ∷ es)) ≡ join_word Right (Some e.word) last
+set_before i j e es v None at is = ap (join_word Right v) (last_first i j e es at is) ∙ over_some v e.word
+set_before i j e es v (Some t) at is = ap (join_word Right v) (last_later i j t e es is) ∙ over_some v t
+
+sets-after : (i j : ℕ) (es : List Edit) → All IsSet es → (v : Option ℕ)
+    → join_word Right v (last_at i j (map set_entry es)) ≡ after i j es v
+sets-after i j [] sets v = over_none v
+sets-after i j (Remove p q ∷ es) sets v = absurd (All-head IsSet (Remove p q) es sets)
+sets-after i j (Set p q new ∷ es) sets v =
+    let others = map set_entry es in
+    let rest = All-tail IsSet (Set p q new) es sets in
+    elim (cases_Bool (eqb i p && eqb j q)) [
+      | inl at ↦
+          set_before i j (entry_at p q new) others v (last_at i j others) at refl
+          ∙ sets-after i j es rest (Some new) ∙ rw at refl
+      | inr away ↦
+          ap (join_word Right v) (last_away i j (entry_at p q new) others away)
+          ∙ sets-after i j es rest v ∙ rw away refl
+    ]
+
+-- the words that edits set stand over what was there
+pub sets-edited : (es : List Edit) → All IsSet es → (c : Content) (i j : ℕ)
+    → join_word Right (c i j) (gathered None (map set_entry es) i j) ≡ edited es c i j
+sets-edited es sets c i j = sets-after i j es sets (c i j) ∙ sym (edited-after es c i j)
 
 -- edits inside some rows change nothing behind them
 pub edited-behind : (rows cols : ℕ) (es : List Edit) → All (IsInside rows cols) es → (c : Content) (i j : ℕ) → rows ≤ i

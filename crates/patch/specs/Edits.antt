@@ -20,6 +20,11 @@ abbrev pub IsInside : ℕ → ℕ → Edit → Type 0
 IsInside rows cols (Set i j word) = (i < rows) × (j < cols)
 IsInside rows cols (Remove i j) = (i < rows) × (j < cols)
 
+-- an edit sets an entry
+abbrev pub IsSet : Edit → Type 0
+IsSet (Set i j word) = Unit {0}
+IsSet (Remove i j) = ⊥
+
 -- the row and the column of an edit
 abbrev pub place_of : Edit → ℕ × ℕ
 place_of (Set i j word) = (i, j)

@@ -1,13 +1,13 @@
 //! Many edits of a store at once.
-ghost use Rattle.std.specs.Prelude.{◌≡◌, ℕ, IfOk, OnErr, OnOk, map};
+ghost use Rattle.std.specs.Prelude.{◌≡◌, ℕ, IfOk, OnErr, OnOk, map, true};
 ghost use Rattle.std.specs.List.{All, AllPairs};
 ghost use Rattle.model.specs.Entries.{IsNotBehind};
 ghost use Rattle.store.specs.Stored.{content_of};
-ghost use Rattle.patch.specs.Edits.{IsInside, edited, removal_entry, set_entry};
+ghost use Rattle.patch.specs.Edits.{IsInside, IsSet, edited, removal_entry, set_entry};
 
 use crate::Edit;
 use crate::runs::block_of_sorted;
-use masks::{Mask, MaskTest, StoredMask, write_back};
+use masks::{Joining, Mask, MaskTest, StoredMask, join_rows, write_back};
 use model::{Entry, NoMemory};
 use std::alloc::Global;
 use store::{Sparse, Store};
@@ -29,6 +29,58 @@ pub(crate) fn merge_into(alloc: Global, store: &mut Store, edits: &[Edit]) -> Re
 
 /// A store after edits, which come row by row.
 fn merge(alloc: Global, store: &Sparse, edits: &[Edit]) -> Result<Store, NoMemory>
+    requires inside { All (IsInside store.now.rows store.now.cols) edits.now }
+    requires order { AllPairs IsNotBehind (map set_entry edits.now) }
+    ensures rows { IfOk result (λ merged. merged.rows ≡ store.now.rows) }
+    ensures cols { IfOk result (λ merged. merged.cols ≡ store.now.cols) }
+    ensures content { IfOk result (λ merged. (i j : ℕ)
+        → content_of merged i j ≡ edited edits.now (content_of store.now) i j) }
+{
+    if are_sets(edits) {
+        merge_sets(alloc, store, edits)
+    } else {
+        merge_any(alloc, store, edits)
+    }
+}
+
+/// Whether edits set entries alone.
+fn are_sets(edits: &[Edit]) -> bool
+    ensures { result ≡ true → All IsSet edits.now }
+{
+    for edit in edits {
+        if !is_set(*edit) {
+            return false;
+        }
+    }
+    true
+}
+
+/// Whether an edit sets an entry.
+fn is_set(edit: Edit) -> bool
+    ensures { result ≡ true → IsSet edit }
+{
+    matches!(edit, Edit::Set(_, _, _))
+}
+
+/// A store after edits that set entries alone: theirs are joined with its own.
+fn merge_sets(alloc: Global, store: &Sparse, edits: &[Edit]) -> Result<Store, NoMemory>
+    requires inside { All (IsInside store.now.rows store.now.cols) edits.now }
+    requires order { AllPairs IsNotBehind (map set_entry edits.now) }
+    requires sets { All IsSet edits.now }
+    ensures rows { IfOk result (λ merged. merged.rows ≡ store.now.rows) }
+    ensures cols { IfOk result (λ merged. merged.cols ≡ store.now.cols) }
+    ensures content { IfOk result (λ merged. (i j : ℕ)
+        → content_of merged i j ≡ edited edits.now (content_of store.now) i j) }
+{
+    let (rows, cols) = (store.rows(), store.cols());
+    let words = block_of_sorted(alloc, set_entries(alloc, edits)?, None, 0..rows, cols)?;
+    let words = Sparse::from_block(rows, words);
+    let block = join_rows(alloc, store, &words, Joining::Right, 0..rows)?;
+    Ok(Store::from_block(rows, block))
+}
+
+/// A store after edits of any kind.
+fn merge_any(alloc: Global, store: &Sparse, edits: &[Edit]) -> Result<Store, NoMemory>
     requires inside { All (IsInside store.now.rows store.now.cols) edits.now }
     requires order { AllPairs IsNotBehind (map set_entry edits.now) }
     ensures rows { IfOk result (λ merged. merged.rows ≡ store.now.rows) }

@@ -1,5 +1,5 @@
 -- Entries that came row by row, and those behind them.
-use Rattle.std.specs.Prelude.{ℕ, ◌≡◌, ◌<◌, ◌≤◌, ◌⊎◌, ◌++◌, List, length}
+use Rattle.std.specs.Prelude.{ℕ, ◌≡◌, ◌<◌, ◌≤◌, ◌⊎◌, ◌++◌, ◌∷◌, List, length}
 use Rattle.std.specs.List.{All}
 use Rattle.model.specs.declared.entry.Entry.{Entry}
 use Rattle.model.specs.Entries.{InOrder, Precedes, entry_at}
@@ -9,6 +9,10 @@ use Rattle.store.specs.Fibers.{AreFlat, entries_in}
 -- an entry stands at a row and a column, or before
 abbrev pub IsUpTo : ℕ → ℕ → Entry → Type 0
 IsUpTo row col e = (e.row < row) ⊎ ((e.row ≡ row) × (e.col ≤ col))
+
+-- a list of entries begins with one
+abbrev pub IsFirst : Entry → List Entry → Type 0
+IsFirst e es = (others : List Entry) × (es ≡ e ∷ others)
 
 -- the lists are fibers, of which the last entry stands at a row and a column
 pub record AreRows (rows : FiberLists) (row col : ℕ) : Type 0 where

@@ -1,10 +1,11 @@
 //! Entries in the order in which they come.
-ghost use Rattle.std.specs.Prelude.{◌≡◌, ◌<◌, ◌++◌, ◌∷◌, [], false, true, length, IfErr, IfOk, OnErr, OnOk};
+ghost use Rattle.std.specs.Prelude.{◌≡◌, ◌<◌, ◌++◌, ◌∷◌, [], false, true, length};
+ghost use Rattle.std.specs.Prelude.{IfErr, IfOk, MatchOption, OnErr, OnOk};
 ghost use Rattle.std.specs.List.{All};
 ghost use Rattle.std.specs.List.Sorted.{IsPermutation};
 ghost use Rattle.model.specs.Entries.{InOrder, Precedes};
 ghost use Rattle.store.specs.Fibers.{AreFlat, entries_along, entries_in};
-ghost use Rattle.store.specs.Tuples.{AreRows};
+ghost use Rattle.store.specs.Tuples.{AreRows, IsFirst};
 
 use crate::edits::make_room;
 use crate::lists::count_others;
@@ -67,6 +68,32 @@ impl Tuples {
         Ok(())
     }
 
+    /// These entries, and others behind them. Where those go on row by row, as the entries of a part of a file do from
+    /// those of the part before, their lists are put behind these as a whole.
+    pub fn join(self, others: Tuples) -> Result<Tuples, NoMemory>
+        ensures { IfOk result (λ all. all ≡ self ++ others) }
+    {
+        let Tuples {
+            mut rows,
+            row,
+            col,
+            mut list,
+        } = self;
+        if list.is_empty() && leads(&rows, row, col, &others.rows) {
+            put_behind(&mut rows, &others.rows)?;
+            return Ok(Tuples { rows, ..others });
+        }
+        let FiberLists { ends, inner, words } = others.rows;
+        list_fibers(&mut list, Fibers::of_lists(&ends, &inner, &words))?;
+        list.extend_from_slice(&others.list)?;
+        Ok(Tuples {
+            rows,
+            row,
+            col,
+            list,
+        })
+    }
+
     /// The rows as which all entries lie; or the entries, where they didn't come row by row.
     pub fn into_rows(self) -> Result<FiberLists, Tuples>
         ensures flat { IfOk result (λ rows. AreFlat rows.ends.items rows.inner.items rows.words.items) }
@@ -107,6 +134,55 @@ fn goes_on(rows: &FiberLists, row: u64, col: u64, entry: &Entry) -> bool
     } else {
         row < entry.row
     }
+}
+
+/// Whether there are more rows, whose first entry stands behind all rows that there are, of which the last entry stands
+/// at a row and a column.
+fn leads(rows: &FiberLists, row: u64, col: u64, more: &FiberLists) -> bool
+    requires rows { AreRows rows.now row col }
+    requires more { AreFlat more.now.ends.items more.now.inner.items more.now.words.items }
+    ensures some { result ≡ true → 0 < length (entries_in more.now) }
+    ensures yes { result ≡ true → All (λ e. All (Precedes e) (entries_in more.now)) (entries_in rows.now) }
+    ensures no { result ≡ false → 0 < length (entries_in more.now)
+        → All (λ e. All (Precedes e) (entries_in more.now)) (entries_in rows.now) → ⊥ }
+{
+    match first_entry(more) {
+        Some(first) => goes_on(rows, row, col, &first),
+        None => false,
+    }
+}
+
+/// The first entry of rows.
+fn first_entry(rows: &FiberLists) -> Option<Entry>
+    requires { AreFlat rows.now.ends.items rows.now.inner.items rows.now.words.items }
+    ensures { MatchOption result (entries_in rows.now ≡ [])
+        (λ first. IsFirst first (entries_in rows.now)) }
+{
+    let fibers = Fibers::of_lists(&rows.ends, &rows.inner, &rows.words);
+    let row = fibers.outer();
+    let (cols, words, _) = fibers.split(row);
+    if cols.is_empty() {
+        return None;
+    }
+    Some(Entry {
+        row,
+        col: cols[0],
+        word: words[0],
+    })
+}
+
+/// Puts rows behind others.
+fn put_behind(rows: &mut FiberLists, more: &FiberLists) -> Result<(), NoMemory>
+    requires flat { AreFlat rows.old.ends.items rows.old.inner.items rows.old.words.items }
+    requires more { AreFlat more.now.ends.items more.now.inner.items more.now.words.items }
+    requires order { All (λ e. All (Precedes e) (entries_in more.now)) (entries_in rows.old) }
+    ensures flat { OnOk result (AreFlat rows.new.ends.items rows.new.inner.items rows.new.words.items) }
+    ensures entries { OnOk result (entries_in rows.new ≡ entries_in rows.old ++ entries_in more.now) }
+{
+    let from = rows.inner.len();
+    rows.inner.extend_from_slice(&more.inner)?;
+    rows.words.extend_from_slice(&more.words)?;
+    rows.attach(&more.ends, from)
 }
 
 /// Puts an entry behind all others: into the last row, or into one of its own. Without memory all stays.

@@ -7,7 +7,7 @@ use Rattle.model.specs.declared.entry.Entry.{Entry}
 use Rattle.store.specs.Stored.{block_content, content_of}
 use Rattle.patch.specs.Edits.{removal_entry, set_entry}
 use Rattle.patch.proofs.EditLaws.{edited-behind, merged-edited, removals_inside, removals_order, sets_inside}
-use Rattle.patch.proofs.merging.merge.Goals as goal
+use Rattle.patch.proofs.merging.merge_any.Goals as goal
 
 pub block_of_sorted-requires-clause-inside : goal.block_of_sorted-requires-clause-inside
 block_of_sorted-requires-clause-inside c =
