@@ -35,7 +35,7 @@ pub struct Environment<R: Runner + Drop> {
 }
 
 impl<R: Runner + Drop> Environment<R> {
-    ghost use Rattle.script.specs.Named.{asks_text, changes_names, state_in};
+    ghost use Rattle.script.specs.Named.{asks_text, changes_names, is_print, state_in};
     ghost use Rattle.script.specs.Replied.{IsAnswered, IsNamed, IsReplied};
 
     /// No objects, whose values a runner makes. It takes no memory.
@@ -50,16 +50,12 @@ impl<R: Runner + Drop> Environment<R> {
         }
     }
 
-    /// Does a call, and writes the data lines of its answer. An error leaves the objects as they were;
-    /// what it leaves at the text's end is no answer.
+    /// Does a call that asks for no text, and writes the data lines of its answer. An error leaves the objects as they
+    /// were; what it leaves at the text's end is no answer.
     #[tactic(auto, unfolding(model::specs::Run::data_lines_of))]
-    pub fn perform<W: FileWriter>(
-        &mut self,
-        writer: &W,
-        call: Call<&str, &str>,
-        text: &mut Vec<u8>,
-    ) -> Result<(), Status>
-        requires { made_in self.old.session < 2 ^ 64 - 1 }
+    pub fn perform(&mut self, call: Call<&str, &str>, text: &mut Vec<u8>) -> Result<(), Status>
+        requires made { made_in self.old.session < 2 ^ 64 - 1 }
+        requires textless { asks_text call ≡ false }
         ensures { IsAnswered self.old self.new (renamed (λ name. name.now) (λ name. name.now) call.entry)
             text.old.items text.new.items result }
     {
@@ -70,25 +66,19 @@ impl<R: Runner + Drop> Environment<R> {
                 shape,
             } => self.create(name, domain, shape),
             Call::Dup { name, object } => self.dup(name, object),
-            Call::On { object, act } => self.act(writer, object, act, text),
+            Call::On { object, act } => self.act(object, act, text),
             call => self.perform_known(call, text),
         }
     }
 
-    /// Does something to the object of a name, or writes what it answers.
-    fn act<W: FileWriter>(
-        &mut self,
-        writer: &W,
-        object: &str,
-        act: Act,
-        text: &mut Vec<u8>,
-    ) -> Result<(), Status>
-        requires { made_in self.old.session < 2 ^ 64 - 1 }
+    /// Does something to the object of a name, which asks for no text, or writes what it answers.
+    fn act(&mut self, object: &str, act: Act, text: &mut Vec<u8>) -> Result<(), Status>
+        requires made { made_in self.old.session < 2 ^ 64 - 1 }
+        requires textless { is_print act ≡ false }
         ensures { IsAnswered self.old self.new (Call.On object.now act) text.old.items text.new.items result }
     {
         match act {
             Act::Free => self.free(object),
-            Act::Print => self.print(writer, object, text),
             act => self.perform_known(Call::On { object, act }, text),
         }
     }

@@ -1,5 +1,6 @@
 //! Runs of scripts, line by line.
-ghost use Rattle.std.specs.Prelude.{ℕ, ◌≡◌, ◌<◌, ◌≤◌, ◌+◌, ◌-◌, ◌^◌, ◌++◌, List, [], ◌∷◌, OnOk, OnErr, length, take};
+ghost use Rattle.std.specs.Prelude.{ℕ, ◌≡◌, ◌<◌, ◌≤◌, ◌+◌, ◌-◌, ◌^◌, ◌++◌, List, [], ◌∷◌};
+ghost use Rattle.std.specs.Prelude.{MatchOption, OnErr, OnOk, false, length, take};
 ghost use Rattle.std.specs.Str.Lines.{strip_carriage_return};
 ghost use Rattle.mmio.specs.Written.{Grows};
 ghost use Rattle.model.specs.declared.call.Act.TheVariants.{Print};
@@ -10,7 +11,7 @@ ghost use Rattle.model.specs.Renamed.{renamed};
 ghost use Rattle.model.specs.Run.{out_of};
 ghost use Rattle.model.specs.Poisoned.{Ran};
 ghost use Rattle.model.specs.Runs.{TellsOfNoWant};
-ghost use Rattle.script.specs.Named.{state_in};
+ghost use Rattle.script.specs.Named.{asks_text, state_in};
 ghost use Rattle.script.specs.Turns.{Says, SaysBehind};
 ghost use Rattle.session.specs.Performed.{made_in};
 
@@ -172,20 +173,12 @@ fn answer_line<F: FileReader + FileWriter, S: Sources, R: Runner + Drop>(
             Err(status) => text::write_status(text, number, status),
         };
     }
-    if let Ok(
-        Line::Call(
-            Call::On {
-                object,
-                act: Act::Print,
-            },
-        ),
-    ) = &read
-    {
-        return answer_print(files, environment, number, object, text, out);
-    }
     match read {
         Ok(Line::Silent) => Ok(()),
-        Ok(Line::Call(call)) => answer_call(files, environment, number, call, text),
+        Ok(Line::Call(call)) => match printed(&call) {
+            Some(object) => answer_print(files, environment, number, object, text, out),
+            None => answer_call(environment, number, call, text),
+        },
         Ok(Line::Load(load)) => match environment.load(files, sources, load) {
             Ok(()) => text::write_status(text, number, Status::Ok),
             Err(status) => text::write_status(text, number, status),
@@ -195,15 +188,28 @@ fn answer_line<F: FileReader + FileWriter, S: Sources, R: Runner + Drop>(
     }
 }
 
-/// Writes the answer to a call.
-fn answer_call<W: FileWriter, R: Runner + Drop>(
-    writer: &W,
+/// The object that a call prints, where it is a print.
+fn printed<'a>(call: &Call<&'a str, &'a str>) -> Option<&'a str>
+    ensures { MatchOption result (asks_text call.now ≡ false) (λ object. call.now ≡ On object Print) }
+{
+    match call {
+        Call::On {
+            object,
+            act: Act::Print,
+        } => Some(*object),
+        _ => None,
+    }
+}
+
+/// Writes the answer to a call that is no print.
+fn answer_call<R: Runner + Drop>(
     environment: &mut Environment<R>,
     number: u64,
     call: Call<&str, &str>,
     text: &mut Vec<u8>,
 ) -> Result<(), AllocError>
     requires empty { text.old.items ≡ [] }
+    requires textless { asks_text call ≡ false }
     requires made { made_in environment.old.session < 2 ^ 64 - 1 }
     ensures says { OnOk result (Says number (state_in environment.old)
         (Called (renamed (λ name. name.now) (λ name. name.now) call.entry)) text.new.items
@@ -211,7 +217,7 @@ fn answer_call<W: FileWriter, R: Runner + Drop>(
     ensures made { made_in environment.new.session ≤ made_in environment.old.session + 1 }
 {
     text::write_status(text, number, Status::Ok)?;
-    match environment.perform(writer, call, text) {
+    match environment.perform(call, text) {
         Ok(()) => Ok(()),
         Err(status) => {
             text.clear();

@@ -1,5 +1,5 @@
 -- What is written is one answer to what the line is read as.
-use Rattle.std.proofs.Common.{◌≡◌, [], ap, rules, sym}
+use Rattle.std.proofs.Common.{◌≡◌, ◌∙◌, [], ap, refl, rules, sym}
 use Rattle.std.proofs.lemmas.List.{append-nil}
 use Rattle.model.specs.declared.call.Act.TheVariants.{Print}
 use Rattle.model.specs.declared.call.Call.{Call}
@@ -19,8 +19,8 @@ use Rattle.script.proofs.running.answer_line.Goals as goal
 pub returns-in-Ok-Silent-clause-says : goal.returns-in-Ok-Silent-clause-says
 returns-in-Ok-Silent-clause-says g c = ([], sym (append-nil c.args.out.now.items), says-nothing (with_file (g.S.Sources.held c.args.sources.now) (reading_of c.args.line.now)) c.args.number (state_in c.args.environment.now) c.args.text.now.items (search rules) c.requires.empty)
 
-pub returns-in-Ok-Call-clause-says : goal.returns-in-Ok-Call-clause-says
-returns-in-Ok-Call-clause-says g c =
+pub returns-in-None-clause-says : goal.returns-in-None-clause-says
+returns-in-None-clause-says g c =
     let call : Call Name Name = renamed (λ name. name.now) (λ name. name.now) c.in-Ok-Call.call in
     let held = g.S.Sources.held c.args.sources.now in
     let said : reading_of c.args.line.now ≡ Called call = search rules in
@@ -73,7 +73,10 @@ returns-in-Ok-Call-Operate-default-OfTwo-clause-says g c =
           read (rw w.in-Err.is at c.join.ensures.ends) (rw c.requires.empty at w.write_status-in-Err.ensures)))
     ]
 
-pub returns-in-Ok-Call-On-default-Print-clause-says : goal.returns-in-Ok-Call-On-default-Print-clause-says
-returns-in-Ok-Call-On-default-Print-clause-says g c =
-    let said : reading_of c.args.line.now ≡ Called (On c.in-Ok-Call-On-default-Print.object.now Print) = search rules in
-    rw said c.answer_print.ensures.says
+pub returns-in-Some-clause-says : goal.returns-in-Some-clause-says
+returns-in-Some-clause-says g c =
+    let call : Call Name Name = renamed (λ name. name.now) (λ name. name.now) c.in-Ok-Call.call in
+    let said : reading_of c.args.line.now ≡ Called call = search rules in
+    let is : call ≡ On c.in-Some.object.now Print = rw c.in-Some.ensures refl in
+    let read : reading_of c.args.line.now ≡ Called (On c.in-Some.object.now Print) = said ∙ ap Called is in
+    rw read c.answer_print.ensures.says
