@@ -13,7 +13,7 @@ ghost use Rattle.elementwise.specs.Meets.{HasMeet, met_content};
 use crate::pairs::{Pairs, pair_fibers};
 use algebra::BinaryOp;
 use lanes::zip_words;
-use masks::{Joining, append_fibers, are_alike, join_alike};
+use masks::{Joining, are_alike, join_alike};
 use model::NoMemory;
 use std::alloc::Global;
 use std::ops::Range;
@@ -118,7 +118,7 @@ fn intersect_part(
     let (lefts, rights) = (a.fibers_in(first..past), b.fibers_in(first..past));
     let count = intersect_fibers(pairs, lefts, rights, op)?;
     let FiberLists { ends, inner, words } = &pairs.lists;
-    append_fibers(lists, ends, &inner[..count], words)
+    lists.append(ends, &inner[..count], words)
 }
 
 /// Makes the first pairs the intersection of two sides' fibers, and answers how many there are.

@@ -11,7 +11,6 @@ ghost use Rattle.store.specs.Stored.{AreIn, along, block_content, content_of};
 ghost use Rattle.masks.specs.Joins.{AreJoined, HasJoin, alone_of, both_of, joined};
 
 use crate::alike::{are_alike, join_alike};
-use crate::append::append_fibers;
 use crate::few::{has_few, join_few};
 use crate::full::{Side, full_side, join_full};
 use crate::merge::{Places, merge_fibers, most_places};
@@ -229,7 +228,7 @@ fn join_part(
     let (lefts, rights) = (left.fibers_in(first..past), right.fibers_in(first..past));
     let count = join_fibers(places, lefts, rights, by)?;
     let FiberLists { ends, inner, words } = &places.lists;
-    append_fibers(lists, ends, &inner[..count], words)
+    lists.append(ends, &inner[..count], words)
 }
 
 /// Makes the first places the join of two sides' fibers, and answers how many there are.

@@ -18,7 +18,7 @@ mod view;
 mod write;
 
 pub use alike::{are_alike, join_alike};
-pub use append::{append_fibers, append_rows};
+pub use append::append_rows;
 pub use blocks::keep_block;
 pub use in_place::write_into;
 pub use join::{Joining, join_rows};

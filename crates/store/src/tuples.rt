@@ -179,10 +179,7 @@ fn put_behind(rows: &mut FiberLists, more: &FiberLists) -> Result<(), NoMemory>
     ensures flat { OnOk result (AreFlat rows.new.ends.items rows.new.inner.items rows.new.words.items) }
     ensures entries { OnOk result (entries_in rows.new ≡ entries_in rows.old ++ entries_in more.now) }
 {
-    let from = rows.inner.len();
-    rows.inner.extend_from_slice(&more.inner)?;
-    rows.words.extend_from_slice(&more.words)?;
-    rows.attach(&more.ends, from)
+    rows.append(&more.ends, &more.inner, &more.words)
 }
 
 /// Puts an entry behind all others: into the last row, or into one of its own. Without memory all stays.

@@ -32,15 +32,15 @@ are_rows c =
     rows_met c.args.op first past cols a.result.entries b.result.entries (made c) (content_of c.args.a.now) (content_of c.args.b.now) c.in_ok-count.ensures.met.whole
     (rw a.ensures.entries (entries_between-inside first past cols (content_of c.args.a.now))) a.ensures.words (rw c.requires.cols b.ensures.words)
 
-pub append_fibers-requires-clause-order : goal.append_fibers-requires-clause-order
-append_fibers-requires-clause-order c =
+pub append-requires-clause-order : goal.append-requires-clause-order
+append-requires-clause-order c =
     rw (c.deref.ensures.value, c.deref-2.ensures.value, c.deref-3.ensures.value)
     (part_behind 0 c.args.range.start c.args.range.end c.args.a.now.cols (entries_in c.args.lists.now) (made (search rules)) c.requires.front (are_rows (search rules)).0)
 
 pub returns : goal.returns
 returns c =
     let rows = are_rows (search rules) in
-    on_ok_both c.append_fibers.result
+    on_ok_both c.append.result
     (λ flat entries. record {
       flat = flat;
       part = made (search rules);
@@ -48,4 +48,4 @@ returns c =
       inside = rows.0;
       words = rows.1;
     })
-    c.append_fibers.ensures.flat c.append_fibers.ensures.entries
+    c.append.ensures.flat c.append.ensures.entries
