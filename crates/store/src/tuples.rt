@@ -63,7 +63,12 @@ impl Tuples {
             self.row = entry.row;
             self.col = entry.col;
         } else {
-            self.list.push(entry)?;
+            let room = self
+                .rows
+                .inner
+                .capacity()
+                .saturating_sub(self.rows.inner.len());
+            push_listed(&mut self.list, room, entry)?;
         }
         Ok(())
     }
@@ -180,6 +185,20 @@ fn put_behind(rows: &mut FiberLists, more: &FiberLists) -> Result<(), NoMemory>
     ensures entries { OnOk result (entries_in rows.new ≡ entries_in rows.old ++ entries_in more.now) }
 {
     rows.append(&more.ends, &more.inner, &more.words)
+}
+
+/// Puts an entry behind those of a list. The first one finds room for so many: a list that grows by itself is copied, and
+/// ends with more room than it needs.
+fn push_listed(list: &mut Vec<Entry>, room: usize, entry: Entry) -> Result<(), NoMemory>
+    ensures ok { OnOk result (list.new.items ≡ list.old.items ++ entry ∷ []) }
+    ensures err { OnErr result (list.new.items ≡ list.old.items) }
+{
+    if list.is_empty() {
+        // Without memory for all of them, there may be some for one.
+        let _ = list.reserve_exact(room);
+    }
+    list.push(entry)?;
+    Ok(())
 }
 
 /// Puts an entry behind all others: into the last row, or into one of its own. Without memory all stays.

@@ -51,5 +51,13 @@ invariant_of-self-in-Continue-branch-2 c = record {
             let zero : vec_len list ≡ 0 = omega arith in
             absurd (grind (arith, nat_tests))
       ])
-      (rw c.in_ok-push.ensures.items at order);
+      (rw c.in_ok-push_listed.ensures.ok at order);
 }
+
+pub invariant_of-self-in_err-push_listed : goal.invariant_of-self-in_err-push_listed
+invariant_of-self-in_err-push_listed c =
+    let kept = c.in_err-push_listed.ensures.err in
+    record {
+      are_rows = c.self.invariant.are_rows;
+      listed = λ some order. c.self.invariant.listed (rw kept at some) (rw kept at order);
+    }
