@@ -4,7 +4,7 @@ use Rattle.std.specs.Prelude.{OnErr, Result, Ok, Err}
 use Rattle.std.specs.List.{All, AllPairs, filter, fold}
 use Rattle.std.specs.List.Sorted.{IsSortedByKey, IsStableByKey}
 use Rattle.std.specs.Ordering.{is_lt, nat_cmp, ordering_then}
-use Rattle.std.proofs.lemmas.Bool.{cases_Bool, ne_eqb}
+use Rattle.std.proofs.lemmas.Bool.{cases_Bool, le-ltb, ne_eqb}
 use Rattle.std.proofs.lemmas.Bool.Decides.{nat_tests}
 use Rattle.std.proofs.lemmas.Cmp.{nat_cmp_total, on_total, then_total}
 use Rattle.std.proofs.lemmas.List.Elements.{All-head, All-map, All-tail, All-weaker, filter_agree}
@@ -13,7 +13,7 @@ use Rattle.std.proofs.lemmas.List.Sums.{fold-append}
 use Rattle.model.specs.Builds.{gathered, joined_all, words_at}
 use Rattle.model.specs.declared.entry.Entry.{Entry}
 use Rattle.model.specs.Entries.{IsNotBehind, entry_at}
-use Rattle.model.specs.Object.{Content}
+use Rattle.model.specs.Object.{Content, IsWithin}
 use Rattle.store.specs.Stored.{AreIn}
 use Rattle.store.proofs.Order.{all_pairs_from_map, all_pairs_map}
 use Rattle.masks.specs.declared.join.Joining.TheVariants.{Right}
@@ -315,7 +315,7 @@ pub sets-edited : (es : List Edit) → All IsSet es → (c : Content) (i j : ℕ
 sets-edited es sets c i j = sets-after i j es sets (c i j) ∙ sym (edited-after es c i j)
 
 -- edits inside some rows change nothing behind them
-pub edited-behind : (rows cols : ℕ) (es : List Edit) → All (IsInside rows cols) es → (c : Content) (i j : ℕ) → rows ≤ i
+edited-behind : (rows cols : ℕ) (es : List Edit) → All (IsInside rows cols) es → (c : Content) (i j : ℕ) → rows ≤ i
     → edited es c i j ≡ c i j
 edited-behind rows cols [] h c i j behind = refl
 edited-behind rows cols (Set p q new ∷ es) h c i j behind =
@@ -326,6 +326,14 @@ edited-behind rows cols (Remove p q ∷ es) h c i j behind =
     let inside = All-head (IsInside rows cols) (Remove p q) es h in
     let away : (eqb i p && eqb j q) ≡ false = rw (ne_eqb i p (λ e. (let row = inside.0 in omega arith))) refl in
     edited-behind rows cols es (All-tail (IsInside rows cols) (Remove p q) es h) (edited_once c (Remove p q)) i j behind ∙ rw away refl
+
+-- and a map that has nothing behind so many rows is there what another one is after edits
+pub same_behind : (rows cols rows' cols' : ℕ) (es : List Edit) → All (IsInside rows cols) es → (c new : Content)
+    → IsWithin rows cols c → IsWithin rows' cols' new → rows' ≡ rows → (i j : ℕ) → rows ≤ i → new i j ≡ edited es c i j
+same_behind rows cols rows' cols' es inside c new within new_within same i j behind =
+    let was : c i j ≡ None = within i j (rw (le-ltb i rows behind) refl) in
+    let none : new i j ≡ None = new_within i j (rw (same, le-ltb i rows behind) refl) in
+    none ∙ sym was ∙ sym (edited-behind rows cols es inside c i j behind)
 
 -- what holds, holds on an error
 pub on_err : {X E : Type 0} (P : Type 0) (r : Result X E) → P → OnErr r P

@@ -1,14 +1,13 @@
 -- The words that are set stand over those that are there.
-use Rattle.std.proofs.Common.{◌≡◌, ◌∙◌, ◌&&◌, false, List, None, ap, map, refl, sym, inl, inr, arith}
-use Rattle.std.proofs.Math.Dec.{ltb}
-use Rattle.std.proofs.lemmas.Bool.{cases_lt, le-ltb}
+use Rattle.std.proofs.Common.{◌≡◌, ◌∙◌, List, None, ap, map, inl, inr, arith}
+use Rattle.std.proofs.lemmas.Bool.{cases_lt}
 use Rattle.masks.specs.declared.join.Joining.TheVariants.{Right}
 use Rattle.masks.specs.Joins.{join_word}
 use Rattle.model.specs.Builds.{gathered}
 use Rattle.model.specs.declared.entry.Entry.{Entry}
 use Rattle.store.specs.Stored.{block_content, content_of}
 use Rattle.patch.specs.Edits.{set_entry}
-use Rattle.patch.proofs.EditLaws.{edited-behind, sets-edited, sets_inside}
+use Rattle.patch.proofs.EditLaws.{same_behind, sets-edited, sets_inside}
 use Rattle.patch.proofs.merging.merge_sets.Goals as goal
 
 pub block_of_sorted-requires-clause-inside : goal.block_of_sorted-requires-clause-inside
@@ -27,8 +26,6 @@ returns-clause-content c i j =
           c.from_block.ensures.content i j ∙ block ∙ ap (join_word Right (content_of store i j)) word
           ∙ sets-edited edits c.requires.sets (content_of store) i j
       | inr behind ↦
-          let away : (ltb i store.rows && ltb j store.cols) ≡ false = rw (le-ltb i store.rows behind) refl in
-          let was : content_of store i j ≡ None = c.rows-rows.ensures.within i j away in
-          let none : content_of c.from_block.result i j ≡ None = c.from_block.ensures.within i j (rw (c.from_block.ensures.rows, c.rows-rows.ensures.rows, le-ltb i store.rows behind) refl) in
-          none ∙ sym was ∙ sym (edited-behind store.rows store.cols edits c.requires.inside (content_of store) i j behind)
+          let made = c.from_block.ensures in
+          same_behind store.rows store.cols c.from_block.result.rows c.from_block.result.cols edits c.requires.inside (content_of store) (content_of c.from_block.result) c.rows-rows.ensures.within made.within (made.rows ∙ c.rows-rows.ensures.rows) i j behind
     ]
