@@ -69,6 +69,11 @@ impl Bitmap {
         })
     }
 
+    /// The list of its words, for whoever has a use for the memory.
+    pub fn into_words(self) -> Vec<u64> {
+        self.words
+    }
+
     /// The number of rows.
     pub fn rows(&self) -> u64
         ensures rows { result ≡ self.now.rows }

@@ -178,6 +178,22 @@ fn append(made: &mut Vec<u64>, words: Words<'_>, past: usize) -> Result<(), NoMe
     Ok(())
 }
 
+/// Makes the words of a part, of which `start` is the first, in turns, so that those of one stay in the cache between
+/// the copy and the operator.
+fn fill_in_turns(words: Words<'_>, start: usize, part: &mut [u64])
+    requires fits { Fits words }
+    requires inside { start + length part.old ≤ places_of words }
+    requires bits { start % 64 ≡ 0 }
+    ensures length { length part.new ≡ length part.old }
+    ensures words { (k : ℕ) → k < length part.old → IsMade words.entry (start + k) (slice_index part.new k) }
+{
+    for turn in 0..part.len().div_ceil(PART) {
+        let low = turn * PART;
+        let past = part.len().min(low + PART);
+        words.fill(start + low, &mut part[low..past]);
+    }
+}
+
 /// Makes the words of a part, of which `start` is the first, by a thread for each so many of them.
 pub(crate) fn fill_beside<R: Threads>(
     rt: &R,
@@ -195,7 +211,7 @@ pub(crate) fn fill_beside<R: Threads>(
     ensures words { (k : ℕ) → k < length part.old → IsMade words.entry (start + k) (slice_index part.new k) }
 {
     if part.len() <= each {
-        words.fill(start, part);
+        fill_in_turns(words, start, part);
         return;
     }
     let (low, high) = part.split_at_mut(each);
@@ -204,7 +220,7 @@ pub(crate) fn fill_beside<R: Threads>(
         requires { (Fits words) × (start + length low.now ≤ places_of words) × (start % 64 ≡ 0) }
         ensures { (length low.exit.now ≡ length low.entry.now) × ((k : ℕ) → k < length low.entry.now
             → IsMade words.entry (start + k) (slice_index low.exit.now k)) }
-    { words.fill(start, low) };
+    { fill_in_turns(words, start, low) };
     let mut back = ||
         requires { (Fits words) × (0 < each) × (each % 64 ≡ 0) × (next % 64 ≡ 0)
             × (next + length high.now ≤ places_of words) }

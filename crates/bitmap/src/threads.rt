@@ -5,6 +5,7 @@ ghost use Rattle.bitmap.specs.Words.{Fits, IsMade, places_of};
 use crate::making::{Words, fill_beside, make_alone};
 use model::NoMemory;
 use std::alloc::Global;
+use std::cell::Cell;
 use std::thread::Threads;
 
 /// How many words a thread is started for: to start it takes about a tenth of the time of these.
@@ -35,12 +36,32 @@ impl WordMaker for OneThread {
 pub struct SeveralThreads<'a, R> {
     starter: &'a R,
     others: u64,
+    spare: Cell<Option<Vec<u64>>>,
 }
 
 impl<'a, R> SeveralThreads<'a, R> {
     /// So many threads beside the calling one, which a handle starts.
     pub fn new(starter: &'a R, others: u64) -> SeveralThreads<'a, R> {
-        SeveralThreads { starter, others }
+        SeveralThreads::with_spare(starter, others, None)
+    }
+
+    /// The same, with a list that nobody needs any more: words that several threads make next lie in its memory, where
+    /// it has room for them. What it holds doesn't matter.
+    pub fn with_spare(
+        starter: &'a R,
+        others: u64,
+        spare: Option<Vec<u64>>,
+    ) -> SeveralThreads<'a, R> {
+        SeveralThreads {
+            starter,
+            others,
+            spare: Cell::new(spare),
+        }
+    }
+
+    /// The list that nobody needs, where no words were made in its memory.
+    pub fn into_spare(self) -> Option<Vec<u64>> {
+        self.spare.into_inner()
     }
 
     /// The handle that starts them.
@@ -51,6 +72,19 @@ impl<'a, R> SeveralThreads<'a, R> {
     /// How many threads there are beside the calling one.
     pub fn others(&self) -> u64 {
         self.others
+    }
+
+    /// So many words, whatever they are: those of the list that nobody needs, where it has room for them and for less
+    /// than twice as many, and else zeros.
+    fn any_words(&self, alloc: Global, places: usize) -> Result<Vec<u64>, NoMemory>
+        ensures { IfOk result (λ words. length words.items ≡ places) }
+    {
+        let mut words = match self.spare.replace(None) {
+            Some(spare) if spare.capacity() >= places && spare.capacity() / 2 < places => spare,
+            _ => Vec::new(alloc),
+        };
+        words.resize(places, 0)?;
+        Ok(words)
     }
 }
 
@@ -63,8 +97,8 @@ impl<'a, R: Threads> WordMaker for SeveralThreads<'a, R> {
             return make_alone(alloc, words);
         }
 
-        // Where several threads write, the memory has to be cleared beforehand.
-        let mut made = vec![in alloc; 0; places]?;
+        // Where several threads write, there have to be words beforehand.
+        let mut made = self.any_words(alloc, places)?;
         fill_beside(
             self.starter,
             words,

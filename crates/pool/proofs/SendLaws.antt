@@ -14,6 +14,7 @@ use Rattle.journal.proofs.journal.Note.TheSendSync as note
 use Rattle.pool.specs.contracts.crew.Crew as C
 use Rattle.pool.specs.contracts.named.Named as M
 use Rattle.pool.specs.contracts.shared.Shared as S
+use Rattle.pool.specs.contracts.spares.Spares as Q
 use Rattle.pool.specs.contracts.tasks.Tasks as T
 
 entry_send : IsSend E.the_row
@@ -37,6 +38,12 @@ named_sync J g = search (sendable, crosses, log_sync) depth 100 fits 20000
 crew_send : IsSend (C.the_field).row
 crew_send = search (sendable, crosses) depth 100 fits 20000
 
+spares_send : IsSend (Q.the_field).row
+spares_send = search (sendable, crosses) depth 100 fits 20000
+
+spares_sync : IsSync (Q.the_field).row
+spares_sync = search (sendable, crosses) depth 100 fits 20000
+
 tasks_send : (J P : RattleType) (g : Ghosts J.Denot) → IsSend P → IsSend (T.the_row J P g)
 tasks_send J P g p =
     let b : IsSend (B.the_field (N.the_row J g)).row = board_send (N.the_row J g) (note.the_send J g) in
@@ -45,9 +52,9 @@ tasks_send J P g p =
 pub shared_send : (J G P : RattleType) (g : Ghosts J.Denot) → IsSend G → IsSend P → IsSend (S.the_row J G P g)
 shared_send J G P g s p =
     let t : IsSend (T.the_row J P g) = tasks_send J P g p in
-    search (sendable, crosses) depth 100 fits 20000
+    search (sendable, crosses, spares_send) depth 100 fits 20000
 
 pub shared_sync : (J G P : RattleType) (g : Ghosts J.Denot) → IsSync G → IsSend P → IsSync (S.the_row J G P g)
 shared_sync J G P g y p =
     let t : IsSend (T.the_row J P g) = tasks_send J P g p in
-    search (sendable, crosses) depth 100 fits 20000
+    search (sendable, crosses, spares_sync) depth 100 fits 20000

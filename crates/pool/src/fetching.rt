@@ -29,7 +29,7 @@ pub fn hand_over<J: Naming, R: Wait, G: Gate + Drop, P: Picker + Drop>(
     let mut guard = shared.locked.lock(rt);
     guard.exchange(own);
     let called = guard.crew.call(demand);
-    leave(shared, guard, None, called);
+    leave(rt, shared, guard, None, called);
 }
 
 /// The store of a ticket's object. The calling thread, which has the tasks, does them until it has come. `Err`: there
@@ -59,9 +59,11 @@ pub fn fetch_alone<J: Naming, R: Wait + Threads, G: Gate + Drop, P: Picker + Dro
             hand_over(rt, shared, own, demand);
             return Err(done(rt, alloc, shared, work));
         }
-        if let Left::Joint(joint) = own.finish(&named.log, done(rt, alloc, shared, work)) {
-            own.finish(&named.log, joint.run(rt, alloc));
-        }
+        let left = match own.finish(&named.log, done(rt, alloc, shared, work)) {
+            Left::Joint(joint) => own.finish(&named.log, joint.run(rt, alloc)),
+            spent => spent,
+        };
+        shared.spares.drop_piece(rt, Some(left.into_spent()));
     }
     unreachable!()
 }
@@ -89,20 +91,20 @@ pub fn fetch_beside<J: Naming, R: Wait + Threads, G: Gate + Drop, P: Picker + Dr
             if locked.crew.awake == 0 {
                 locked.exchange(own);
             }
-            leave(shared, guard, spent, called);
+            leave(rt, shared, guard, spent, called);
             return found;
         }
         match locked.take_beside(alloc) {
             Some(work) => {
                 let called = locked.call_beside(&work.piece);
-                leave(shared, guard, spent, called);
+                leave(rt, shared, guard, spent, called);
                 last = Some(done(rt, alloc, shared, work));
             }
             None if spent.is_none() && locked.is_to_come(ticket.slot) => {
                 locked.crew.awaited = Some(ticket.slot);
                 drop(shared.come.wait(rt, guard));
             }
-            None => leave(shared, guard, spent, 0),
+            None => leave(rt, shared, guard, spent, 0),
         }
     }
     unreachable!()

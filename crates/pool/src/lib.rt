@@ -11,6 +11,7 @@ mod named;
 mod pool;
 mod serving;
 mod shared;
+mod spares;
 mod starting;
 mod tasks;
 #[cfg(test)]

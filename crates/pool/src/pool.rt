@@ -12,6 +12,7 @@ use crate::gate::Gate;
 use crate::named::Named;
 use crate::serving::leave;
 use crate::shared::Shared;
+use crate::spares::Spares;
 use crate::starting::start_first;
 use crate::tasks::Tasks;
 use board::Board;
@@ -95,6 +96,7 @@ where
         let shared = Shared {
             locked: Mutex::new(Tasks::new(alloc, None, crew)),
             gate,
+            spares: Spares::new(alloc),
             more: Condvar::new(),
             come: Condvar::new(),
         };
@@ -175,7 +177,7 @@ impl<J: Naming, R: Wait + Threads + Drop, G: Gate + Drop, P: Picker + Drop> Runn
             let mut guard = self.shared.locked.lock(&self.rt);
             let slot = guard.submit(log, note.again(), recipe, &inputs)?;
             let called = guard.call_after(slot, own);
-            leave(&self.shared, guard, None, called);
+            leave(&self.rt, &self.shared, guard, None, called);
             slot
         };
         Ok(Ticket {
@@ -231,13 +233,14 @@ impl<J: Naming, R: Wait + Threads + Drop, G: Gate + Drop, P: Picker + Drop> Runn
 
     fn let_go(&mut self, ticket: Ticket<Note<J>>) {
         if self.own.are_here() {
-            drop(self.own.let_go(&self.named.log, &ticket));
+            let share = self.own.let_go(&self.named.log, &ticket);
+            self.shared.spares.drop_share(&self.rt, share);
             return;
         }
         let mut guard = self.shared.locked.lock(&self.rt);
         let share = guard.let_go(&self.named.log, &ticket);
         drop(guard);
-        drop(share);
+        self.shared.spares.drop_share(&self.rt, share);
     }
 
     fn renew(&mut self) -> Result<(), NoMemory> {

@@ -7,6 +7,7 @@ use crate::work::{Finished, Left, Work};
 use board::Piece;
 use desk::Picker;
 use journal::Naming;
+use kernel::SeveralThreads;
 use std::alloc::Global;
 use std::sync::{MutexGuard, Wait};
 use std::thread::Threads;
@@ -43,7 +44,7 @@ pub fn serve<J: Naming, R: Wait + Threads, G: Gate + Drop, P: Picker + Drop>(
         match taken {
             Some(work) => {
                 let called = locked.call_beside(&work.piece);
-                leave(shared, guard, spent, called);
+                leave(rt, shared, guard, spent, called);
                 last = Some(done(rt, alloc, shared, work));
             }
             None if spent.is_none() => {
@@ -51,7 +52,7 @@ pub fn serve<J: Naming, R: Wait + Threads, G: Gate + Drop, P: Picker + Drop>(
                 let mut guard = shared.more.wait(rt, guard);
                 guard.crew.rise();
             }
-            None => leave(shared, guard, spent, 0),
+            None => leave(rt, shared, guard, spent, 0),
         }
     }
 }
@@ -82,26 +83,33 @@ pub fn lock_with<'a, J: Naming, R: Wait + Threads, G: Gate + Drop, P: Picker + D
 }
 
 /// Gives the lock up; then drops what a piece was made of, and wakes workers.
-pub fn leave<J: Naming, G: Gate + Drop, P: Picker + Drop>(
+pub fn leave<J: Naming, R: Wait, G: Gate + Drop, P: Picker + Drop>(
+    rt: &R,
     shared: &Shared<J, G, P>,
     guard: MutexGuard<'_, Tasks<J, P>>,
     spent: Option<Piece>,
     called: u64,
 ) {
     drop(guard);
-    drop(spent);
+    shared.spares.drop_piece(rt, spent);
     for _ in 0..called {
         shared.more.notify_one();
     }
 }
 
-/// Does a piece of a task, behind the gate.
-pub fn done<J: Naming, R: Threads, G: Gate + Drop, P: Picker + Drop>(
+/// Does a piece of a task, behind the gate, with threads that are started to help where they can.
+pub fn done<J: Naming, R: Wait + Threads, G: Gate + Drop, P: Picker + Drop>(
     rt: &R,
     alloc: Global,
     shared: &Shared<J, G, P>,
     work: Work<J>,
 ) -> Finished<J> {
     shared.gate.enter(work.ticket.slot, work.piece.piece);
-    work.run(rt, alloc)
+    let spare = shared.spares.take_for(rt, &work);
+    let threads = SeveralThreads::with_spare(rt, work.helpers, spare);
+    let finished = work.run(&threads, alloc);
+    if let Some(spare) = threads.into_spare() {
+        shared.spares.put(rt, spare);
+    }
+    finished
 }

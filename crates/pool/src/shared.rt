@@ -1,14 +1,16 @@
 //! What threads share.
+use crate::spares::Spares;
 use crate::tasks::Tasks;
 use desk::Picker;
 use journal::Naming;
 use std::sync::{Condvar, Mutex};
 
-/// The lock, the gate, and what threads sleep on: workers on `more`, the calling thread on `come`.
+/// The lock, the gate, memory that is left, and what threads sleep on: workers on `more`, the calling thread on `come`.
 #[derive(Drop)]
 pub struct Shared<J: Naming, G: Drop, P: Picker + Drop> {
     pub locked: Mutex<Tasks<J, P>>,
     pub gate: G,
+    pub spares: Spares,
     pub more: Condvar,
     pub come: Condvar,
 }

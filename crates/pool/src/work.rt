@@ -14,7 +14,7 @@ use board::Piece;
 use calls::Recipe;
 use desk::{Ticket, joined_of, made_of, part_of};
 use journal::{Naming, Note};
-use kernel::{Block, SeveralThreads, VectorProducts};
+use kernel::{Block, VectorProducts};
 use model::NoMemory;
 use std::alloc::Global;
 use std::sync::Arc;
@@ -85,18 +85,16 @@ impl<J: Naming> Left<J> {
 }
 
 impl<J: Naming> Work<J> {
-    /// Does it, with threads that are started to help where they can.
-    pub fn run<R: Threads>(self, rt: &R, alloc: Global) -> Finished<J>
+    /// Does it, by threads that may help where they can.
+    pub fn run<V: VectorProducts>(self, threads: &V, alloc: Global) -> Finished<J>
         ensures { result.ticket ≡ self.ticket }
     {
         let Work {
             ticket,
             mut piece,
-            helpers,
             ..
         } = self;
-        let products = SeveralThreads::new(rt, helpers);
-        let outcome = outcome_of(&products, alloc, &mut piece);
+        let outcome = outcome_of(threads, alloc, &mut piece);
         Finished {
             ticket,
             outcome,

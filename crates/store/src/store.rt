@@ -130,6 +130,14 @@ impl Store {
         Ok(Store { kept })
     }
 
+    /// The list of words of a bitmap, for whoever has a use for the memory; None of lists of entries.
+    pub fn into_words(self) -> Option<Vec<u64>> {
+        match self.kept {
+            Kept::Sparse(_) => None,
+            Kept::Bitmap(bitmap) => Some(bitmap.into_words()),
+        }
+    }
+
     /// The store in the form in which it is kept.
     #[inline(always)]
     pub fn form(&self) -> Form<'_>
