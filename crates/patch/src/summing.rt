@@ -13,7 +13,7 @@ use crate::runs::block_of_sorted;
 use algebra::{BinaryKind, BinaryOp, Domain};
 use model::{Entry, NoMemory};
 use std::alloc::Global;
-use store::{FiberLists, RowBlock, Store, Tuples};
+use store::{EntrySorter, FiberLists, RowBlock, Store, Tuples};
 
 /// The store of so many rows and columns that entries in any order make, as those of a file. The values
 /// of one position are summed, of BOOL by LOR.
@@ -21,8 +21,9 @@ use store::{FiberLists, RowBlock, Store, Tuples};
 /// Entries that came row by row, each at a position of its own, lie as the store's rows already and are taken
 /// over. Others are sorted in place, since sums don't depend on the order, so there is no memory beside the
 /// entries and the store.
-pub fn sum_entries(
+pub fn sum_entries<S: EntrySorter>(
     alloc: Global,
+    sorter: &S,
     entries: Tuples,
     domain: Domain,
     rows: u64,
@@ -38,7 +39,7 @@ pub fn sum_entries(
 {
     let block = match entries.into_rows() {
         Ok(lists) => block_of_rows(lists, rows, cols),
-        Err(others) => sum_list(alloc, others.into_list()?, domain, rows, cols)?,
+        Err(others) => sum_list(alloc, sorter, others.into_list()?, domain, rows, cols)?,
     };
     Ok(Store::from_block(rows, block))
 }
@@ -56,8 +57,9 @@ fn block_of_rows(mut lists: FiberLists, rows: u64, cols: u64) -> RowBlock
 }
 
 /// The block of all rows that entries in any order make, of which those of one position are summed. It sorts them.
-fn sum_list(
+fn sum_list<S: EntrySorter>(
     alloc: Global,
+    sorter: &S,
     mut list: Vec<Entry>,
     domain: Domain,
     rows: u64,
@@ -71,7 +73,7 @@ fn sum_list(
     ensures words { IfOk result (λ block. (i j : ℕ) → block_content block i j
         ≡ gathered (Some (sum_in_file domain)) list.items i j) }
 {
-    list.sort_unstable_by_key(Entry::key);
+    sorter.sort(&mut list);
     block_of_sorted(alloc, list, Some(sum_in_file(domain)), 0..rows, cols)
 }
 

@@ -42,7 +42,9 @@ impl<R: Runner + Drop> Environment<R> {
         };
         let (rows, cols, entries) = matrix_of(reader, self.alloc, bytes, load.domain)?;
         let name = String::from_str(self.alloc, load.name)?;
-        let object = self.session.load(load.domain, rows, cols, entries)?;
+        let object = self
+            .session
+            .load_by(reader, load.domain, rows, cols, entries)?;
         put(&mut self.numbers, &mut self.session, name, object)?;
         Ok(())
     }

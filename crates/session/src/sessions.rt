@@ -13,6 +13,7 @@ ghost use Rattle.objects.specs.Tables.{same_object, state_in};
 ghost use Rattle.objects.specs.Values.{IsValueOf, map_with, mark_with};
 
 use algebra::Domain;
+use bitmap::OneThread;
 use calls::{Act, Call, Obj, Shape, Shapes, Signature, check_create, check_there};
 use model::{MOST_OBJECTS, NoMemory, Status};
 use objects::{Table, Value, insert, remove, settle, signature};
@@ -20,7 +21,7 @@ use patch::sum_entries;
 use runner::Runner;
 use std::alloc::Global;
 use std::sync::Arc;
-use store::{Store, Tuples};
+use store::{EntrySorter, Store, Tuples};
 
 /// So many calls hand work to a runner before it is emptied, and what it knows of them is forgotten.
 const EPOCH: u64 = 4_096;
@@ -107,9 +108,29 @@ impl<R: Runner + Drop> Session<R> {
         ensures made { IfOk result (λ object. object ≡ next_object self.old) }
         ensures unused { (environment_of self.old).find_object (next_object self.old) ≡ None }
     {
+        self.load_by(&OneThread, domain, rows, cols, entries)
+    }
+
+    /// The same, where a sorter sorts the entries that don't come row by row.
+    pub fn load_by<S: EntrySorter>(
+        &mut self,
+        sorter: &S,
+        domain: Domain,
+        rows: u64,
+        cols: u64,
+        entries: Tuples,
+    ) -> Result<Obj, Status>
+        requires built_in { is_built_in domain ≡ true }
+        requires inside { IsInside rows cols entries }
+        requires words { All (λ e. IsWordOf domain e.word) entries }
+        ensures loaded { IsMade self.old self.new
+            (object_read domain (record { rows = rows; cols = cols; entries = entries })) result }
+        ensures made { IfOk result (λ object. object ≡ next_object self.old) }
+        ensures unused { (environment_of self.old).find_object (next_object self.old) ≡ None }
+    {
         let shape = Shape::Two(rows, cols);
         check_create(self, domain, shape)?;
-        let store = sum_entries(self.alloc, entries, domain, rows, cols)?;
+        let store = sum_entries(self.alloc, sorter, entries, domain, rows, cols)?;
         let store = share(self.alloc, store)?;
         let object = self.insert(Signature { domain, shape }, Value::Here(store))?;
         Ok(object)

@@ -14,17 +14,17 @@ use Rattle.patch.proofs.summing.sum_entries.Goals as goal
 use Rattle.patch.proofs.summing.sum_entries.Goals.{in-Ok, in-Err+in_ok-into_list-in-Err+in_ok-block-in-Err}
 
 pub sum_list-requires-clause-inside : goal.sum_list-requires-clause-inside
-sum_list-requires-clause-inside c =
+sum_list-requires-clause-inside g c =
     let permutes = rw c.in-Err.ensures.others at c.in_ok-into_list-in-Err.ensures in
     All-permutation (λ (e : Entry). ((0 ≤ e.row) × (e.row < c.args.rows)) × (e.col < c.args.cols)) c.args.entries c.in_ok-into_list-in-Err.field-0.items permutes c.requires.inside
 
 pub sum_list-requires-clause-words : goal.sum_list-requires-clause-words
-sum_list-requires-clause-words c =
+sum_list-requires-clause-words g c =
     let permutes = rw c.in-Err.ensures.others at c.in_ok-into_list-in-Err.ensures in
     All-permutation (λ (e : Entry). IsWordOf c.args.domain e.word) c.args.entries c.in_ok-into_list-in-Err.field-0.items permutes c.requires.words
 
 pub returns-clause-content : goal.returns-clause-content
-returns-clause-content c i j =
+returns-clause-content g c i j =
     let joins = Some (sum_in_file c.args.domain) in
     elim c.match-into_rows.branch [
       | in-Ok w ↦

@@ -41,13 +41,13 @@ returns-in_err-rows-clause-ends g c =
       | inr bad ↦ inr (load-bad (number_in names) (environment_of names.session) c.args.load.name.now c.args.load.domain _ c.in-Some.bytes.now free held bad.1 ∙ ap Some (sym bad.0))
     ])
 
-pub load-requires-clause-inside : goal.load-requires-clause-inside
-load-requires-clause-inside g c =
+pub load_by-requires-clause-inside : goal.load_by-requires-clause-inside
+load_by-requires-clause-inside g c =
     let m : Matrix = record { rows = c.in_ok-rows.rows; cols = c.in_ok-rows.cols; entries = c.in_ok-rows.entries } in
     matrix_in-inside c.args.load.domain c.in-Some.bytes.now m c.in_ok-rows.ensures.ok
 
-pub load-requires-clause-words : goal.load-requires-clause-words
-load-requires-clause-words g c =
+pub load_by-requires-clause-words : goal.load_by-requires-clause-words
+load_by-requires-clause-words g c =
     let m : Matrix = record { rows = c.in_ok-rows.rows; cols = c.in_ok-rows.cols; entries = c.in_ok-rows.entries } in
     matrix_in-words c.args.load.domain c.in-Some.bytes.now m c.in_ok-rows.ensures.ok
 
@@ -55,7 +55,7 @@ pub invariant_of-self : goal.invariant_of-self
 invariant_of-self g c =
     let names = c.args.self.now in
     let m : Matrix = record { rows = c.in_ok-rows.rows; cols = c.in_ok-rows.cols; entries = c.in_ok-rows.entries } in
-    let kept = unloaded-kept (number_in names) names.session c.load.new.self c.args.load.name.now c.args.load.domain None (object_read c.args.load.domain m) _ c.in_err-object.ensures.loaded.ends in
+    let kept = unloaded-kept (number_in names) names.session c.load_by.new.self c.args.load.name.now c.args.load.domain None (object_read c.args.load.domain m) _ c.in_err-object.ensures.loaded.ends in
     record {
       distinct = names.distinct;
       there = λ name object is. ap (λ (env : Environment Obj). is_some (env.find_object object)) kept ∙ names.there name object is;
@@ -69,20 +69,20 @@ returns-in_err-object-clause-ends g c =
     let held : g.S.Sources.held c.args.sources.now c.args.load.file.now ≡ Some c.in-Some.bytes.now = search rules in
     let same = load-read (number_in names) names.session c.args.load.name.now c.args.load.domain _ c.in-Some.bytes.now m c.requires.made free held c.in_ok-rows.ensures.ok in
     let refused : c.from_residual-in_err-object.result ≡ Err c.in_err-object.field-0.0 = search rules in
-    rw refused (unloaded-ends (number_in names) names.session c.load.new.self c.args.load.name.now c.args.load.domain _ (object_read c.args.load.domain m) _ same c.in_err-object.ensures.loaded.ends)
+    rw refused (unloaded-ends (number_in names) names.session c.load_by.new.self c.args.load.name.now c.args.load.domain _ (object_read c.args.load.domain m) _ same c.in_err-object.ensures.loaded.ends)
 
 pub put-requires : goal.put-requires
 put-requires g c =
     let names = c.args.self.now in
     let m : Matrix = record { rows = c.in_ok-rows.rows; cols = c.in_ok-rows.cols; entries = c.in_ok-rows.entries } in
-    rw c.in_ok-object.ensures.made (made-there (state_of names.session) (state_of c.load.new.self) (next_object names.session) (object_read c.args.load.domain m) Unmarked c.in_ok-object.ensures.loaded.ends.1)
+    rw c.in_ok-object.ensures.made (made-there (state_of names.session) (state_of c.load_by.new.self) (next_object names.session) (object_read c.args.load.domain m) Unmarked c.in_ok-object.ensures.loaded.ends.1)
 
 pub invariant_of-self-2 : goal.invariant_of-self-2
 invariant_of-self-2 g c =
     let names = c.args.self.now in
     let next = next_object names.session in
     let m : Matrix = record { rows = c.in_ok-rows.rows; cols = c.in_ok-rows.cols; entries = c.in_ok-rows.entries } in
-    let after = names-after c.put.result (number_in names) (λ name. get_by_text c.put.new.numbers name) (state_of names.session) (state_of c.load.new.self) (state_of c.put.new.session) (string_bytes c.in_ok-name.name) next (object_read c.args.load.domain m) Unmarked
+    let after = names-after c.put.result (number_in names) (λ name. get_by_text c.put.new.numbers name) (state_of names.session) (state_of c.load_by.new.self) (state_of c.put.new.session) (string_bytes c.in_ok-name.name) next (object_read c.args.load.domain m) Unmarked
     c.in_ok-object.ensures.loaded.ends.1
     c.in_ok-object.ensures.unused (unmarked-absent names.session next c.in_ok-object.ensures.unused) names.distinct names.there (rw c.in_ok-object.ensures.made at c.put.ensures.named) (search rules) c.put.ensures.kept (rw c.in_ok-object.ensures.made at c.put.ensures.gone) in
     record { distinct = after.0; there = after.1 }
@@ -95,7 +95,7 @@ returns-in_err-put-clause-ends g c =
     let refused : c.from_residual-in_err-put.result ≡ Err status.OutOfMemory = search rules in
     rw refused (inr (
       refl,
-      refused-name (number_in names) (λ name. get_by_text c.put.new.numbers name) (state_of names.session) (state_of c.load.new.self) (state_of c.put.new.session) next (object_read c.args.load.domain m) Unmarked
+      refused-name (number_in names) (λ name. get_by_text c.put.new.numbers name) (state_of names.session) (state_of c.load_by.new.self) (state_of c.put.new.session) next (object_read c.args.load.domain m) Unmarked
           c.in_ok-object.ensures.loaded.ends.1
           c.in_ok-object.ensures.unused (unmarked-absent names.session next c.in_ok-object.ensures.unused) c.in_err-put.ensures.kept (rw c.in_ok-object.ensures.made at c.in_err-put.ensures.gone),
     ))
@@ -112,4 +112,4 @@ returns-clause-ends g c =
     λ q. rw (named, c.in_ok-object.ensures.made) at (c.in_ok-put.ensures.named q) in
     let same = load-read (number_in names) names.session c.args.load.name.now c.args.load.domain _ c.in-Some.bytes.now m c.requires.made free held c.in_ok-rows.ensures.ok in
     let left = left-loaded (number_in names) (λ name. get_by_text c.put.new.numbers name) (state_of names.session) c.args.load.name.now next c.args.load.domain _ c.in-Some.bytes.now m adds names.there c.in_ok-object.ensures.unused names.distinct held c.in_ok-rows.ensures.ok in
-    rw c.in_ok-put.ensures.made (loaded-ends (number_in names) names.session c.load.new.self c.args.load.name.now c.args.load.domain _ (object_read c.args.load.domain m) (λ name. get_by_text c.put.new.numbers name) c.in_ok-object.object same left c.in_ok-object.ensures.loaded.ends)
+    rw c.in_ok-put.ensures.made (loaded-ends (number_in names) names.session c.load_by.new.self c.args.load.name.now c.args.load.domain _ (object_read c.args.load.domain m) (λ name. get_by_text c.put.new.numbers name) c.in_ok-object.object same left c.in_ok-object.ensures.loaded.ends)

@@ -16,7 +16,7 @@ use Rattle.session.proofs.NumberLaws.{not_there}
 use Rattle.session.proofs.PerformedLaws.{unmade-as}
 use Rattle.session.proofs.ResultLaws.{read-is_store}
 use Rattle.store.specs.Stored.{Stored, content_of}
-use Rattle.session.proofs.sessions.Session.load.Goals as goal
+use Rattle.session.proofs.sessions.Session.load_by.Goals as goal
 
 pub insert-requires-clause-left : goal.insert-requires-clause-left
 insert-requires-clause-left g c =
