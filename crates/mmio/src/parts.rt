@@ -38,14 +38,18 @@ pub fn list_beside<'a, R: Threads>(
     { list_beside(rt, alloc, domain, heading, each, whole, front) };
     let (others, listed) = join(rt, theirs, ours);
     match (listed, others) {
-        (Ok(listed), Ok(others)) => both(listed, others),
+        (Ok(listed), Ok(others)) => both(rt, listed, others),
         (Err(stop), _) => Err(stop),
         (_, Err(stop)) => Err(stop),
     }
 }
 
 /// What two parts list, one behind the other.
-fn both<'a>(listed: Listed<Tuples>, others: Listed<Tuples>) -> Result<Listed<Tuples>, Stop<'a>>
+fn both<'a, R: Threads>(
+    rt: &R,
+    listed: Listed<Tuples>,
+    others: Listed<Tuples>,
+) -> Result<Listed<Tuples>, Stop<'a>>
     ensures { IfOk result (λ all. (all.lines ≡ listed.lines + others.lines)
         × (all.entries ≡ listed.entries ++ others.entries)) }
 {
@@ -53,7 +57,7 @@ fn both<'a>(listed: Listed<Tuples>, others: Listed<Tuples>) -> Result<Listed<Tup
     let Some(lines) = listed.lines.checked_add(others.lines) else {
         return Err(Stop::NoMemory);
     };
-    match listed.entries.join(others.entries) {
+    match listed.entries.join(rt, others.entries) {
         Ok(entries) => Ok(Listed { entries, lines }),
         Err(NoMemory) => Err(Stop::NoMemory),
     }

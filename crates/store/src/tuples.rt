@@ -13,6 +13,7 @@ use crate::{FiberEnd, FiberLists, Fibers};
 use model::{Entry, NoMemory};
 use std::alloc::Global;
 use std::marker::Model;
+use std::thread::Threads;
 
 /// Entries in the order in which they come, as those of a file (the tuples of `GrB_Matrix_build`). As long as they
 /// come row by row, each behind the one before, they lie as rows, which a store takes over; from the first on that
@@ -74,8 +75,9 @@ impl Tuples {
     }
 
     /// These entries, and others behind them. Where those go on row by row, as the entries of a part of a file do from
-    /// those of the part before, their lists are put behind these as a whole.
-    pub fn join(self, others: Tuples) -> Result<Tuples, NoMemory>
+    /// those of the part before, their lists are put behind these as a whole, one of them by another thread if they are
+    /// long.
+    pub fn join<R: Threads>(self, rt: &R, others: Tuples) -> Result<Tuples, NoMemory>
         ensures { IfOk result (λ all. all ≡ self ++ others) }
     {
         let Tuples {
@@ -85,7 +87,7 @@ impl Tuples {
             mut list,
         } = self;
         if list.is_empty() && leads(&rows, row, col, &others.rows) {
-            put_behind(&mut rows, &others.rows)?;
+            put_behind(rt, &mut rows, &others.rows)?;
             return Ok(Tuples { rows, ..others });
         }
         let FiberLists { ends, inner, words } = others.rows;
@@ -177,18 +179,18 @@ fn first_entry(rows: &FiberLists) -> Option<Entry>
 }
 
 /// Puts rows behind others.
-fn put_behind(rows: &mut FiberLists, more: &FiberLists) -> Result<(), NoMemory>
+fn put_behind<R: Threads>(rt: &R, rows: &mut FiberLists, more: &FiberLists) -> Result<(), NoMemory>
     requires flat { AreFlat rows.old.ends.items rows.old.inner.items rows.old.words.items }
     requires more { AreFlat more.now.ends.items more.now.inner.items more.now.words.items }
     requires order { All (λ e. All (Precedes e) (entries_in more.now)) (entries_in rows.old) }
     ensures flat { OnOk result (AreFlat rows.new.ends.items rows.new.inner.items rows.new.words.items) }
     ensures entries { OnOk result (entries_in rows.new ≡ entries_in rows.old ++ entries_in more.now) }
 {
-    rows.append(&more.ends, &more.inner, &more.words)
+    rows.append_beside(rt, &more.ends, &more.inner, &more.words)
 }
 
-/// Puts an entry behind those of a list. The first one finds room for so many: a list that grows by itself is copied, and
-/// ends with more room than it needs.
+/// Puts an entry behind those of a list. The first one finds room for so many: a list that grows by itself is copied,
+/// and ends with more room than it needs.
 fn push_listed(list: &mut Vec<Entry>, room: usize, entry: Entry) -> Result<(), NoMemory>
     ensures ok { OnOk result (list.new.items ≡ list.old.items ++ entry ∷ []) }
     ensures err { OnErr result (list.new.items ≡ list.old.items) }

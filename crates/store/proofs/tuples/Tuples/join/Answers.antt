@@ -10,7 +10,7 @@ use Rattle.store.proofs.tuples.Tuples.join.Goals as goal
 use Rattle.store.proofs.tuples.Tuples.join.Goals.{else-is_empty-via-then-is_empty+else-leads, else-is_empty-via-else-is_empty}
 
 pub invariant_of-result : goal.invariant_of-result
-invariant_of-result c =
+invariant_of-result g c =
     let put = c.in_ok-put_behind.ensures in
     let ours = entries_in c.self.inside.rows in
     let theirs = c.others.inside in
@@ -29,7 +29,7 @@ invariant_of-result c =
     }
 
 pub invariant_of-result-2 : goal.invariant_of-result-2
-invariant_of-result-2 c =
+invariant_of-result-2 g c =
     let ours = entries_in c.self.inside.rows in
     let list = c.self.inside.list in
     let theirs = c.others.inside in
