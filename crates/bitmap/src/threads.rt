@@ -81,7 +81,10 @@ impl<'a, R> SeveralThreads<'a, R> {
     {
         let mut words = match self.spare.replace(None) {
             Some(spare) if spare.capacity() >= places && spare.capacity() / 2 < places => spare,
-            _ => Vec::new(alloc),
+            other => {
+                self.spare.set(other);
+                Vec::new(alloc)
+            }
         };
         words.resize(places, 0)?;
         Ok(words)

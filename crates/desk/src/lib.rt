@@ -13,6 +13,7 @@ mod works;
 pub use cutting::take_cut;
 pub use dropping::give_up;
 pub use picker::{Order, Picker};
+pub use pieces::SpareLists;
 pub use places::{notes_of, slot_of};
 pub use placing::place;
 pub use ticket::Ticket;

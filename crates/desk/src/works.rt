@@ -26,7 +26,7 @@ use kernel::{
     Block, OneThread, VectorProducts, computed_over, eval_piece, eval_piece_by, join, patch_over,
 };
 use model::NoMemory;
-use pieces::join_blocks;
+use pieces::{SpareLists, join_blocks};
 use runner::Failed;
 use std::alloc::Global;
 use std::ops::Range;
@@ -97,10 +97,12 @@ pub fn part_of(alloc: Global, piece: &mut Piece) -> Result<Block, NoMemory>
 }
 
 /// The store of what a recipe makes, of the blocks of all pieces, in the order of their rows. It takes time and memory
-/// for their entries, and a second thread where they are many.
+/// for their entries, and a second thread where they are many; lists that nobody needs take the place of fresh memory,
+/// where they suit.
 pub fn joined_of(
     rt: &impl Threads,
     alloc: Global,
+    spares: SpareLists,
     recipe: &Recipe,
     blocks: Vec<Block>,
 ) -> Result<Arc<Store>, NoMemory>
@@ -109,7 +111,7 @@ pub fn joined_of(
     ensures { IfOk result (λ store. (o : Object) → IsObject o → o.shape ≡ (known_of recipe.now).shape
         → All (IsPartOf (cols_of o.shape) o.content) blocks.items → IsStoreFor o (arc_value store)) }
 {
-    let store = join_blocks(rt, alloc, recipe, blocks)?;
+    let store = join_blocks(rt, alloc, spares, recipe, blocks)?;
     Ok(Arc::new(alloc, store)?)
 }
 

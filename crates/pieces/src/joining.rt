@@ -7,7 +7,7 @@ ghost use Rattle.kernel.specs.Pieces.{cols_in};
 ghost use Rattle.model.specs.Object.{Content, IsWithin, cols_of, rows_of};
 ghost use Rattle.store.specs.Stored.{content_of};
 
-use crate::joint::Joint;
+use crate::joint::{Joint, SpareLists};
 use calls::Recipe;
 use kernel::{Block, join};
 use model::NoMemory;
@@ -17,11 +17,13 @@ use store::{RowBlock, Store};
 
 /// The store of what a recipe gives, of the blocks of all its rows, in their order. It takes time and memory for their
 /// entries; those of the first block that has some stay where they are, if there is room behind them, and each other
-/// list is let go as soon as it was copied. Where there are many entries, a thread that is started for it copies their
+/// list is let go as soon as it was copied. Lists that nobody needs take the place of fresh memory, where they suit.
+/// Where there are many entries, a thread that is started for it copies their
 /// inner indices while this one copies their words. The store has the form that `kernel::join` gives it.
 pub fn join_blocks(
     rt: &impl Threads,
     alloc: Global,
+    spares: SpareLists,
     recipe: &Recipe,
     blocks: Vec<Block>,
 ) -> Result<Store, NoMemory>
@@ -41,7 +43,7 @@ pub fn join_blocks(
         };
         joint.put(rows)?;
     }
-    let lists = joint.into_lists(rt)?;
+    let lists = joint.into_lists(rt, spares)?;
     let shape = recipe.signature().shape;
     let rows = RowBlock::of_fibers(0, shape.rows(), shape.cols(), lists);
     Ok(join(alloc, recipe, Block::Rows(rows)))

@@ -14,6 +14,13 @@ use store::{FiberEnd, FiberLists, RowBlock};
 /// With so many entries a second thread copies one of the lists: to start it takes about a tenth of the time of that.
 const WORTH_A_THREAD: usize = 1 << 18;
 
+/// Lists that nobody needs any more, for joined ones to lie in their memory. What they hold doesn't matter.
+#[derive(Drop)]
+pub struct SpareLists {
+    pub inner: Option<Vec<u64>>,
+    pub words: Option<Vec<u64>>,
+}
+
 /// Fibers of blocks that follow one another: where they end, counted from the first block on, and their inner indices
 /// and words, a list a block.
 #[derive(Drop)]
@@ -59,8 +66,12 @@ impl Joint {
         Ok(())
     }
 
-    /// The lists of all fibers.
-    pub(crate) fn into_lists(self, rt: &impl Threads) -> Result<FiberLists, NoMemory>
+    /// The lists of all fibers, in the memory of others where these suit.
+    pub(crate) fn into_lists(
+        self,
+        rt: &impl Threads,
+        spares: SpareLists,
+    ) -> Result<FiberLists, NoMemory>
         ensures ends { IfOk result (λ lists. lists.ends.items ≡ self.ends.items) }
         ensures inner { IfOk result (λ lists. lists.inner.items ≡ words_in self.inner.items) }
         ensures words { IfOk result (λ lists. lists.words.items ≡ words_in self.words.items) }
@@ -73,9 +84,12 @@ impl Joint {
             words,
         } = self;
         let (inner, words) = if count < WORTH_A_THREAD {
-            (joined(alloc, inner, count), joined(alloc, words, count))
+            (
+                joined(alloc, spares.inner, inner, count),
+                joined(alloc, spares.words, words, count),
+            )
         } else {
-            joined_beside(rt, alloc, inner, words, count)
+            joined_beside(rt, alloc, spares, inner, words, count)
         };
         let inner = inner?;
         let words = words?;
@@ -110,6 +124,7 @@ fn put_ends(ends: &mut Vec<FiberEnd>, part: &[FiberEnd], from: usize) -> Result<
 fn joined_beside(
     rt: &impl Threads,
     alloc: Global,
+    spares: SpareLists,
     inner: Vec<Vec<u64>>,
     words: Vec<Vec<u64>>,
     count: usize,
@@ -117,24 +132,34 @@ fn joined_beside(
     ensures inner { IfOk result.0 (λ list. list.items ≡ words_in inner.items) }
     ensures words { IfOk result.1 (λ list. list.items ≡ words_in words.items) }
 {
+    let SpareLists {
+        inner: spare,
+        words: other,
+    } = spares;
     thread::join(
         rt,
         move || -> Result<Vec<u64>, NoMemory>
             ensures { IfOk result (λ list. list.items ≡ words_in inner.items) }
-        { joined(alloc, inner, count) },
+        { joined(alloc, spare, inner, count) },
         move || -> Result<Vec<u64>, NoMemory>
             ensures { IfOk result (λ list. list.items ≡ words_in words.items) }
-        { joined(alloc, words, count) },
+        { joined(alloc, other, words, count) },
     )
 }
 
-/// Lists of so many numbers in all, one behind the other.
-fn joined(alloc: Global, parts: Vec<Vec<u64>>, count: usize) -> Result<Vec<u64>, NoMemory>
+/// Lists of so many numbers in all, one behind the other: in the memory of one that nobody needs, or else in that of
+/// the first one, which grows.
+fn joined(
+    alloc: Global,
+    spare: Option<Vec<u64>>,
+    parts: Vec<Vec<u64>>,
+    count: usize,
+) -> Result<Vec<u64>, NoMemory>
     ensures { IfOk result (λ list. list.items ≡ words_in parts.items) }
 {
-    let mut list = Vec::new(alloc);
+    let mut list = cleared(alloc, spare, count);
     for part in parts {
-        if list.is_empty() {
+        if list.is_empty() && list.capacity() < count {
             list = part;
             list.try_reserve_exact(count.saturating_sub(list.len()))?;
         } else {
@@ -142,4 +167,18 @@ fn joined(alloc: Global, parts: Vec<Vec<u64>>, count: usize) -> Result<Vec<u64>,
         }
     }
     Ok(list)
+}
+
+/// An empty list: one that nobody needs, where it has room for so many numbers and for less than twice as many, or one
+/// without memory.
+fn cleared(alloc: Global, spare: Option<Vec<u64>>, count: usize) -> Vec<u64>
+    ensures { result.items ≡ [] }
+{
+    match spare {
+        Some(mut list) if list.capacity() >= count && list.capacity() / 2 < count => {
+            list.clear();
+            list
+        }
+        _ => Vec::new(alloc),
+    }
 }

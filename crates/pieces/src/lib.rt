@@ -10,5 +10,6 @@ mod pieces;
 mod tests;
 
 pub use joining::join_blocks;
+pub use joint::SpareLists;
 pub use part::Part;
 pub use pieces::{Pieces, Refused};

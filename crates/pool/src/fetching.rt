@@ -7,7 +7,7 @@ ghost use Rattle.runner.specs.Tickets.{IsStoreFor};
 use crate::demand::Demand;
 use crate::gate::Gate;
 use crate::named::Named;
-use crate::serving::{done, leave, lock_with};
+use crate::serving::{done, joined, leave, lock_with};
 use crate::shared::Shared;
 use crate::tasks::Tasks;
 use crate::work::{Finished, Left};
@@ -60,7 +60,7 @@ pub fn fetch_alone<J: Naming, R: Wait + Threads, G: Gate + Drop, P: Picker + Dro
             return Err(done(rt, alloc, shared, work));
         }
         let left = match own.finish(&named.log, done(rt, alloc, shared, work)) {
-            Left::Joint(joint) => own.finish(&named.log, joint.run(rt, alloc)),
+            Left::Joint(joint) => own.finish(&named.log, joined(rt, alloc, shared, joint)),
             spent => spent,
         };
         shared.spares.drop_piece(rt, Some(left.into_spent()));

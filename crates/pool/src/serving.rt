@@ -3,7 +3,7 @@ use crate::gate::Gate;
 use crate::named::Named;
 use crate::shared::Shared;
 use crate::tasks::Tasks;
-use crate::work::{Finished, Left, Work};
+use crate::work::{Finished, Joint, Left, Work};
 use board::Piece;
 use desk::Picker;
 use journal::Naming;
@@ -74,7 +74,7 @@ pub fn lock_with<'a, J: Naming, R: Wait + Threads, G: Gate + Drop, P: Picker + D
         Left::Spent(spent) => (guard, Some(spent)),
         Left::Joint(joint) => {
             drop(guard);
-            let joined = joint.run(rt, alloc);
+            let joined = joined(rt, alloc, shared, joint);
             let mut guard = shared.locked.lock(rt);
             let spent = guard.finish(&named.log, joined).into_spent();
             (guard, Some(spent))
@@ -109,7 +109,18 @@ pub fn done<J: Naming, R: Wait + Threads, G: Gate + Drop, P: Picker + Drop>(
     let threads = SeveralThreads::with_spare(rt, work.helpers, spare);
     let finished = work.run(&threads, alloc);
     if let Some(spare) = threads.into_spare() {
-        shared.spares.put(rt, spare);
+        shared.spares.put_back(rt, spare);
     }
     finished
+}
+
+/// Joins blocks, in the memory of stores that nobody needs where it suits.
+pub fn joined<J: Naming, R: Wait + Threads, G: Gate + Drop, P: Picker + Drop>(
+    rt: &R,
+    alloc: Global,
+    shared: &Shared<J, G, P>,
+    joint: Joint<J>,
+) -> Finished<J> {
+    let spares = shared.spares.take_for_blocks(rt, &joint.blocks);
+    joint.run(rt, alloc, spares)
 }

@@ -2,25 +2,29 @@
 use crate::demand::work_in;
 use crate::work::Work;
 use board::Piece;
+use desk::SpareLists;
 use journal::Naming;
+use kernel::Block;
 use std::alloc::Global;
 use std::sync::{Arc, Mutex, Wait};
 use store::Store;
 
-/// Fewer words are made by one thread, which has memory of its own for them.
+/// Shorter lists are made by one thread, and take as long in memory of their own.
 const LEAST_WORDS: usize = 1 << 17;
 
 /// Bitmaps of so many words have so many entries at the least, as a rule: a store of fewer is dropped without a look at
 /// it, and work on fewer needs no list.
 const LEAST_ENTRIES: u64 = 1 << 14;
 
-/// How many lists are kept. More gained nothing.
-const MOST: usize = 2;
+/// How many lists are kept: those of two stores.
+const MOST: usize = 4;
 
-/// The lists of words of bitmaps that were dropped. Those of others are made in their memory: to have fresh memory from
-/// the system, page by page, and to clear it takes longer than to write it.
+/// The lists of stores that were dropped: the words of bitmaps, and the words and inner indices of lists. Those of
+/// others are made in their memory: to have fresh memory from the system, page by page, and to clear it takes longer
+/// than to write it.
 #[derive(Drop)]
 pub struct Spares {
+    // The one that is let go first is in front.
     lists: Mutex<Vec<Vec<u64>>>,
 }
 
@@ -32,8 +36,8 @@ impl Spares {
         }
     }
 
-    /// One of the lists, for work in which several threads may make the words of a bitmap; `put` brings it back where
-    /// they didn't.
+    /// One of the lists, for work in which several threads may make the words of a bitmap; `put_back` brings it back
+    /// where they didn't.
     pub fn take_for<J: Naming>(&self, rt: &impl Wait, work: &Work<J>) -> Option<Vec<u64>> {
         if work.helpers == 0 || work_in(&work.piece) < LEAST_ENTRIES {
             return None;
@@ -41,25 +45,59 @@ impl Spares {
         self.lists.lock(rt).pop()
     }
 
-    /// Keeps a list, where there is room for it.
-    pub fn put(&self, rt: &impl Wait, list: Vec<u64>) {
+    /// Lists that have room for the entries of blocks, as far as there are any.
+    pub fn take_for_blocks(&self, rt: &impl Wait, blocks: &[Block]) -> SpareLists {
+        let count = entries_in(blocks);
+        if count < LEAST_WORDS {
+            return SpareLists {
+                inner: None,
+                words: None,
+            };
+        }
         let mut lists = self.lists.lock(rt);
-        if lists.len() < MOST {
-            let _ = lists.push(list);
+        SpareLists {
+            inner: take_with_room(&mut lists, count),
+            words: take_with_room(&mut lists, count),
         }
     }
 
-    /// Drops a share of a store. Where nobody else has one, its words are kept.
+    /// Keeps a list, in the place of the first one if there are enough.
+    pub fn put(&self, rt: &impl Wait, list: Vec<u64>) {
+        if list.len() < LEAST_WORDS {
+            return;
+        }
+
+        // It is dropped once the lock is given up.
+        let mut gone = None;
+        let mut lists = self.lists.lock(rt);
+        if lists.len() >= MOST {
+            gone = Some(lists.remove(0));
+        }
+        let _ = lists.push(list);
+        drop(lists);
+        drop(gone);
+    }
+
+    /// Keeps a list that was taken and had no use, in front of the others, where there is room for it.
+    pub fn put_back(&self, rt: &impl Wait, list: Vec<u64>) {
+        let mut lists = self.lists.lock(rt);
+        if lists.len() < MOST {
+            let _ = lists.insert(0, list);
+        }
+    }
+
+    /// Drops a share of a store. Where nobody else has one, its lists are kept.
     pub fn drop_share(&self, rt: &impl Wait, share: Option<Arc<Store>>) {
         let Some(share) = share else { return };
         if share.nvals() < LEAST_ENTRIES {
             return;
         }
-        if let Ok(store) = Arc::try_unwrap(share)
-            && let Some(words) = store.into_words()
-            && words.len() >= LEAST_WORDS
-        {
+        if let Ok(store) = Arc::try_unwrap(share) {
+            let (words, inner) = store.into_memory();
             self.put(rt, words);
+            if let Some(inner) = inner {
+                self.put(rt, inner);
+            }
         }
     }
 
@@ -72,4 +110,22 @@ impl Spares {
         self.drop_share(rt, inputs.first);
         self.drop_share(rt, inputs.second);
     }
+}
+
+/// How many entries blocks have.
+fn entries_in(blocks: &[Block]) -> usize {
+    let mut count = 0usize;
+    for block in blocks {
+        if let Block::Rows(rows) = block {
+            count = count.saturating_add(rows.fibers().len());
+        }
+    }
+    count
+}
+
+/// The first list that has room for so many words and for less than twice as many, out of its place.
+fn take_with_room(lists: &mut Vec<Vec<u64>>, count: usize) -> Option<Vec<u64>> {
+    let place = lists.iter().position(|list| list.capacity() >= count
+        && list.capacity() / 2 < count)?;
+    Some(lists.remove(place))
 }

@@ -12,7 +12,7 @@ ghost use Rattle.pool.specs.Outcomes.{AreParts, IsOutcomeFor};
 
 use board::Piece;
 use calls::Recipe;
-use desk::{Ticket, joined_of, made_of, part_of};
+use desk::{SpareLists, Ticket, joined_of, made_of, part_of};
 use journal::{Naming, Note};
 use kernel::{Block, VectorProducts};
 use model::NoMemory;
@@ -104,8 +104,9 @@ impl<J: Naming> Work<J> {
 }
 
 impl<J: Naming> Joint<J> {
-    /// Joins the blocks. It takes time and memory for their entries, and a second thread where they are many.
-    pub fn run(self, rt: &impl Threads, alloc: Global) -> Finished<J>
+    /// Joins the blocks. It takes time and memory for their entries, and a second thread where they are many; lists
+    /// that nobody needs take the place of fresh memory, where they suit.
+    pub fn run(self, rt: &impl Threads, alloc: Global, spares: SpareLists) -> Finished<J>
         ensures { result.ticket ≡ self.ticket }
     {
         let Joint {
@@ -114,7 +115,7 @@ impl<J: Naming> Joint<J> {
             spent,
             ..
         } = self;
-        let outcome = joined(rt, alloc, spent.recipe.get(), blocks);
+        let outcome = joined(rt, alloc, spares, spent.recipe.get(), blocks);
         Finished {
             ticket,
             outcome,
@@ -142,12 +143,18 @@ fn outcome_of<V: VectorProducts>(products: &V, alloc: Global, piece: &mut Piece)
 }
 
 /// What comes of the blocks of all pieces of a task.
-fn joined(rt: &impl Threads, alloc: Global, recipe: &Recipe, blocks: Vec<Block>) -> Outcome
+fn joined(
+    rt: &impl Threads,
+    alloc: Global,
+    spares: SpareLists,
+    recipe: &Recipe,
+    blocks: Vec<Block>,
+) -> Outcome
     requires covers { Covers 0 (rows_of (known_of recipe.now).shape) blocks.items }
     requires cols { All (λ b. cols_in b ≡ cols_of (known_of recipe.now).shape) blocks.items }
     ensures { (o : Object) → AreParts o recipe.now blocks.items → IsOutcomeFor o recipe.now result }
 {
-    match joined_of(rt, alloc, recipe, blocks) {
+    match joined_of(rt, alloc, spares, recipe, blocks) {
         Ok(store) => Outcome::Joined(store),
         Err(NoMemory) => Outcome::Refused,
     }

@@ -6,7 +6,7 @@ ghost use Rattle.model.specs.Object.{with_entry, without_entry, IsWithin};
 ghost use Rattle.store.specs.Forms.{of_bitmap};
 
 use crate::forms::{into_bitmap, put_into, sparse_of};
-use crate::{RowBlock, Sparse};
+use crate::{FiberLists, RowBlock, Sparse};
 use bitmap::Bitmap;
 use model::NoMemory;
 use std::alloc::Global;
@@ -130,11 +130,15 @@ impl Store {
         Ok(Store { kept })
     }
 
-    /// The list of words of a bitmap, for whoever has a use for the memory; None of lists of entries.
-    pub fn into_words(self) -> Option<Vec<u64>> {
+    /// The list of its words and, where its entries are lists, that of their inner indices, for whoever has a use for
+    /// the memory.
+    pub fn into_memory(self) -> (Vec<u64>, Option<Vec<u64>>) {
         match self.kept {
-            Kept::Sparse(_) => None,
-            Kept::Bitmap(bitmap) => Some(bitmap.into_words()),
+            Kept::Sparse(sparse) => {
+                let FiberLists { inner, words, .. } = sparse.lists;
+                (words, Some(inner))
+            }
+            Kept::Bitmap(bitmap) => (bitmap.into_words(), None),
         }
     }
 
