@@ -34,7 +34,8 @@ pub fn cuts(
     let rows = match job.along {
         Along::Rows(by) => {
             let entries = (by.nvals() / pieces).max(1);
-            cut_rows(alloc, by, least, entries as usize)
+            let front = (by.nvals() / threads.max(1)).max(entries);
+            cut_rows(alloc, by, least, front as usize, entries as usize)
         }
         Along::Columns(by) => cut_columns(alloc, by, least, pieces),
         Along::Evenly(rows) => cut_evenly(alloc, rows, least, pieces),
@@ -45,18 +46,27 @@ pub fn cuts(
     }
 }
 
-/// The rows at which lists are cut into pieces of about so many entries, and of at least so many rows.
-fn cut_rows(alloc: Global, by: &Sparse, least: u64, entries: usize) -> Result<Vec<u64>, NoMemory>
+/// The rows at which lists are cut into pieces of at least so many rows: one of about `front` entries, and others of
+/// about so many.
+fn cut_rows(
+    alloc: Global,
+    by: &Sparse,
+    least: u64,
+    front: usize,
+    entries: usize,
+) -> Result<Vec<u64>, NoMemory>
     ensures { IfOk result (λ rows. AllPairs (λ row later. row < later) rows.items) }
 {
     let mut rows = Vec::new(alloc);
     let mut row = 0u64;
+    let mut size = front;
     for _ in 1..MOST_PIECES {
-        let Some(next) = next_cut(by, row, least, entries) else {
+        let Some(next) = next_cut(by, row, least, size) else {
             break;
         };
         rows.push(next)?;
         row = next;
+        size = entries;
     }
     Ok(rows)
 }

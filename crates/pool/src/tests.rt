@@ -35,14 +35,14 @@ const TASKS: u64 = 200;
 /// How many workers there are.
 const WORKERS: u64 = 2;
 
-/// How many rows the large matrix has, each with one entry: enough for four pieces.
-const ROWS: u64 = 540_000;
+/// How many rows the large matrix has, each with one entry: enough for three pieces, of two threads and of three.
+const ROWS: u64 = 402_000;
 
 /// How many columns it has: so many that its store is no bitmap.
 const COLS: u64 = 1_000;
 
 /// How many pieces its task is cut into.
-const PIECES: u64 = 4;
+const PIECES: u64 = 3;
 
 /// What a test and its gate tell each other.
 #[derive(Drop)]

@@ -5,4 +5,4 @@ use Rattle.model.specs.declared.shape.Shape.TheVariants.{Two}
 use Rattle.pool.proofs.tests.filled.Given as goal
 
 abbrev pub invariant-loop-row : goal.invariant-loop-row
-invariant-loop-row l = IsStoreOf (record { domain = Int64; shape = Two 540000 1000 }) l.store
+invariant-loop-row l = IsStoreOf (record { domain = Int64; shape = Two 402000 1000 }) l.store
