@@ -15,8 +15,9 @@ const PRODUCT_PIECES: u64 = 4;
 /// How many pieces each thread gets of other operations, of which each entry, or each row, takes about the same time.
 const EVEN_PIECES: u64 = 2;
 
-/// How many pieces each thread gets of a transpose, of which each goes along all rows of the input.
-const TRANSPOSE_PIECES: u64 = 1;
+/// How many pieces each thread gets of a task of which each goes along all of an input: of a transpose, and of a
+/// product whose first factor is a bitmap, of which it makes lists.
+const LONG_PIECES: u64 = 1;
 
 /// How many pieces there are at most: each takes a part of the time in which they are handed out and joined.
 pub(crate) const MOST_PIECES: u64 = 256;
@@ -113,7 +114,7 @@ fn job_of_transpose(a: &Store) -> Option<Job<'_>> {
         along: Along::Columns(lists),
         work: lists.nvals(),
         again: 0,
-        pieces_a_thread: TRANSPOSE_PIECES,
+        pieces_a_thread: LONG_PIECES,
     })
 }
 
@@ -181,7 +182,7 @@ fn job_of_product<'a>(a: &'a Store, b: &Store) -> Job<'a> {
     let products = (b.nvals() / b.rows().max(1)).max(1);
     let (along, pieces_a_thread) = match a.form() {
         Form::Sparse(lists) => (Along::Rows(lists), PRODUCT_PIECES),
-        Form::Bitmap(bitmap) => (Along::Evenly(bitmap.rows()), EVEN_PIECES),
+        Form::Bitmap(bitmap) => (Along::Evenly(bitmap.rows()), LONG_PIECES),
     };
     Job {
         along,
