@@ -4,8 +4,5 @@
 mod pooled;
 mod running;
 
-pub use pooled::run_pooled;
-pub use running::run;
-
-#[cfg(test)]
-mod tests;
+pub use pooled::{run_over_pool, run_pooled};
+pub use running::{run, run_over};

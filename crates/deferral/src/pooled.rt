@@ -44,7 +44,7 @@ where
 }
 
 /// The same over a log that has a name, whoever picks what is done next, and whatever holds threads before a task.
-pub(crate) fn run_over_pool<J, R, S, G, P>(
+pub fn run_over_pool<J, R, S, G, P>(
     rt: &R,
     alloc: Global,
     log: Log,

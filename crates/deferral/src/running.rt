@@ -32,7 +32,7 @@ pub fn run<S: Sources>(
 }
 
 /// The same over a history that has a name, whoever picks what is done next.
-pub(crate) fn run_over<J: Naming, S: Sources, P: Picker + Drop>(
+pub fn run_over<J: Naming, S: Sources, P: Picker + Drop>(
     alloc: Global,
     history: History,
     script: &[u8],

@@ -6,8 +6,6 @@ mod joining;
 mod joint;
 mod part;
 mod pieces;
-#[cfg(test)]
-mod tests;
 
 pub use joining::join_blocks;
 pub use joint::SpareLists;

@@ -1,4 +1,3 @@
 pub mod EndLaws
 pub mod WorkLaws
 pub mod SendLaws
-pub mod TestLaws

@@ -14,8 +14,6 @@ mod shared;
 mod spares;
 mod starting;
 mod tasks;
-#[cfg(test)]
-mod tests;
 mod work;
 
 pub use gate::{Gate, Open};

@@ -74,8 +74,8 @@ where
         Pool::with_share(rt, alloc, log, workers, rows, gate, picker, SHARE)
     }
 
-    /// The same, with a worker woken for so much work.
-    pub(crate) fn with_share(
+    /// The same, with a worker woken for so much work, in entries that are read.
+    pub fn with_share(
         rt: R,
         alloc: Global,
         log: Log,

@@ -1,5 +1,0 @@
--- The name is the log that was just made.
-use Rattle.deferral.proofs.tests.held.is_answered.Given as goal
-
-abbrev pub ghosts-answers : goal.ghosts-answers
-ghosts-answers g a = record { log = a.log }

@@ -1,5 +1,0 @@
--- The name is the log that was just made.
-use Rattle.pool.proofs.tests.passes.Given as goal
-
-abbrev pub ghosts-over_log : goal.ghosts-over_log
-ghosts-over_log g a = record { log = a.log }

@@ -1,0 +1,2 @@
+pub mod TryLaws
+pub mod PoolLaws
