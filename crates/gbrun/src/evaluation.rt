@@ -7,7 +7,7 @@ ghost use Rattle.gbrun.specs.declared.options.Options.{Options as Chosen};
 use crate::options::Options;
 use model::NoMemory;
 use runner::Runner;
-use script::{FileReader, FileWriter, Sources};
+use script::{EntrySummer, FileReader, FileWriter, Sources};
 use std::alloc::Global;
 
 /// What makes the run of a script. A program that is given one of any kind can't make up what the run appends or how
@@ -20,7 +20,7 @@ pub trait Evaluation {
 
     /// Runs a script with these sources of files, which `files` reads and writes, over a runner that was chosen by the
     /// options, and appends its answers to none.
-    fn run<F: FileReader + FileWriter, S: Sources, R: Runner>(
+    fn run<F: FileReader + FileWriter + EntrySummer, S: Sources, R: Runner>(
         &mut self,
         files: &F,
         alloc: Global,
@@ -63,7 +63,7 @@ impl Evaluation for Answers {
 
     ghost admits = { AnswersRun };
 
-    fn run<F: FileReader + FileWriter, S: Sources, R: Runner>(
+    fn run<F: FileReader + FileWriter + EntrySummer, S: Sources, R: Runner>(
         &mut self,
         files: &F,
         alloc: Global,

@@ -13,13 +13,13 @@ use bitmap::{OneThread, SeveralThreads};
 use model::MmFault;
 use std::alloc::Global;
 use std::thread::Threads;
-use store::{EntrySorter, Tuples};
+use store::Tuples;
 
 /// How many bytes of a file a thread is started for: to start it takes about a fifth of the time of these.
 const WORTH_A_THREAD: usize = 1 << 16;
 
 /// Who reads files: the calling thread, or others beside it.
-pub trait FileReader: EntrySorter {
+pub trait FileReader {
     /// The matrix that a Matrix Market file stands for: its rows, its columns, and its entries in the order of
     /// the file, each with the one that the file leaves out behind it. Of the format `integer` and `pattern`
     /// are read, and all symmetries but `hermitian`; values are cast to the domain.

@@ -77,7 +77,7 @@ runs_from-words joins e (f ∷ fs) i j order =
           ])
     ]
 
-runs_of-words : (joins : Option OpName) (es : List Entry) (i j : ℕ) → AllPairs IsNotBehind es
+pub runs_of-words : (joins : Option OpName) (es : List Entry) (i j : ℕ) → AllPairs IsNotBehind es
     → word_at (runs_of joins es) i j ≡ gathered joins es i j
 unfolding word_at
 runs_of-words joins [] i j order = refl
@@ -126,7 +126,7 @@ runs_from-all P joins e (f ∷ fs) h =
       | inr other ↦ rw other (All-cons Q e (runs_from joins f fs) first (runs_from-all P joins f fs rest))
     ]
 
-runs_of-all : (P : ℕ → ℕ → Type 0) (joins : Option OpName) (es : List Entry) → All (λ e. P e.row e.col) es
+pub runs_of-all : (P : ℕ → ℕ → Type 0) (joins : Option OpName) (es : List Entry) → All (λ e. P e.row e.col) es
     → All (λ e. P e.row e.col) (runs_of joins es)
 runs_of-all P joins [] h = h
 runs_of-all P joins (e ∷ es) h = runs_from-all P joins e es h

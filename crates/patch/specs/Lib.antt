@@ -1,2 +1,3 @@
 pub mod Edits
 pub mod Runs
+pub mod Sums

@@ -7,9 +7,12 @@ mod edits;
 mod gathering;
 mod merging;
 mod runs;
+mod summers;
 mod summing;
+mod taking;
 
 pub use building::build;
 pub use edits::{Edit, apply_edits};
 pub use gathering::gather;
+pub use summers::EntrySummer;
 pub use summing::sum_entries;

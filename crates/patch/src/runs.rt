@@ -41,7 +41,7 @@ pub(crate) fn block_of_sorted(
 }
 
 /// The fibers of entries that come in order, of which those of one row are a fiber.
-fn join_runs(
+pub(crate) fn join_runs(
     alloc: Global,
     entries: &[Entry],
     joins: Option<BinaryOp>,

@@ -12,5 +12,6 @@ mod text;
 
 pub use lines::{Line, LineFault, Load, loaded_file, parse_line};
 pub use mmio::{FileReader, FileWriter, OneThread, threads_of};
+pub use patch::EntrySummer;
 pub use running::{run, run_by};
 pub use sources::Sources;

@@ -11,6 +11,7 @@ use algebra::Domain;
 use lines::Load;
 use mmio::{FileReader, MmFault};
 use model::Status;
+use patch::EntrySummer;
 use runner::Runner;
 use std::alloc::Global;
 use store::Tuples;
@@ -21,7 +22,7 @@ impl<R: Runner + Drop> Environment<R> {
 
     /// Makes a matrix of what a file holds, under a new name. An error leaves the objects as they were; where there was
     /// no memory for the name alone, the matrix' number is used up.
-    pub fn load<F: FileReader, S: Sources>(
+    pub fn load<F: FileReader + EntrySummer, S: Sources>(
         &mut self,
         reader: &F,
         sources: &S,

@@ -21,6 +21,7 @@ use crate::text;
 use lines::{Line, LineFault, first_line, parse_line};
 use mmio::{FileReader, FileWriter, OneThread};
 use model::{Act, Call, NoMemory, Operation, Status};
+use patch::EntrySummer;
 use runner::Runner;
 use std::alloc::{AllocError, Global};
 
@@ -53,7 +54,7 @@ pub fn run<S: Sources, R: Runner>(
 }
 
 /// The same where `files` reads and writes files.
-pub fn run_by<F: FileReader + FileWriter, S: Sources, R: Runner>(
+pub fn run_by<F: FileReader + FileWriter + EntrySummer, S: Sources, R: Runner>(
     files: &F,
     alloc: Global,
     script: &[u8],
@@ -71,7 +72,7 @@ pub fn run_by<F: FileReader + FileWriter, S: Sources, R: Runner>(
 }
 
 /// Appends the answers of a script's lines, over a runner that goes with the objects.
-fn answer_lines<F: FileReader + FileWriter, S: Sources, R: Runner + Drop>(
+fn answer_lines<F: FileReader + FileWriter + EntrySummer, S: Sources, R: Runner + Drop>(
     files: &F,
     alloc: Global,
     script: &[u8],
@@ -106,7 +107,7 @@ fn answer_lines<F: FileReader + FileWriter, S: Sources, R: Runner + Drop>(
 }
 
 /// Appends the answer to one line, if it has one, whole, with `text` as room for it. An error appends nothing.
-fn append_answer<F: FileReader + FileWriter, S: Sources, R: Runner + Drop>(
+fn append_answer<F: FileReader + FileWriter + EntrySummer, S: Sources, R: Runner + Drop>(
     files: &F,
     alloc: Global,
     sources: &S,
@@ -138,7 +139,7 @@ fn append_answer<F: FileReader + FileWriter, S: Sources, R: Runner + Drop>(
 
 /// Writes the answer to one line, if it has one: what it prints of an object, which may be long, behind `out`, and the
 /// rest as `text`, which follows that.
-fn answer_line<F: FileReader + FileWriter, S: Sources, R: Runner + Drop>(
+fn answer_line<F: FileReader + FileWriter + EntrySummer, S: Sources, R: Runner + Drop>(
     files: &F,
     alloc: Global,
     sources: &S,

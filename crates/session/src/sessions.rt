@@ -17,11 +17,11 @@ use bitmap::OneThread;
 use calls::{Act, Call, Obj, Shape, Shapes, Signature, check_create, check_there};
 use model::{MOST_OBJECTS, NoMemory, Status};
 use objects::{Table, Value, insert, remove, settle, signature};
-use patch::sum_entries;
+use patch::{EntrySummer, sum_entries};
 use runner::Runner;
 use std::alloc::Global;
 use std::sync::Arc;
-use store::{EntrySorter, Store, Tuples};
+use store::{Store, Tuples};
 
 /// So many calls hand work to a runner before it is emptied, and what it knows of them is forgotten.
 const EPOCH: u64 = 4_096;
@@ -111,10 +111,10 @@ impl<R: Runner + Drop> Session<R> {
         self.load_by(&OneThread, domain, rows, cols, entries)
     }
 
-    /// The same, where a sorter sorts the entries that don't come row by row.
-    pub fn load_by<S: EntrySorter>(
+    /// The same, where another sums the entries that don't come row by row.
+    pub fn load_by<S: EntrySummer>(
         &mut self,
-        sorter: &S,
+        summer: &S,
         domain: Domain,
         rows: u64,
         cols: u64,
@@ -130,7 +130,7 @@ impl<R: Runner + Drop> Session<R> {
     {
         let shape = Shape::Two(rows, cols);
         check_create(self, domain, shape)?;
-        let store = sum_entries(self.alloc, sorter, entries, domain, rows, cols)?;
+        let store = sum_entries(self.alloc, summer, entries, domain, rows, cols)?;
         let store = share(self.alloc, store)?;
         let object = self.insert(Signature { domain, shape }, Value::Here(store))?;
         Ok(object)

@@ -1,6 +1,7 @@
 -- Entries that came row by row, and those behind them.
 use Rattle.std.specs.Prelude.{ℕ, ◌≡◌, ◌<◌, ◌≤◌, ◌⊎◌, ◌++◌, ◌∷◌, List, length}
-use Rattle.std.specs.List.{All}
+use Rattle.std.specs.List.{All, flat_map}
+use Rattle.std.specs.Global.{Vec}
 use Rattle.model.specs.declared.entry.Entry.{Entry}
 use Rattle.model.specs.Entries.{InOrder, Precedes, entry_at}
 use Rattle.store.specs.declared.lists.FiberLists.{FiberLists}
@@ -20,7 +21,15 @@ pub record AreRows (rows : FiberLists) (row col : ℕ) : Type 0 where
   pub up_to : All (IsUpTo row col) (entries_in rows)
   pub last : 0 < length rows.ends.items → All (λ e. Precedes e (entry_at row col 0)) (entries_in rows) → ⊥
 
+-- the entries of lists, one behind the other
+abbrev pub listed : List (Vec Entry) → List Entry
+listed lists = flat_map (λ list. list.items) lists
+
+abbrev pub NoneIsEmpty : List (Vec Entry) → Type 0
+NoneIsEmpty lists = All (λ list. 0 < length list.items) lists
+
 -- entries are listed behind the rows where they don't go on from there in order
-pub record AreTuples (rows : FiberLists) (row col : ℕ) (list : List Entry) : Type 0 where
+pub record AreTuples (rows : FiberLists) (row col : ℕ) (joined : List (Vec Entry)) (list : List Entry) : Type 0 where
   pub are_rows : AreRows rows row col
-  pub listed : 0 < length list → InOrder (entries_in rows ++ list) → ⊥
+  pub some : NoneIsEmpty joined
+  pub unordered : 0 < length (listed joined ++ list) → InOrder (entries_in rows ++ (listed joined ++ list)) → ⊥

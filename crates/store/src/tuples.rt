@@ -5,7 +5,7 @@ ghost use Rattle.std.specs.List.{All};
 ghost use Rattle.std.specs.List.Sorted.{IsPermutation};
 ghost use Rattle.model.specs.Entries.{InOrder, Precedes};
 ghost use Rattle.store.specs.Fibers.{AreFlat, entries_along, entries_in};
-ghost use Rattle.store.specs.Tuples.{AreRows, IsFirst};
+ghost use Rattle.store.specs.Tuples.{AreRows, IsFirst, NoneIsEmpty, listed};
 
 use crate::edits::make_room;
 use crate::lists::count_others;
@@ -17,13 +17,15 @@ use std::thread::Threads;
 
 /// Entries in the order in which they come, as those of a file (the tuples of `GrB_Matrix_build`). As long as they
 /// come row by row, each behind the one before, they lie as rows, which a store takes over; from the first on that
-/// doesn't, they are a list.
+/// doesn't, they are listed.
 #[derive(Drop)]
 pub struct Tuples {
     rows: FiberLists,
     // Where the last entry of the rows stands.
     row: u64,
     col: u64,
+    // What is listed: lists that were joined, and behind them the one to which entries are added.
+    joined: Vec<Vec<Entry>>,
     list: Vec<Entry>,
 }
 
@@ -31,13 +33,13 @@ impl Model for Tuples {
     ghost use Rattle.std.specs.Prelude.{List, ◌++◌};
     ghost use Rattle.model.specs.declared.entry.Entry.{Entry};
     ghost use Rattle.store.specs.Fibers.{entries_in};
-    ghost use Rattle.store.specs.Tuples.{AreTuples};
+    ghost use Rattle.store.specs.Tuples.{AreTuples, listed};
 
     ghost Value = { List Entry };
 
-    ghost view = { λ t. entries_in t.rows ++ t.list.items };
+    ghost view = { λ t. entries_in t.rows ++ (listed t.joined.items ++ t.list.items) };
 
-    ghost invariant = { λ t. AreTuples t.rows t.row t.col t.list.items };
+    ghost invariant = { λ t. AreTuples t.rows t.row t.col t.joined.items t.list.items };
 }
 
 impl Tuples {
@@ -49,6 +51,7 @@ impl Tuples {
             rows: FiberLists::with_capacity(alloc, entries)?,
             row: 0,
             col: 0,
+            joined: Vec::new(alloc),
             list: Vec::new(alloc),
         })
     }
@@ -59,7 +62,9 @@ impl Tuples {
         ensures ok { OnOk result (self.new ≡ self.old ++ entry ∷ []) }
         ensures err { OnErr result (self.new ≡ self.old) }
     {
-        if self.list.is_empty() && goes_on(&self.rows, self.row, self.col, &entry) {
+        if is_none_listed(&self.joined, &self.list)
+            && goes_on(&self.rows, self.row, self.col, &entry)
+        {
             push_last(&mut self.rows, entry)?;
             self.row = entry.row;
             self.col = entry.col;
@@ -76,7 +81,7 @@ impl Tuples {
 
     /// These entries, and others behind them. Where those go on row by row, as the entries of a part of a file do from
     /// those of the part before, their lists are put behind these as a whole, one of them by another thread if they are
-    /// long.
+    /// long. What is listed stays where it is.
     pub fn join<R: Threads>(self, rt: &R, others: Tuples) -> Result<Tuples, NoMemory>
         ensures { IfOk result (λ all. all ≡ self ++ others) }
     {
@@ -84,20 +89,23 @@ impl Tuples {
             mut rows,
             row,
             col,
+            mut joined,
             mut list,
         } = self;
-        if list.is_empty() && leads(&rows, row, col, &others.rows) {
+        if is_none_listed(&joined, &list) && leads(&rows, row, col, &others.rows) {
             put_behind(rt, &mut rows, &others.rows)?;
             return Ok(Tuples { rows, ..others });
         }
         let FiberLists { ends, inner, words } = others.rows;
         list_fibers(&mut list, Fibers::of_lists(&ends, &inner, &words))?;
-        list.extend_from_slice(&others.list)?;
+        let mut more = others.joined;
+        join_lists(&mut joined, list, &mut more)?;
         Ok(Tuples {
             rows,
             row,
             col,
-            list,
+            joined,
+            list: others.list,
         })
     }
 
@@ -108,22 +116,57 @@ impl Tuples {
         ensures order { IfErr result (λ tuples. InOrder tuples → ⊥) }
         ensures others { IfErr result (λ tuples. tuples ≡ self) }
     {
-        if self.list.is_empty() {
+        if is_none_listed(&self.joined, &self.list) {
             Ok(self.rows)
         } else {
             Err(self)
         }
     }
 
-    /// The entries as a list, those that came row by row behind the others.
-    pub fn into_list(self) -> Result<Vec<Entry>, NoMemory>
-        ensures { IfOk result (λ list. IsPermutation self list.items) }
+    /// The entries as lists, those that came row by row behind the others.
+    pub fn into_lists(self) -> Result<Vec<Vec<Entry>>, NoMemory>
+        ensures { IfOk result (λ lists. IsPermutation self (listed lists.items)) }
     {
-        let Tuples { rows, mut list, .. } = self;
+        let Tuples {
+            rows,
+            mut joined,
+            mut list,
+            ..
+        } = self;
         let FiberLists { ends, inner, words } = rows;
         list_fibers(&mut list, Fibers::of_lists(&ends, &inner, &words))?;
-        Ok(list)
+        joined.push(list)?;
+        Ok(joined)
     }
+}
+
+/// Whether no entry is listed, in lists that were joined or in the one behind them.
+#[inline(always)]
+fn is_none_listed(joined: &[Vec<Entry>], list: &[Entry]) -> bool
+    requires { NoneIsEmpty joined.now }
+    ensures yes { result ≡ true → listed joined.now ++ list.now ≡ [] }
+    ensures no { result ≡ false → 0 < length (listed joined.now ++ list.now) }
+{
+    list.is_empty() && joined.is_empty()
+}
+
+/// Puts a list, if it isn't empty, and other lists behind those that were joined.
+fn join_lists(
+    joined: &mut Vec<Vec<Entry>>,
+    list: Vec<Entry>,
+    others: &mut Vec<Vec<Entry>>,
+) -> Result<(), NoMemory>
+    requires joined { NoneIsEmpty joined.old.items }
+    requires others { NoneIsEmpty others.old.items }
+    ensures some { OnOk result (NoneIsEmpty joined.new.items) }
+    ensures all { OnOk result (listed joined.new.items
+        ≡ listed joined.old.items ++ list.items ++ listed others.old.items) }
+{
+    if !list.is_empty() {
+        joined.push(list)?;
+    }
+    joined.append(others)?;
+    Ok(())
 }
 
 /// Whether an entry stands behind all rows that there are, of which the last entry stands at a row and a column.
