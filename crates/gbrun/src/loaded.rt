@@ -11,6 +11,7 @@ use script::Sources;
 use std::alloc::Global;
 use std::collections::BTreeMap;
 use std::io::ErrorKind;
+use std::thread::Threads;
 
 /// The files that a script loads, by their names; none where a file can't be opened and read whole.
 #[derive(Drop)]
@@ -30,11 +31,14 @@ impl Sources for Loaded<'_> {
 }
 
 impl<'a> Loaded<'a> {
-    /// Reads each file that a well-formed load of a script names, once. Those that can be read are held.
-    pub fn read<F: FileSource>(
+    /// Reads each file that a well-formed load of a script names, once, by so many threads at most. Those that can be
+    /// read are held.
+    pub fn read<H: Threads, F: FileSource>(
+        rt: &H,
         alloc: Global,
         script: &'a [u8],
         files: &F,
+        threads: u64,
     ) -> Result<Loaded<'a>, NoMemory>
         ensures files { IfOk result (λ loaded. AreFiles (F.content files.now) (held_in loaded)) }
         ensures readable { IfOk result (λ loaded.
@@ -47,7 +51,7 @@ impl<'a> Loaded<'a> {
         while !rest.is_empty() {
             let (line, others) = first_line(rest);
             if let Some(name) = loaded_file(alloc, line)? {
-                loaded.add(name, files)?;
+                loaded.add(rt, name, files, threads)?;
             }
             rest = others;
         }
@@ -55,7 +59,13 @@ impl<'a> Loaded<'a> {
     }
 
     /// Reads the file of a name, unless it was read before.
-    fn add<F: FileSource>(&mut self, name: &'a str, files: &F) -> Result<(), NoMemory>
+    fn add<H: Threads, F: FileSource>(
+        &mut self,
+        rt: &H,
+        name: &'a str,
+        files: &F,
+        threads: u64,
+    ) -> Result<(), NoMemory>
         requires files { AreFiles (F.content files.now) (held_in self.old) }
         requires tried { HasTried (F.readable files.now) self.old }
         ensures files { AreFiles (F.content files.now) (held_in self.new) }
@@ -66,19 +76,24 @@ impl<'a> Loaded<'a> {
         if self.by_name.contains_key(name.as_bytes()) {
             return Ok(());
         }
-        let bytes = whole(name, files)?;
+        let bytes = whole(rt, name, files, threads)?;
         self.by_name.insert(name.as_bytes(), bytes)?;
         Ok(())
     }
 }
 
 /// The bytes of a file, if it can be opened and read whole. Want of memory is no want of a file.
-fn whole<F: FileSource>(name: &str, files: &F) -> Result<Option<Vec<u8>>, NoMemory>
+fn whole<H: Threads, F: FileSource>(
+    rt: &H,
+    name: &str,
+    files: &F,
+    threads: u64,
+) -> Result<Option<Vec<u8>>, NoMemory>
     ensures file { IfOk result (λ bytes.
         IsFile (F.content files.now name.now) (option_map (λ bytes. bytes.items) bytes)) }
     ensures readable { IfOk result (λ bytes. F.readable files.now name.now → is_some bytes ≡ true) }
 {
-    match files.read(name) {
+    match files.read(rt, name, threads) {
         Ok(bytes) => Ok(Some(bytes)),
         Err(error) if error.kind() == ErrorKind::OutOfMemory => Err(NoMemory),
         Err(_) => Ok(None),

@@ -151,8 +151,8 @@ where
         (X.made run.new) (W.contents out.old) (W.contents out.new) result }
     ensures unread { is_some options.entry.script ≡ true → input.new ≡ input.old }
 {
-    let script = read_script(alloc, options.script, input, files)?;
-    let loaded = Loaded::read(alloc, script.as_slice(), files)?;
+    let script = read_script(rt, alloc, options, input, files)?;
+    let loaded = Loaded::read(rt, alloc, script.as_slice(), files, options.workers)?;
     let ended = run_as_chosen(rt, alloc, script.as_slice(), &loaded, options, run)?;
     finish(out, run.answers(), ended)
 }
@@ -169,19 +169,21 @@ fn finish<W: Write>(out: &mut W, answers: &[u8], ended: Result<(), NoMemory>) ->
     }
 }
 
-fn read_script<R: Read, F: FileSource>(
+fn read_script<H: Threads, R: Read, F: FileSource>(
+    rt: &H,
     alloc: Global,
-    name: Option<&str>,
+    options: Options<'_>,
     input: &mut R,
     files: &F,
 ) -> Result<Vec<u8>, Fault>
     ensures known { IfOk result (λ script. IsKnown
-        (option_map_or (λ name. F.content files.now name.now) name.entry (R.remaining input.old)) script.items) }
-    ensures unread { is_some name.entry ≡ true → input.new ≡ input.old }
+        (option_map_or (λ name. F.content files.now name.now) options.entry.script (R.remaining input.old))
+        script.items) }
+    ensures unread { is_some options.entry.script ≡ true → input.new ≡ input.old }
     ensures err { IfErr result (λ fault. fault ≡ Fault.UnreadableScript) }
 {
-    let read = match name {
-        Some(name) => files.read(name),
+    let read = match options.script {
+        Some(name) => files.read(rt, name, options.workers),
         None => {
             let mut bytes = Vec::new(alloc);
             input.read_to_end(&mut bytes).map(|_| bytes)
