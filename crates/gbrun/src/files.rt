@@ -47,15 +47,13 @@ impl FileSource for Disk<'_> {
         let mut file = File::open(self.0, name)?;
         // What a file says of its length may be wrong: what follows is read as well.
         let length = file.metadata().map_or(0, |metadata| metadata.len());
-        let mut bytes = match read_beside(rt, self.0.alloc(), &file, length, threads) {
-            Some(bytes) => {
-                file.seek(SeekFrom::Start(length))?;
-                bytes
-            }
-            None => Vec::new(self.0.alloc()),
-        };
-        let left = (length as usize).saturating_sub(bytes.len());
-        let _ = bytes.reserve_exact(left.saturating_add(1));
+        let mut bytes = Vec::new(self.0.alloc());
+        if let Some(front) = read_beside(rt, self.0.alloc(), &file, length, threads) {
+            file.seek(SeekFrom::Start(length))?;
+            bytes = front;
+        } else {
+            let _ = bytes.reserve_exact((length as usize).saturating_add(1));
+        }
         file.read_to_end(&mut bytes)?;
         Ok(bytes)
     }
@@ -75,10 +73,13 @@ fn read_beside<R: Threads, F: FileExt + Sync>(
         return None;
     }
     let parts = parts.min(threads_of(rt, threads).others().saturating_add(1));
-    let Ok(mut bytes) = vec![in alloc; 0; length as usize] else {
+    let length = length as usize;
+    // With room for one byte more, in which a read finds the end.
+    let Ok(mut bytes) = vec![in alloc; 0; length.saturating_add(1)] else {
         return None;
     };
-    let each = (length / parts) as usize + 1;
+    bytes.truncate(length);
+    let each = length / parts as usize + 1;
     if !fill(rt, file, 0, each, &mut bytes) {
         return None;
     }

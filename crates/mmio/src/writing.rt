@@ -23,6 +23,9 @@ const BANNER: &[u8] = b"%%MatrixMarket matrix coordinate integer general\n";
 /// How many lines a thread is started for: to start it takes about a fifth of the time of these.
 const WORTH_A_THREAD: usize = 1 << 12;
 
+/// Room is made for so many bytes of a line at first. A text that grows may be moved.
+const USUAL_LINE: usize = 16;
+
 /// Who writes the lines of files: the calling thread, or others beside it.
 pub trait FileWriter {
     /// Appends a line for each entry of the first rows of a store, row by row, with indices from 1. After an error some
@@ -66,6 +69,7 @@ impl<R: Threads> FileWriter for SeveralThreads<'_, R> {
             return write_between(out, domain, store, 0..past);
         }
         let each = entries / parts + 1;
+        make_room(out, entries);
         write_beside(self.starter(), domain, store, past, entries, each, out)
     }
 }
@@ -196,7 +200,15 @@ fn write_between(
     ensures ok { OnOk result (out.new.items ≡ out.old.items ++ lines_between domain store.now rows.start rows.end) }
     ensures grows { Grows out.old.items out.new.items }
 {
+    make_room(out, store.fibers_in(rows.start..rows.end).len());
     write_rows(out, domain, store.rows_in(rows))
+}
+
+/// Makes room for the lines of so many entries, as far as there is memory.
+fn make_room(out: &mut Vec<u8>, entries: usize)
+    ensures { out.new.items ≡ out.old.items }
+{
+    let _ = out.reserve(entries.saturating_mul(USUAL_LINE));
 }
 
 /// Appends the size line of a canonical text.
