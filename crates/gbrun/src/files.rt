@@ -23,8 +23,8 @@ pub trait FileSource {
     // Whether it is known that the file of a name can be read whole, if memory isn't refused.
     ghost readable: { Self → List ℕ → Type 0 } = { λ _ _. ⊥ };
 
-    /// All the bytes of the file `name`, or why it can't be opened and read whole. So many threads read it at most, which
-    /// `rt` starts.
+    /// All the bytes of the file `name`, or why it can't be opened and read whole. At most so many threads read it,
+    /// which `rt` starts.
     fn read<H: Threads>(&self, rt: &H, name: &str, threads: u64) -> io::Result<Vec<u8>>
         ensures bytes { IfOk result (λ bytes. IfSome (content self.now name.now)
             (λ known. bytes.items ≡ known)) }
@@ -59,8 +59,8 @@ impl FileSource for Disk<'_> {
     }
 }
 
-/// So many bytes of a file from its beginning, which so many threads read at most; none where one thread does, or there
-/// are fewer.
+/// So many bytes of a file from its beginning, which several threads read; none where they are few or can't all be
+/// read, or where there is no memory for them.
 fn read_beside<R: Threads, F: FileExt + Sync>(
     rt: &R,
     alloc: Global,
@@ -86,7 +86,7 @@ fn read_beside<R: Threads, F: FileExt + Sync>(
     Some(bytes)
 }
 
-/// Reads what a file has from a place on, so many bytes by each thread, and says whether there was as much.
+/// Fills a list with what a file has from a place on, `each` bytes by a thread, and says whether there was as much.
 fn fill<R: Threads, F: FileExt + Sync>(
     rt: &R,
     file: &F,
