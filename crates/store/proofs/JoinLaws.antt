@@ -10,7 +10,7 @@ use Rattle.store.specs.declared.lists.FiberEnd.{FiberEnd}
 use Rattle.store.specs.Fibers.{entries_along, entries_from}
 use Rattle.store.specs.Tuples.{IsFirst, IsUpTo}
 use Rattle.store.proofs.Contents.{no_entries}
-use Rattle.store.proofs.Order.{all_append_right, all_pairs_across, all_pairs_head, all_pairs_left, all_pairs_right}
+use Rattle.store.proofs.Order.{all_pairs_across, all_pairs_head, all_pairs_left, all_pairs_right}
 
 -- what stands before another stands before all that this one stands before
 before_both : (e f g : Entry) → Precedes e f → Precedes f g → Precedes e g

@@ -1,5 +1,5 @@
 -- The edits up to the next one set entries.
-use Rattle.std.proofs.Common.{◌≡◌, arith, length, rules, take}
+use Rattle.std.proofs.Common.{◌≡◌, arith, rules, take}
 use Rattle.std.proofs.lemmas.List.{take_all}
 use Rattle.std.proofs.lemmas.List.Elements.{All-more}
 use Rattle.patch.specs.declared.edits.Edit.TheVariants.{Set}

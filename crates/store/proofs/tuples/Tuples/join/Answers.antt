@@ -1,5 +1,5 @@
 -- Rows go on, or all is listed that doesn't.
-use Rattle.std.proofs.Common.{◌≡◌, ◌++◌, ◌∙◌, ap, append_assoc, arith, length, refl, sym}
+use Rattle.std.proofs.Common.{◌≡◌, ◌++◌, ◌∙◌, ap, append_assoc, arith, refl, sym}
 use Rattle.model.specs.Entries.{Precedes, entry_at}
 use Rattle.store.specs.Fibers.{entries_in}
 use Rattle.store.specs.Tuples.{listed}
