@@ -1,17 +1,16 @@
 -- Rows of a map that are made of a store's, one row after another.
-use Rattle.std.proofs.Common.{true, false, ltb, length, take, drop, Result, Ok, Err, IfOk, OnOk, ◌≡◌, ℕ, ◌+◌, ◌<◌, ◌≤◌, List, [], None, arith}
+use Rattle.std.proofs.Common.{true, false, ltb, length, take, Result, Ok, Err, IfOk, OnOk, ◌≡◌, ℕ, ◌+◌, ◌<◌, ◌≤◌, List, [], None, arith}
 use Rattle.std.specs.List.{AllPairs}
 use Rattle.std.specs.List.Sorted.{IsPartitionPoint}
 use Rattle.model.specs.Entries.{word_at}
 use Rattle.model.specs.Regions.{cut_to}
 use Rattle.store.specs.Fibers.{entries_along}
-use Rattle.shapes.proofs.RowWords.{cut_row, kept_row}
+use Rattle.shapes.proofs.RowWords.{cut_row}
 use Rattle.model.specs.declared.entry.Entry.{Entry}
 use Rattle.model.specs.Object.{Content}
 use Rattle.model.specs.declared.memory.NoMemory.{NoMemory}
 use Rattle.store.specs.declared.lists.FiberLists.{FiberLists}
 use Rattle.store.specs.Walks.{IsFirstRow}
-use Rattle.shapes.specs.Columns.{in_columns}
 use Rattle.shapes.specs.Rows.{HasRow, HasRowOf, IsMade, IsRowOf, IsWalk}
 use Rattle.shapes.proofs.Made.{made_more, made_none, made_skip}
 use Rattle.shapes.proofs.Walked.{walk_end, walk_step}
@@ -87,13 +86,3 @@ pub cut_ok : (index cols n : ℕ) (cs ws : List ℕ) (old new : FiberLists) (r :
 cut_ok index cols n cs ws old new r same rises point put =
     ok_then (HasRow index (take n cs) (take n ws) old new) ((c : Content) (rows : ℕ) → index < rows → ((j : ℕ) → word_at (entries_along index cs ws) index j ≡ c index j) → HasRowOf (cut_to rows cols c) index cols old new) r
     (λ put c rows inside words. record { cs = take n cs; ws = take n ws; row = cut_row c index rows cols n cs ws inside same rises point words; put = put }) put
-
--- a row in some columns
-pub kept_ok : (index first past high low : ℕ) (cs ws : List ℕ) (old new : FiberLists) (r : Result (Unit {0}) NoMemory)
-    → IsPartitionPoint (λ c. ltb c past ≡ true) (λ c. ltb c past ≡ false) cs high
-    → IsPartitionPoint (λ c. ltb c first ≡ true) (λ c. ltb c first ≡ false) (take high cs) low
-    → OnOk r (HasRow index (drop low (take high cs)) (drop low (take high ws)) old new)
-    → OnOk r ((c : Content) (size : ℕ) → IsRowOf c index size cs ws → HasRowOf (in_columns first past c) index size old new)
-kept_ok index first past high low cs ws old new r upper lower put =
-    ok_then (HasRow index (drop low (take high cs)) (drop low (take high ws)) old new) ((c : Content) (size : ℕ) → IsRowOf c index size cs ws → HasRowOf (in_columns first past c) index size old new) r
-    (λ put c size row. record { cs = drop low (take high cs); ws = drop low (take high ws); row = kept_row c index size first past high low cs ws row upper lower; put = put }) put

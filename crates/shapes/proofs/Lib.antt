@@ -1,3 +1,4 @@
+pub mod BetweenLaws
 pub mod ColumnFibers
 pub mod ColumnPlaces
 pub mod Counts

@@ -1,5 +1,5 @@
 -- Words of one row, which are its columns' and words' side by side.
-use Rattle.std.proofs.Common.{◌≡◌, ◌≢◌, ℕ, ◌<◌, true, false, cond, ◌&&◌, eqb, ltb, List, [], ◌∷◌, ◌++◌, length, length-drop, get_or, take, drop, Option, Some, None, refl, sym, ◌∙◌, ap, inl, inr, arith, take-append-drop}
+use Rattle.std.proofs.Common.{◌≡◌, ◌≢◌, ℕ, ◌<◌, true, false, cond, ◌&&◌, eqb, ltb, List, [], ◌∷◌, ◌++◌, length, get_or, take, drop, Some, None, refl, sym, ◌∙◌, ap, inl, inr, arith, take-append-drop}
 use Rattle.std.specs.List.{All, AllPairs}
 use Rattle.std.specs.List.Sorted.{IsPartitionPoint}
 use Rattle.std.proofs.lemmas.Bool.{cases_Bool, eq-eqb, ne_eqb}
@@ -15,8 +15,7 @@ use Rattle.store.proofs.Positions.{word_at-found}
 use Rattle.model.specs.Object.{Content}
 use Rattle.model.specs.Regions.{cut_to}
 use Rattle.store.specs.Fibers.{entries_along}
-use Rattle.store.proofs.Order.{all_append_left, all_append_right, all_drop, all_pairs_left, all_pairs_right, all_take}
-use Rattle.shapes.specs.Columns.{in_columns}
+use Rattle.store.proofs.Order.{all_drop, all_pairs_left, all_take}
 use Rattle.shapes.specs.Rows.{IsRowOf}
 
 -- the words of a row whose first column stands apart
@@ -101,53 +100,6 @@ word_right i j [] (w ∷ ws) cs' ws' same other = absurd (omega arith)
 word_right i j (c ∷ cs) [] cs' ws' same other = absurd (omega arith)
 word_right i j (c ∷ cs) (w ∷ ws) cs' ws' same other =
     row_word i j c w (cs ++ cs') (ws ++ ws') ∙ rw (ne_eqb j c (All-head (λ col. j ≢ col) c cs other)) (word_right i j cs ws cs' ws' (omega arith) (All-tail (λ col. j ≢ col) c cs other))
-
--- ---- a row in some columns
-
-drop_word : (i j first n : ℕ) (cs ws : List ℕ) → length ws ≡ length cs
-    → IsPartitionPoint (λ c. ltb c first ≡ true) (λ c. ltb c first ≡ false) cs n
-    → word_at (entries_along i (drop n cs) (drop n ws)) i j ≡ cond (ltb j first) None
-    (word_at (entries_along i cs ws) i j)
-drop_word i j first n cs ws same point =
-    let before = all_take (λ c. ltb c first ≡ true) n cs point.0 in
-    let behind = all_drop (λ c. ltb c first ≡ false) n cs point.1 in
-    let whole : entries_along i (take n cs ++ drop n cs) (take n ws ++ drop n ws) ≡ entries_along i cs ws = rw (take-append-drop n cs, take-append-drop n ws) refl in
-    let long : length (take n ws) ≡ length (take n cs) = omega (arith, length-take n ws, length-take n cs) in
-    elim (cases_Bool (ltb j first)) [
-      | inl early ↦ rw early (absent i j (drop n cs) (drop n ws) (All-weaker (λ c. ltb c first ≡ false) (λ c. j ≢ c) (λ c out at. absurd (grind (arith, nat_tests))) (drop n cs) behind))
-      | inr late ↦
-          let other = All-weaker (λ c. ltb c first ≡ true) (λ c. j ≢ c) (λ c less at. absurd (grind (arith, nat_tests))) (take n cs) before in
-          rw late (sym (word_right i j (take n cs) (take n ws) (drop n cs) (drop n ws) long other) ∙ ap (λ es. word_at es i j) whole)
-    ]
-
--- what a row of a map has in the columns from one up to before another
-pub kept_row : (c : Content) (index size first past high low : ℕ) (cs ws : List ℕ) → IsRowOf c index size cs ws
-    → IsPartitionPoint (λ c. ltb c past ≡ true) (λ c. ltb c past ≡ false) cs high
-    → IsPartitionPoint (λ c. ltb c first ≡ true) (λ c. ltb c first ≡ false) (take high cs) low
-    → IsRowOf (in_columns first past c) index size (drop low (take high cs)) (drop low (take high ws))
-kept_row c index size first past high low cs ws row upper lower =
-    let xs = take high cs in
-    let ys = take high ws in
-    let same : length ys ≡ length xs = let lengths = row.lengths in omega (arith, length-take high ws, length-take high cs) in
-    let front : All (λ col. col < size) xs = all_append_left (λ col. col < size) xs (drop high cs) (rw (take-append-drop high cs) row.inside) in
-    record {
-      lengths = omega (arith, length-drop low xs, length-drop low ys);
-      rising = all_pairs_right (λ a b. a < b) (take low xs) (drop low xs) (rw (take-append-drop low xs) (all_pairs_left (λ a b. a < b) xs (drop high cs) (rw (take-append-drop high cs) row.rising)));
-      inside = all_append_right (λ col. col < size) (take low xs) (drop low xs) (rw (take-append-drop low xs) front);
-      words = λ j.
-          drop_word index j first low xs ys same lower
-          ∙ ap (λ (o : Option ℕ). cond (ltb j first) None o) (cut_word index j past high cs ws row.lengths upper ∙ ap (λ (o : Option ℕ). cond (ltb j past) o None) (row.words j));
-    }
-
-pub in_columns_empty : (first past : ℕ) (c : Content) (i : ℕ) → ((j : ℕ) → c i j ≡ None) → (j : ℕ)
-    → in_columns first past c i j ≡ None
-in_columns_empty first past c i none j = elim (cases_Bool (ltb j first)) [
-  | inl early ↦ rw early refl
-  | inr late ↦ elim (cases_Bool (ltb j past)) [
-    | inl inside ↦ rw (late, inside) (none j)
-    | inr behind ↦ rw (late, behind) refl
-  ]
-]
 
 -- the same columns and words in another row
 pub same_words : (i k j : ℕ) (cs ws : List ℕ)
