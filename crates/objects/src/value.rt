@@ -29,10 +29,14 @@ pub enum Value<T> {
     Failed,
 }
 
-/// Gives a value's ticket back.
+/// Gives a value's ticket back, once its own share of the store is gone: a runner may use the memory of a store whose
+/// last share it drops.
 pub(crate) fn release<R: Runner>(runner: &mut R, value: Value<R::Ticket>) {
     match value {
-        Value::Both(_store, ticket) => runner.let_go(ticket),
+        Value::Both(store, ticket) => {
+            drop(store);
+            runner.let_go(ticket);
+        }
         Value::Open(ticket) => runner.let_go(ticket),
         Value::New | Value::Here(_) | Value::Failed => {}
     }
