@@ -1,5 +1,6 @@
 -- What a task that writes all of its output along bitmaps leaves there.
 use Rattle.std.proofs.Common.{◌≡◌, ◌∙◌, ℕ, ◌<◌, ◌*◌, ◌&&◌, true, is_some, ltb, get_or, Bor, List, Option, Some, None, Result, Ok, Err, refl, sym, ap, inl, inr, arith}
+use Rattle.std.specs.Option.{option_map_or}
 use Rattle.std.specs.Prelude.{IfOk, IfSome}
 use Rattle.std.proofs.lemmas.Bool.{and_parts, cases_Bool}
 use Rattle.std.proofs.lemmas.Bool.Decides.{nat_tests}
@@ -15,7 +16,7 @@ use Rattle.bitmap.proofs.PlaceLaws.{place_inside}
 use Rattle.kernel.specs.declared.bitmaps.Writing.{Writing}
 use Rattle.kernel.specs.declared.bitmaps.Writing.TheVariants.{Anew, Over}
 use Rattle.kernel.specs.declared.task.Task.{Task}
-use Rattle.kernel.specs.Bitmaps.{HasAll, IsAnew, WritesAll, left_by}
+use Rattle.kernel.specs.Bitmaps.{HasAll, IsEverywhere, WritesAll, left_by}
 use Rattle.kernel.specs.Inputs.{object_of}
 use Rattle.kernel.specs.Spread.{computed_in, spread}
 use Rattle.kernel.specs.Tasks.{operation_of, out_of}
@@ -37,14 +38,47 @@ use Rattle.model.proofs.OldLaws.{region-renamed}
 use Rattle.store.proofs.Content.{nothing_outside}
 use Rattle.store.specs.Stored.{Stored, content_of}
 
-all-anew : (task : Task) → WritesAll task.out Anew → region_written (operation_lent task.operation) ≡ None
+listed_all : (m n i j : ℕ) → is_listed m n All All i j ≡ (ltb i m && ltb j n)
+listed_all m n i j =
+    elim (cases_Bool (ltb i m)) [
+      | inl row ↦ elim (cases_Bool (ltb j n)) [ inl col ↦ rw (row, col) refl | inr past ↦ rw (row, past) refl ]
+      | inr below ↦ rw below refl
+    ]
+
+-- inside a shape, an operation that writes everywhere writes
+written-inside : (region : Option Region) (m n i j : ℕ) → IsEverywhere region → (ltb i m && ltb j n) ≡ true
+    → option_map_or (λ r. is_listed m n (rows_in r) (cols_in r) i j) region true ≡ true
+written-inside None m n i j all inside = refl
+written-inside (Some region) m n i j all inside = rw (all.0, all.1, listed_all m n i j) inside
+
+all-anew : (task : Task) (had : Held) → WritesAll task.out Anew
+    → IsEverywhere (region_written (operation_lent task.operation)) → IsInside had.rows had.cols had.entries
+    → HasAll (rows_of task.out.c.signature.shape) (cols_of task.out.c.signature.shape)
+    (computed_in (out_of task) (operation_of task)) had
     → (i j : ℕ) → computed_in (out_of task) (operation_of task) i j ≡ result_of (out_of task) (operation_of task) i j
-all-anew task writes region i j =
+all-anew task had writes everywhere inside has i j =
     let out = out_of task in
     let op = operation_of task in
-    let none : region_written op ≡ None = region-renamed object_of (operation_lent task.operation) ∙ region in
+    let m = rows_of task.out.c.signature.shape in
+    let n = cols_of task.out.c.signature.shape in
+    let is_written = is_written_by out.c.shape op in
+    let region : region_written op ≡ region_written (operation_lent task.operation) = region-renamed object_of (operation_lent task.operation) in
     let mask : out.mask ≡ None = rw writes.mask refl in
-    sym (straight-means out op task.straight i j ∙ rw (mask, writes.complement, writes.writing_is, none) refl)
+    let means = straight-means out op task.straight i j in
+    elim (cases_Bool (ltb i m && ltb j n)) [
+      | inl here ↦
+          let written : is_written i j ≡ true =
+          ap (λ (o : Option Region). option_map_or (λ r. is_listed m n (rows_in r) (cols_in r) i j) o true) region
+          ∙ written-inside (region_written (operation_lent task.operation)) m n i j everywhere here in
+          sym (means ∙ rw (mask, writes.complement, writes.writing_is, written) refl)
+      | inr outside ↦
+          let new : computed_in out op i j ≡ None = sym (has.words i j) ∙ nothing_outside had.rows had.cols had.entries i j inside (rw (has.rows_are, has.cols_are) outside) in
+          let old : out.c.content i j ≡ None = task.out.c.is_object.within i j outside in
+          new ∙ sym (means ∙ elim (cases_Bool (is_written i j)) [
+            | inl put ↦ rw (mask, writes.complement, writes.writing_is, put) new
+            | inr left ↦ rw (mask, writes.complement, writes.writing_is, left) old
+          ])
+    ]
 
 -- a function of one word alone that changes none accumulates
 either-accumulated : (f : ℕ → ℕ) (op : OpName) (old new : Option ℕ) → ((word : ℕ) → old ≡ Some word → f word ≡ word)
@@ -96,19 +130,19 @@ module _ (task : Task) (old : Bor Held) (op : BinaryOp) (writes : WritesAll task
 
 -- what is left of a bitmap that has all that is computed
 pub all-written : (task : Task) (writing : Writing) (had made : Held) → WritesAll task.out writing
-    → (IsAnew writing → region_written (operation_lent task.operation) ≡ None)
+    → IsEverywhere (region_written (operation_lent task.operation)) → IsInside had.rows had.cols had.entries
     → HasAll (rows_of task.out.c.signature.shape) (cols_of task.out.c.signature.shape)
     (computed_in (out_of task) (operation_of task)) had
     → made.rows ≡ had.rows → made.cols ≡ had.cols
     → ((i j : ℕ) → word_at made.entries i j ≡ left_by writing i j (word_at had.entries i j))
     → HasAll (rows_of task.out.c.signature.shape) (cols_of task.out.c.signature.shape)
     (result_of (out_of task) (operation_of task)) made
-all-written task Anew had made writes region has rows cols left = record {
+all-written task Anew had made writes everywhere inside has rows cols left = record {
   rows_are = rows ∙ has.rows_are;
   cols_are = cols ∙ has.cols_are;
-  words = λ i j. left i j ∙ (has.words i j ∙ all-anew task writes (region tt) i j);
+  words = λ i j. left i j ∙ (has.words i j ∙ all-anew task had writes everywhere inside has i j);
 }
-all-written task (Over old op) had made writes region has rows cols left = record {
+all-written task (Over old op) had made writes everywhere inside has rows cols left = record {
   rows_are = rows ∙ has.rows_are;
   cols_are = cols ∙ has.cols_are;
   words = λ i j. left i j ∙ all-over task old op writes i j (word_at had.entries i j) (has.words i j);
@@ -128,13 +162,6 @@ if_same (Ok (Some b)) rows cols rows' cols' c d same_rows same_cols same has = r
 }
 if_same (Ok None) rows cols rows' cols' c d same_rows same_cols same has = has
 if_same (Err e) rows cols rows' cols' c d same_rows same_cols same has = has
-
-listed_all : (m n i j : ℕ) → is_listed m n All All i j ≡ (ltb i m && ltb j n)
-listed_all m n i j =
-    elim (cases_Bool (ltb i m)) [
-      | inl row ↦ elim (cases_Bool (ltb j n)) [ inl col ↦ rw (row, col) refl | inr past ↦ rw (row, past) refl ]
-      | inr below ↦ rw below refl
-    ]
 
 -- a word at each place is one at each position
 pub filled-all : (rows cols word : ℕ) (region : Region) (words : List ℕ) (made : Held)

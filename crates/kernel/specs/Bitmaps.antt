@@ -8,9 +8,12 @@ use Rattle.kernel.specs.declared.bitmaps.Writing.{Writing}
 use Rattle.kernel.specs.declared.bitmaps.Writing.TheVariants.{Anew, Over}
 use Rattle.kernel.specs.declared.input.Input.{Input}
 use Rattle.model.specs.declared.call.Out.{Out}
+use Rattle.model.specs.declared.call.Region.{Region}
 use Rattle.model.specs.ElementWise.{of_either}
 use Rattle.model.specs.Entries.{word_at}
+use Rattle.model.specs.Indices.{All}
 use Rattle.model.specs.Object.{Content}
+use Rattle.model.specs.Regions.{cols_in, rows_in}
 use Rattle.store.specs.Forms.{of_bitmap}
 
 -- a bitmap has so many rows and columns, and all of a map
@@ -19,10 +22,10 @@ pub record HasAll (rows cols : ℕ) (c : Content) (bitmap : Held) : Type 0 where
   pub cols_are : bitmap.cols ≡ cols
   pub words : (i j : ℕ) → word_at bitmap.entries i j ≡ c i j
 
--- nothing of what was there counts
-abbrev pub IsAnew : Writing → Type 0
-IsAnew Anew = Unit {0}
-IsAnew (Over old op) = ⊥
+-- all positions are written: where no region says which are, or it has all of them
+abbrev pub IsEverywhere : Option Region → Type 0
+IsEverywhere None = Unit {0}
+IsEverywhere (Some region) = (rows_in region ≡ All) × (cols_in region ≡ All)
 
 -- what was there doesn't count, or is a bitmap, with which an operator accumulates
 abbrev pub IsWriting : Out Input → Writing → Type 0

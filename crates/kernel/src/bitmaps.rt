@@ -6,7 +6,7 @@ ghost use Rattle.algebra.specs.OperatorNames.{semiring_named};
 ghost use Rattle.algebra.specs.Operators.{offers};
 ghost use Rattle.algebra.specs.Value.{IsWordOf, are_compatible};
 ghost use Rattle.kernel.specs.Accepts.{Accepts};
-ghost use Rattle.kernel.specs.Bitmaps.{FitsOver, HasAll, IsAnew, WritesAll, left_by};
+ghost use Rattle.kernel.specs.Bitmaps.{FitsOver, HasAll, IsEverywhere, WritesAll, left_by};
 ghost use Rattle.kernel.specs.Factors.{AreFactors, cols_of_product, inner_of, rows_of_product};
 ghost use Rattle.kernel.specs.Inputs.{known_of, object_of};
 ghost use Rattle.kernel.specs.Spread.{computed_in};
@@ -62,9 +62,12 @@ pub(crate) fn task_bitmap<P: VectorProducts>(
     let Some(writing) = writing_of(task) else {
         return Ok(None);
     };
-    let Some(computed) = computed_bitmap(products, alloc, task, writing)? else {
+    let Some(computed) = computed_bitmap(products, alloc, task)? else {
         return Ok(None);
     };
+
+    // A bitmap has no entry outside its shape.
+    prove_eq!(computed.rows(), task.out.c.signature.shape.rows());
     let written = write(products, alloc, writing, computed)?;
     Ok(Some(written))
 }
@@ -74,40 +77,19 @@ fn computed_bitmap<P: VectorProducts>(
     products: &P,
     alloc: Global,
     task: &Task<'_>,
-    writing: Writing<'_>,
 ) -> Result<Option<Bitmap>, NoMemory>
     ensures all { IfOk result (λ found. IfSome found
         (HasAll (rows_of task.now.out.c.signature.shape) (cols_of task.now.out.c.signature.shape)
         (computed_in (out_of task.now) (operation_of task.now)))) }
-    ensures region { IfOk result (λ found. IfSome found (λ _. IsAnew writing.entry
-        → region_written (operation_lent task.now.operation) ≡ None)) }
+    ensures region { IfOk result (λ found. IfSome found
+        (λ _. IsEverywhere (region_written (operation_lent task.now.operation)))) }
 {
     let c = task.out.c.signature;
-    let Some(bitmap) = answers_bitmap(products, alloc, task, writing)? else {
+    let Some(bitmap) = operation_bitmap(products, alloc, c, task.operation)? else {
         return Ok(None);
     };
     let from = answer_of(c, task.operation);
     Ok(Some(bitmap_in_domain(bitmap, from, c.domain)))
-}
-
-/// What a task computes, in the domain of its answers.
-fn answers_bitmap<P: VectorProducts>(
-    products: &P,
-    alloc: Global,
-    task: &Task<'_>,
-    writing: Writing<'_>,
-) -> Result<Option<Bitmap>, NoMemory>
-    ensures all { IfOk result (λ found. IfSome found
-        (HasAll (rows_of task.now.out.c.signature.shape) (cols_of task.now.out.c.signature.shape)
-        (computed task.now.out.c.signature (operation_of task.now)))) }
-    ensures region { IfOk result (λ found. IfSome found (λ _. IsAnew writing.entry
-        → region_written (operation_lent task.now.operation) ≡ None)) }
-{
-    let c = task.out.c.signature;
-    match writing {
-        Writing::Anew => operation_bitmap(products, alloc, c, task.operation),
-        Writing::Over { .. } => accumulated_bitmap(products, alloc, c, task.operation),
-    }
 }
 
 /// How a task writes all of its output; None where a mask keeps some of that, or what it accumulates with is no bitmap.
@@ -170,27 +152,7 @@ fn bitmap_in_domain(mut bitmap: Bitmap, from: Domain, to: Domain) -> Bitmap
     bitmap
 }
 
-/// What an operation computes that is accumulated, in the domain of its answers, where it goes along bitmaps.
-fn accumulated_bitmap<P: VectorProducts>(
-    products: &P,
-    alloc: Global,
-    c: Signature,
-    operation: Lent<'_, Input<'_>>,
-) -> Result<Option<Bitmap>, NoMemory>
-    requires accepts { Accepts (plan_of c (renamed_operation known_of (operation_lent operation))) c }
-    requires offered { is_offered (operation_lent operation) ≡ true }
-    ensures { IfOk result (λ found. IfSome found (HasAll (rows_of c.shape) (cols_of c.shape)
-        (computed c (renamed_operation object_of (operation_lent operation.entry))))) }
-{
-    match operation {
-        Lent::Fill { value, region } => {
-            filled_bitmap(alloc, c.shape, region, c.domain.wrapped(value))
-        }
-        operation => operation_bitmap(products, alloc, c, operation),
-    }
-}
-
-/// What an operation computes, in the domain of its answers, where it goes along bitmaps. It has no region.
+/// What an operation computes, in the domain of its answers, where it goes along bitmaps. It writes all positions.
 fn operation_bitmap<P: VectorProducts>(
     products: &P,
     alloc: Global,
@@ -202,10 +164,12 @@ fn operation_bitmap<P: VectorProducts>(
     ensures all { IfOk result (λ found. IfSome found (HasAll (rows_of c.shape) (cols_of c.shape)
         (computed c (renamed_operation object_of (operation_lent operation.entry))))) }
     ensures region { IfOk result (λ found. IfSome found
-        (λ _. region_written (operation_lent operation.entry) ≡ None)) }
+        (λ _. IsEverywhere (region_written (operation_lent operation.entry)))) }
 {
     match operation {
-        Lent::Fill { .. } => Ok(None),
+        Lent::Fill { value, region } => {
+            filled_bitmap(alloc, c.shape, region, c.domain.wrapped(value))
+        }
         Lent::OfOne { computes, a } => one_bitmap(products, alloc, c, computes, a),
         Lent::OfTwo { computes, a, b } => two_bitmap(products, alloc, c, computes, a, b),
     }
@@ -223,7 +187,7 @@ fn one_bitmap<M: WordMaker>(
     requires offered { offers_one computes.now ≡ true }
     ensures all { IfOk result (λ found. IfSome found (HasAll (rows_of c.shape) (cols_of c.shape)
         (computed_of_one c.shape computes.now (object_of a.entry)))) }
-    ensures region { IfOk result (λ found. IfSome found (λ _. region_put computes.now ≡ None)) }
+    ensures region { IfOk result (λ found. IfSome found (λ _. IsEverywhere (region_put computes.now))) }
 {
     match computes {
         OneInput::Apply(function) => applied_bitmap(maker, alloc, a, *function),
@@ -432,19 +396,24 @@ pub(crate) fn makes_column(
 /// The greatest number of positions of a bitmap.
 const MOST_PLACES: u64 = 1 << 24;
 
-/// A word at all positions of a shape, where a region has these and they aren't too many.
+/// Shorter rows, or a shorter column, are better kept as lists.
+const LEAST_LENGTH: u64 = 64;
+
+/// A word at all positions of a shape, where a region has these, and a bitmap suits so many.
 fn filled_bitmap(
     alloc: Global,
     shape: Shape,
     region: &Region,
     word: u64,
 ) -> Result<Option<Bitmap>, NoMemory>
-    ensures { IfOk result (λ found. IfSome found (HasAll (rows_of shape) (cols_of shape)
+    ensures all { IfOk result (λ found. IfSome found (HasAll (rows_of shape) (cols_of shape)
         (filled (rows_of shape) (cols_of shape) (rows_in region.now) (cols_in region.now) word))) }
+    ensures region { IfOk result (λ found. IfSome found (λ _. IsEverywhere (Some region.now))) }
 {
     let (rows, cols) = (shape.rows(), shape.cols());
     let places = rows.saturating_mul(cols);
-    if !has_all(region) || places > MOST_PLACES {
+    let length = if cols == 1 { rows } else { cols };
+    if !has_all(region) || length < LEAST_LENGTH || places > MOST_PLACES {
         return Ok(None);
     }
     let words = vec![in alloc; word; places as usize]?;

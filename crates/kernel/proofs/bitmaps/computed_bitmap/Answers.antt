@@ -3,13 +3,19 @@ use Rattle.std.proofs.Common.{◌≡◌, ◌∙◌, ap, sym}
 use Rattle.std.specs.Option.{option_map}
 use Rattle.algebra.specs.Value.{cast_of}
 use Rattle.kernel.specs.Tasks.{operation_of}
-use Rattle.kernel.proofs.Accepted.{task-known, task-words}
+use Rattle.kernel.proofs.Accepted.{task-accepts, task-known, task-offered, task-words}
 use Rattle.model.specs.declared.call.Operation.{Operation}
 use Rattle.model.specs.declared.shape.Signature.{Signature}
 use Rattle.model.specs.Object.{signature_of}
 use Rattle.model.specs.Renamed.{renamed_operation}
 use Rattle.model.specs.Table.{plan_of}
 use Rattle.kernel.proofs.bitmaps.computed_bitmap.Goals as goal
+
+pub operation_bitmap-requires-clause-accepts : goal.operation_bitmap-requires-clause-accepts
+operation_bitmap-requires-clause-accepts g c = task-accepts c.args.task.now
+
+pub operation_bitmap-requires-clause-offered : goal.operation_bitmap-requires-clause-offered
+operation_bitmap-requires-clause-offered g c = task-offered c.args.task.now
 
 pub returns-clause-all : goal.returns-clause-all
 returns-clause-all g c =

@@ -4,8 +4,8 @@ use Rattle.std.proofs.lemmas.List.{get_or-replicate}
 use Rattle.kernel.proofs.BitmapLaws.{filled-all}
 use Rattle.kernel.proofs.bitmaps.filled_bitmap.Goals as goal
 
-pub returns : goal.returns
-returns c =
+pub returns-clause-all : goal.returns-clause-all
+returns-clause-all c =
     let n = c.saturating_mul-places.result in
     let word = c.args.word in
     let words = c.in_ok-words.words.items in
