@@ -8,7 +8,7 @@ ghost use Rattle.board.specs.Progress.{is_running};
 use crate::picker::Picker;
 use board::{Board, Look, Piece};
 use calls::Roles;
-use kernel::cuts;
+use kernel::{cuts, is_cut};
 use std::alloc::Global;
 use store::Store;
 
@@ -62,12 +62,11 @@ fn cuts_for<N: Drop>(
         return Vec::new(alloc);
     };
     let stores = stores_of(board, offer.number);
-    let cuts = cuts(alloc, recipe, &stores, least, threads);
     let tasks = idle.saturating_add(1).max(2);
-    if !cuts.is_empty() && are_there(board, tasks, entries_in(&stores) / PARTS) {
+    if !is_cut(recipe, &stores, threads) || are_there(board, tasks, entries_in(&stores) / PARTS) {
         return Vec::new(alloc);
     }
-    cuts
+    cuts(alloc, recipe, &stores, least, threads)
 }
 
 /// Whether so many tasks can be done whose stores have at least so many entries.

@@ -3,18 +3,28 @@ ghost use Rattle.std.specs.Prelude.{◌≡◌, ◌<◌, ◌≤◌, IfOk, IfSome,
 ghost use Rattle.std.specs.List.{AllPairs};
 
 use crate::job::{Along, Job, MOST_PIECES};
+use crate::sampling::cut_products;
 use calls::{Recipe, Roles};
 use model::NoMemory;
 use std::alloc::Global;
 use store::{Sparse, Store};
 
 /// How many entries say where columns are cut, and up to twice as many: with more, pieces would hardly be more even.
-const SAMPLE: usize = 1_024;
+const SAMPLE: usize = 512;
+
+/// Whether a recipe is worth more than one thread, of the stores that take its roles, and can be cut by rows. It takes
+/// constant time.
+pub fn is_cut(recipe: &Recipe, stores: &Roles<&Store>, threads: u64) -> bool {
+    match Job::of(recipe, stores) {
+        Some(job) => job.count_pieces(threads) > 1,
+        None => false,
+    }
+}
 
 /// The rows at which a recipe's rows are cut for threads that work apart, of the stores that take its roles: no row for
-/// a task that is worth one thread alone or that can't be cut by rows. Each piece has `least` rows or more, and about
-/// the same work. Where memory for the rows is refused, the task isn't cut. Its time follows the number of pieces and
-/// the logarithm of that of entries.
+/// a task that isn't cut (`is_cut`). Each piece has `least` rows or more, and about the same work; or less and less,
+/// where rows may take very different times. Where memory for the rows is refused, the task isn't cut. Its time follows
+/// the number of pieces and the logarithm of that of entries, of which it looks at some thousands at the most.
 pub fn cuts(
     alloc: Global,
     recipe: &Recipe,
@@ -37,6 +47,7 @@ pub fn cuts(
             let front = (by.nvals() / threads.max(1)).max(entries);
             cut_rows(alloc, by, least, front as usize, entries as usize)
         }
+        Along::Products(a, b) => cut_products(alloc, a, b, least, threads),
         Along::Columns(by) => cut_columns(alloc, by, least, pieces),
         Along::Evenly(rows) => cut_evenly(alloc, rows, least, pieces),
     };
@@ -72,7 +83,7 @@ fn cut_rows(
 }
 
 /// The row behind the piece from a row on, where another piece follows it.
-fn next_cut(by: &Sparse, row: u64, least: u64, entries: usize) -> Option<u64>
+pub(crate) fn next_cut(by: &Sparse, row: u64, least: u64, entries: usize) -> Option<u64>
     ensures { IfSome result (λ next. row < next) }
 {
     let rows = by.rows();

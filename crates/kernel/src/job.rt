@@ -6,11 +6,11 @@ use store::{Form, Sparse, Store};
 
 /// How much work each piece has at least, in entries: less takes about as long as to wake a thread for it, and to join
 /// it.
-const LEAST_WORK: u64 = 131_072;
+pub(crate) const LEAST_WORK: u64 = 131_072;
 
-/// How many pieces each thread gets of a product of matrices of lists: its rows may take very different times, and no
-/// thread is to work on a long piece while the others have nothing left.
-const PRODUCT_PIECES: u64 = 4;
+/// How many pieces each thread gets, at the most, of a product of matrices of lists: its rows may take very different
+/// times, and no thread is to work on a long piece while the others have nothing left.
+pub(crate) const PRODUCT_PIECES: u64 = 8;
 
 /// How many pieces each thread gets of other operations, of which each entry, or each row, takes about the same time.
 const EVEN_PIECES: u64 = 2;
@@ -41,6 +41,8 @@ pub(crate) struct Job<'a> {
 pub(crate) enum Along<'a> {
     /// The entries in an input's rows, which are the output's.
     Rows(&'a Sparse),
+    /// The products of these entries with the rows of another store.
+    Products(&'a Sparse, &'a Store),
     /// The entries in an input's columns, which are the output's rows.
     Columns(&'a Sparse),
     /// The output's rows, of which there are so many.
@@ -178,10 +180,10 @@ fn job_of_two<'a>(
 
 /// How a product of two matrices is cut: for each entry of the first there are about as many products as entries in a
 /// row of the second. The rows of a bitmap have about as many entries each.
-fn job_of_product<'a>(a: &'a Store, b: &Store) -> Job<'a> {
+fn job_of_product<'a>(a: &'a Store, b: &'a Store) -> Job<'a> {
     let products = (b.nvals() / b.rows().max(1)).max(1);
     let (along, pieces_a_thread) = match a.form() {
-        Form::Sparse(lists) => (Along::Rows(lists), PRODUCT_PIECES),
+        Form::Sparse(lists) => (Along::Products(lists, b), PRODUCT_PIECES),
         Form::Bitmap(bitmap) => (Along::Evenly(bitmap.rows()), LONG_PIECES),
     };
     Job {

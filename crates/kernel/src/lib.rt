@@ -16,11 +16,12 @@ mod output;
 mod over;
 mod piece;
 mod product;
+mod sampling;
 mod task;
 
 pub use bitmap::{OneThread, SeveralThreads};
 pub use block::Block;
-pub use cutting::cuts;
+pub use cutting::{cuts, is_cut};
 pub use evaluation::evaluate;
 pub use joining::join;
 pub use over::computed_over;
