@@ -157,7 +157,7 @@ fn pass_over(stored: &[u64], next: usize, inner: &[u64], at: usize, looks_up: bo
 /// The first place from another on at which an inner index isn't below a given one; by a binary search, which is short
 /// where that index isn't far behind the one at the place.
 #[inline(always)]
-pub(crate) fn place_from(inner: &[u64], from: usize, index: u64) -> usize
+pub fn place_from(inner: &[u64], from: usize, index: u64) -> usize
     requires rising { AllPairs (λ a b. a < b) inner.now }
     requires bound { from ≤ length inner.now }
     ensures bound { result ≤ length inner.now }

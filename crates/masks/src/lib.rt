@@ -22,7 +22,7 @@ pub use append::append_rows;
 pub use blocks::keep_block;
 pub use in_place::write_into;
 pub use join::{Joining, join_rows};
-pub use keep::keep_fiber;
+pub use keep::{keep_fiber, place_from};
 pub use marked::MarkedMask;
 pub use view::{Mask, MaskTest, ReadMask, SparseMask, StoredMask};
 pub use write::write_back;
