@@ -25,6 +25,10 @@ pub fn list_beside<'a, R: Threads>(
     requires { 0 < each }
     ensures { IfOk result (λ listed. Lists domain heading text.entry.now listed.entries listed.lines) }
 {
+    // Each part ends with a line, so that what is left in front may be a little longer: no thread is started for that.
+    if text.len() / 2 < each {
+        return list_lines(alloc, domain, heading, whole, text);
+    }
     let (front, back) = cut(text, text.len().saturating_sub(each));
     if front.is_empty() || back.is_empty() {
         return list_lines(alloc, domain, heading, whole, text);
