@@ -105,7 +105,7 @@ fn writing_of<'a>(task: &Task<'a>) -> Option<Writing<'a>>
     };
     match out.c.store.form() {
         Form::Bitmap(old) => Some(Writing::Over { old, op }),
-        Form::Sparse(_) => None,
+        Form::Sparse(_) | Form::Blocks(_) => None,
     }
 }
 

@@ -184,7 +184,7 @@ fn job_of_product<'a>(a: &'a Store, b: &'a Store) -> Job<'a> {
     let products = (b.nvals() / b.rows().max(1)).max(1);
     let (along, pieces_a_thread) = match a.form() {
         Form::Sparse(lists) => (Along::Products(lists, b), PRODUCT_PIECES),
-        Form::Bitmap(bitmap) => (Along::Evenly(bitmap.rows()), LONG_PIECES),
+        Form::Bitmap(_) | Form::Blocks(_) => (Along::Evenly(a.rows()), LONG_PIECES),
     };
     Job {
         along,
@@ -205,16 +205,16 @@ fn job_along(by: &Store, work: u64) -> Option<Job<'_>> {
     })
 }
 
-/// The lists of a store that is no bitmap: of one each piece would make the lists anew, and an operation that goes
-/// along bitmaps is done in one piece.
+/// The lists of a store that has them in one: of another form each piece would make them anew, and an operation that
+/// goes along bitmaps is done in one piece.
 fn lists_of(store: &Store) -> Option<&Sparse> {
     match store.form() {
         Form::Sparse(lists) => Some(lists),
-        Form::Bitmap(_) => None,
+        Form::Bitmap(_) | Form::Blocks(_) => None,
     }
 }
 
-/// How many entries each piece turns into lists, before it begins: those of the bitmaps among the stores.
+/// How many entries each piece turns into lists, before it begins: those of the bitmaps and blocks among the stores.
 fn turned_entries(stores: &Roles<&Store>) -> u64 {
     bitmap_entries(stores.old)
         .saturating_add(bitmap_entries(stores.mask))

@@ -72,7 +72,7 @@ impl Sample {
 fn entries_in_row(store: &Store, row: u64) -> u64 {
     match store.form() {
         Form::Sparse(lists) => lists.row(row).0.len() as u64,
-        Form::Bitmap(bitmap) => bitmap.nvals() / bitmap.rows().max(1),
+        Form::Bitmap(_) | Form::Blocks(_) => store.nvals() / store.rows().max(1),
     }
 }
 

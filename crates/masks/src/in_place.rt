@@ -129,6 +129,7 @@ fn is_put_into(block: &RowBlock, store: &Store) -> bool
     match store.form() {
         Form::Bitmap(bitmap) => bitmap.cols() == 1 && count < bitmap.rows(),
         Form::Sparse(lists) => lists.cols() == 1 && count <= lists.nvals() / MUCH_MORE,
+        Form::Blocks(_) => false,
     }
 }
 

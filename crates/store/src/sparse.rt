@@ -1,5 +1,5 @@
 //! Entries as fibers that lie flat.
-ghost use Rattle.std.specs.Prelude.{◌≡◌, ℕ, ◌<◌, ◌≤◌, None, length, OnOk, OnErr, IfOk};
+ghost use Rattle.std.specs.Prelude.{◌≡◌, ◌≢◌, ◌++◌, ℕ, ◌<◌, ◌≤◌, None, length, OnOk, OnErr, IfOk};
 ghost use Rattle.std.specs.Option.{option_or};
 ghost use Rattle.model.specs.Entries.{InOrder, IsInside, entries_between, entries_of, row_entries, word_at};
 ghost use Rattle.model.specs.Object.{with_entry, without_entry, IsWithin};
@@ -14,6 +14,7 @@ use model::NoMemory;
 use std::alloc::Global;
 use std::marker::Model;
 use std::ops::Range;
+use std::thread::Threads;
 
 /// What a matrix holds, as lists of its entries: a number of rows and of columns, and entries, at most one at a
 /// position. They lie row by row, and where there is one column as one fiber; no caller sees which.
@@ -36,8 +37,10 @@ impl Model for Sparse {
 }
 
 impl Sparse {
-    ghost use Rattle.store.specs.Fibers.{entries_along};
-    ghost use Rattle.store.specs.Stored.{along, block_content, content_of};
+    ghost use Rattle.std.specs.List.{All};
+    ghost use Rattle.model.specs.Entries.{Precedes};
+    ghost use Rattle.store.specs.Fibers.{AreFlat, entries_along, entries_in};
+    ghost use Rattle.store.specs.Stored.{IsBlock, IsStored, along, block_content, content_of};
 
     /// A store of `rows` rows and `cols` columns with no entry. It takes no memory.
     pub fn new(alloc: Global, rows: u64, cols: u64) -> Sparse
@@ -57,11 +60,41 @@ impl Sparse {
         requires { block.past ≤ rows }
         ensures rows { result.rows ≡ rows }
         ensures cols { result.cols ≡ block.cols }
+        ensures entries { result.entries ≡ block.entries }
         ensures content { (i j : ℕ) → content_of result i j ≡ block_content block i j }
         ensures within { IsWithin result.rows result.cols (content_of result) }
+        ensures block { IsBlock block.first block.past block.cols block.entries }
     {
         let RowBlock { cols, lists, .. } = block;
         Sparse { rows, cols, lists }
+    }
+
+    /// Puts the entries behind those of others, in their lists, unless it is a column.
+    pub(crate) fn append_to(&self, lists: &mut FiberLists) -> Result<(), NoMemory>
+        requires many { self.now.cols ≢ 1 }
+        requires flat { AreFlat lists.old.ends.items lists.old.inner.items lists.old.words.items }
+        requires order { All (λ e. All (Precedes e) self.now.entries) (entries_in lists.old) }
+        ensures flat { OnOk result (AreFlat lists.new.ends.items lists.new.inner.items lists.new.words.items) }
+        ensures entries { OnOk result (entries_in lists.new ≡ entries_in lists.old ++ self.now.entries) }
+    {
+        let FiberLists { ends, inner, words } = &self.lists;
+        lists.append(ends, inner, words)
+    }
+
+    /// The same, where another thread copies one of the lists if they are long.
+    pub(crate) fn append_beside<R: Threads>(
+        &self,
+        rt: &R,
+        lists: &mut FiberLists,
+    ) -> Result<(), NoMemory>
+        requires many { self.now.cols ≢ 1 }
+        requires flat { AreFlat lists.old.ends.items lists.old.inner.items lists.old.words.items }
+        requires order { All (λ e. All (Precedes e) self.now.entries) (entries_in lists.old) }
+        ensures flat { OnOk result (AreFlat lists.new.ends.items lists.new.inner.items lists.new.words.items) }
+        ensures entries { OnOk result (entries_in lists.new ≡ entries_in lists.old ++ self.now.entries) }
+    {
+        let FiberLists { ends, inner, words } = &self.lists;
+        lists.append_beside(rt, ends, inner, words)
     }
 
     /// All rows as a block, which takes the lists over without a copy.
@@ -269,6 +302,9 @@ impl Sparse {
 
         // Only a new entry may be refused.
         ensures absent { OnErr result (content_of self.old i j ≡ None) }
+
+        // What is true of every store.
+        ensures stored { IsStored self.new.rows self.new.cols self.new.entries }
     {
         if self.cols == 1 {
             put(&mut self.lists, j, i, word)
@@ -303,6 +339,9 @@ impl Sparse {
         ensures content { (p q : ℕ) → content_of self.new p q ≡ without_entry (content_of self.old) i j p q }
         ensures rows { self.new.rows ≡ self.old.rows }
         ensures cols { self.new.cols ≡ self.old.cols }
+
+        // What is true of every store.
+        ensures stored { IsStored self.new.rows self.new.cols self.new.entries }
     {
         if self.cols == 1 {
             take_out(&mut self.lists, j, i)

@@ -1,4 +1,4 @@
-//! Stores: what an object holds, in one of two forms.
+//! Stores: what an object holds, in one of three forms.
 ghost use Rattle.std.specs.Prelude.{◌≡◌, ℕ, ◌<◌, ◌≤◌, ◌*◌, ◌^◌, IsTrue, None, length, OnOk, OnErr, IfOk};
 ghost use Rattle.std.specs.Option.{option_or};
 ghost use Rattle.model.specs.Entries.{entries_of};
@@ -6,7 +6,7 @@ ghost use Rattle.model.specs.Object.{with_entry, without_entry, IsWithin};
 ghost use Rattle.store.specs.Forms.{of_bitmap};
 
 use crate::forms::{into_bitmap, put_into, sparse_of};
-use crate::{FiberLists, RowBlock, Sparse};
+use crate::{Blocks, FiberLists, RowBlock, Sparse};
 use bitmap::Bitmap;
 use model::NoMemory;
 use std::alloc::Global;
@@ -14,8 +14,9 @@ use std::marker::Model;
 use std::mem;
 
 /// What a matrix holds (`GrB_Matrix` of GraphBLAS C API 2.0): its number of rows and of columns, and its entries, at
-/// most one at a position. They are kept in lists or, where many positions have an entry, as a bitmap. What a store
-/// holds is the same in either form.
+/// most one at a position. They are kept in lists or, where many positions have an entry, as a bitmap; a matrix that
+/// was made in pieces may have lists a piece, until somebody needs them in one. What a store holds is the same in any
+/// form.
 #[derive(Drop)]
 pub struct Store {
     kept: Kept,
@@ -26,6 +27,7 @@ pub struct Store {
 enum Kept {
     Sparse(Sparse),
     Bitmap(Bitmap),
+    Blocks(Blocks),
 }
 
 /// A store as it is kept, for whoever has a way of its own for a form.
@@ -35,14 +37,16 @@ pub enum Form<'a> {
     Sparse(&'a Sparse),
     /// As a bitmap.
     Bitmap(&'a Bitmap),
+    /// As lists of several blocks of rows.
+    Blocks(&'a Blocks),
 }
 
-/// A store's entries as lists: those that it has, or such as were made of a bitmap.
+/// A store's entries as lists: those that it has, or such as were made of another form.
 #[derive(Drop)]
 pub enum AsSparse<'a> {
     /// Those that the store has.
     Lent(&'a Sparse),
-    /// Those that were made of its bitmap.
+    /// Those that were made of its bitmap or blocks.
     Made(Sparse),
 }
 
@@ -108,6 +112,23 @@ impl Store {
         }
     }
 
+    /// The store that blocks are.
+    pub fn from_blocks(blocks: Blocks) -> Store
+        ensures { result ≡ blocks }
+    {
+        Store {
+            kept: Kept::Blocks(blocks),
+        }
+    }
+
+    /// Whether lists of so many rows and columns are kept as a bitmap, where many of their positions have an entry.
+    pub fn may_be_bitmap(rows: u64, cols: u64) -> bool
+        ensures { IsTrue result → rows * cols ≤ 2 ^ 24 }
+    {
+        let longest = if cols == 1 { rows } else { cols };
+        longest >= LEAST && rows.saturating_mul(cols) <= MOST
+    }
+
     /// The store of `rows` rows with the entries of a block, whose lists it takes over without a copy.
     pub fn from_block(rows: u64, block: RowBlock) -> Store
         requires { block.past ≤ rows }
@@ -119,19 +140,20 @@ impl Store {
         Store::from_sparse(Sparse::from_block(rows, block))
     }
 
-    /// A store with the same shape and entries, in memory of its own.
+    /// A store with the same shape and entries, in memory of its own. Blocks become lists.
     pub fn try_clone(&self) -> Result<Store, NoMemory>
         ensures { IfOk result (λ store. store ≡ self.now) }
     {
         let kept = match &self.kept {
             Kept::Sparse(sparse) => Kept::Sparse(sparse.try_clone()?),
             Kept::Bitmap(bitmap) => Kept::Bitmap(bitmap.try_clone()?),
+            Kept::Blocks(blocks) => Kept::Sparse(blocks.joined()?),
         };
         Ok(Store { kept })
     }
 
     /// The list of its words and, where its entries are lists, that of their inner indices, for whoever has a use for
-    /// the memory.
+    /// the memory; those of the first of several blocks.
     pub fn into_memory(self) -> (Vec<u64>, Option<Vec<u64>>) {
         match self.kept {
             Kept::Sparse(sparse) => {
@@ -139,6 +161,7 @@ impl Store {
                 (words, Some(inner))
             }
             Kept::Bitmap(bitmap) => (bitmap.into_words(), None),
+            Kept::Blocks(blocks) => blocks.into_memory(),
         }
     }
 
@@ -150,17 +173,19 @@ impl Store {
         match &self.kept {
             Kept::Sparse(sparse) => Form::Sparse(sparse),
             Kept::Bitmap(bitmap) => Form::Bitmap(bitmap),
+            Kept::Blocks(blocks) => Form::Blocks(blocks),
         }
     }
 
-    /// Its entries as lists, for whoever goes along these. Lists that are made of a bitmap take time and memory for
-    /// all entries.
+    /// Its entries as lists, for whoever goes along these. Lists that are made of a bitmap or of blocks take time and
+    /// memory for all entries.
     pub fn as_sparse(&self, alloc: Global) -> Result<AsSparse<'_>, NoMemory>
         ensures { IfOk result (λ lists. sparse_of lists ≡ self.now) }
     {
         match &self.kept {
             Kept::Sparse(sparse) => Ok(AsSparse::Lent(sparse)),
             Kept::Bitmap(bitmap) => Ok(AsSparse::Made(sparse_of(alloc, bitmap)?)),
+            Kept::Blocks(blocks) => Ok(AsSparse::Made(blocks.joined()?)),
         }
     }
 
@@ -174,6 +199,7 @@ impl Store {
         match &self.kept {
             Kept::Sparse(sparse) => sparse.rows(),
             Kept::Bitmap(bitmap) => bitmap.rows(),
+            Kept::Blocks(blocks) => blocks.rows(),
         }
     }
 
@@ -184,6 +210,7 @@ impl Store {
         match &self.kept {
             Kept::Sparse(sparse) => sparse.cols(),
             Kept::Bitmap(bitmap) => bitmap.cols(),
+            Kept::Blocks(blocks) => blocks.cols(),
         }
     }
 
@@ -194,6 +221,7 @@ impl Store {
         match &self.kept {
             Kept::Sparse(sparse) => sparse.nvals(),
             Kept::Bitmap(bitmap) => bitmap.nvals(),
+            Kept::Blocks(blocks) => blocks.nvals(),
         }
     }
 
@@ -206,11 +234,12 @@ impl Store {
         match &self.kept {
             Kept::Sparse(sparse) => sparse.get(i, j),
             Kept::Bitmap(bitmap) => bitmap.get(i, j),
+            Kept::Blocks(blocks) => blocks.get(i, j),
         }
     }
 
-    /// Sets the word at row `i` and column `j`: in a bitmap in constant time, and in lists as `Sparse::set` does.
-    /// Where there is an entry, no memory is taken.
+    /// Sets the word at row `i` and column `j`: in a bitmap in constant time, and in lists as `Sparse::set` does, which
+    /// blocks are joined to for a new entry. Where there is an entry, no memory is taken.
     pub fn set(&mut self, i: u64, j: u64, word: u64) -> Result<(), NoMemory>
         requires row { i < self.old.rows }
         requires col { j < self.old.cols }
@@ -229,11 +258,21 @@ impl Store {
                 bitmap.set(i, j, word);
                 Ok(())
             }
+            Kept::Blocks(blocks) => {
+                if blocks.overwrite(i, j, word) {
+                    return Ok(());
+                }
+                let mut sparse = blocks.joined()?;
+                sparse.set(i, j, word)?;
+                self.kept = Kept::Sparse(sparse);
+                Ok(())
+            }
         }
     }
 
     /// Puts the entries of a block into a store with one column, each over the one at its position or as a new one:
-    /// into a bitmap in the time of these entries and without memory, and into lists as `Sparse::put_block` does.
+    /// into a bitmap in the time of these entries and without memory, and into lists as `Sparse::put_block` does, which
+    /// blocks are joined to.
     pub fn put_block(&mut self, block: &RowBlock) -> Result<(), NoMemory>
         requires column { self.old.cols ≡ 1 }
         requires cols { block.now.cols ≡ 1 }
@@ -250,6 +289,12 @@ impl Store {
                 put_into(bitmap, block);
                 Ok(())
             }
+            Kept::Blocks(blocks) => {
+                let mut sparse = blocks.joined()?;
+                sparse.put_block(block)?;
+                self.kept = Kept::Sparse(sparse);
+                Ok(())
+            }
         }
     }
 
@@ -263,11 +308,12 @@ impl Store {
         match &mut self.kept {
             Kept::Sparse(sparse) => sparse.remove(i, j),
             Kept::Bitmap(bitmap) => bitmap.remove(i, j),
+            Kept::Blocks(blocks) => blocks.remove(i, j),
         }
     }
 
-    /// Keeps a store as a bitmap from now on, where it has entries at many of its positions, and a column that has few
-    /// as lists. Where there is no memory for that, it stays as it is.
+    /// Keeps lists as a bitmap from now on, where they have entries at many positions, and a bitmap of a column that
+    /// has few as lists. Where there is no memory for that, a store stays as it is, and so do blocks.
     pub fn settle(&mut self, alloc: Global)
         ensures { self.new ≡ self.old }
     {
@@ -283,6 +329,7 @@ impl Store {
         match self.kept {
             Kept::Sparse(sparse) => settled_lists(alloc, sparse),
             Kept::Bitmap(bitmap) => settled_bitmap(alloc, bitmap),
+            Kept::Blocks(blocks) => Store::from_blocks(blocks),
         }
     }
 }
@@ -318,7 +365,5 @@ fn is_bitmap_better(sparse: &Sparse) -> bool
     ensures { IsTrue result → sparse.now.rows * sparse.now.cols ≤ 2 ^ 24 }
 {
     let (rows, cols) = (sparse.rows(), sparse.cols());
-    let longest = if cols == 1 { rows } else { cols };
-    let places = rows.saturating_mul(cols);
-    longest >= LEAST && places <= MOST && places / TIMES <= sparse.nvals()
+    Store::may_be_bitmap(rows, cols) && rows.saturating_mul(cols) / TIMES <= sparse.nvals()
 }

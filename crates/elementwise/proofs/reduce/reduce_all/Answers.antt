@@ -14,3 +14,9 @@ returns-in-Bitmap c =
     let monoid = c.args.monoid in
     let words = all_words-entries b.rows b.cols (word_at b.entries) ∙ ap (map (λ (e : Entry). e.word)) (entries_of-words b.rows b.cols b.entries c.rows.ensures.order c.rows.ensures.inside) in
     rw (← lent) (c.fold.ensures ∙ ap (fold_of monoid.kind monoid.op.domain) (sym words))
+
+pub returns-in-Blocks : goal.returns-in-Blocks
+returns-in-Blocks c =
+    let lent = rw c.in-Blocks.is at c.form.ensures in
+    let monoid = c.args.monoid in
+    rw (← lent) (c.reduce_parts.ensures ∙ ap (fold_of monoid.kind monoid.op.domain) c.parts.ensures)
