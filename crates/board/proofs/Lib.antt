@@ -6,6 +6,7 @@ pub mod ObjectLaws
 pub mod PlaceLaws
 pub mod ReadLaws
 pub mod ReadyLaws
+pub mod RenewLaws
 pub mod SoundLaws
 pub mod StageLaws
 pub mod TakeLaws

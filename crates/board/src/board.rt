@@ -54,7 +54,7 @@ impl<N: Drop> Board<N> {
     ghost use Rattle.board.specs.Progress.{Failed, Made, Running, Progress as AnyProgress, is_joining, is_running};
     ghost use Rattle.board.specs.Progress.{is_unfinished};
     ghost use Rattle.board.specs.Tasks.{object_at};
-    ghost use Rattle.board.specs.Views.{offered, state_of};
+    ghost use Rattle.board.specs.Views.{offered, reads_in, state_of};
     ghost use Rattle.calls.specs.Recipes.{known_of};
     ghost use Rattle.model.specs.Object.{rows_of};
     ghost use Rattle.runner.specs.Tickets.{IsStoreFor};
@@ -363,6 +363,23 @@ impl<N: Drop> Board<N> {
         self.slots.whole(number, store)?;
         forget(&mut self.cuts, &mut self.parted, number);
         Ok(())
+    }
+
+    /// A store of the same object in the place of the one that a slot has. Gives back the one that isn't needed: this
+    /// one, where the slot has none.
+    pub fn renew(&mut self, number: u64, store: Arc<Store>) -> Arc<Store>
+        requires right { IsStoreFor (object_at (view_of self.old).tasks number) (arc_value store) }
+        ensures view { view_of self.new ≡ view_of self.old }
+        ensures cuts { cuts_of self.new ≡ cuts_of self.old }
+    {
+        self.slots.renew(number, store)
+    }
+
+    /// Whether an input place of a slot that is to come names a slot.
+    pub fn is_read(&self, number: u64) -> bool
+        ensures { result ≡ nat_lt 0 (reads_in (view_of self.now).tasks (view_of self.now).progress number) }
+    {
+        self.slots.is_read(number)
     }
 
     /// The store of a slot whose task is one piece, once that was done and joined, in the place of `give` and `whole`.

@@ -82,7 +82,8 @@ pub(crate) fn is_unasked(stages: &[Stage], holds: &[u64], reads: &[u64], number:
     is_unfinished(stages, number) && !is_used(holds, number) && !is_used(reads, number)
 }
 
-fn is_used(counts: &[u64], number: u64) -> bool
+/// Whether a count isn't 0.
+pub(crate) fn is_used(counts: &[u64], number: u64) -> bool
     ensures { result ≡ nat_lt 0 (slice_index counts.now number) }
 {
     match counts.get(number as usize) {

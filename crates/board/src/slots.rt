@@ -12,11 +12,13 @@ use crate::inputs::Inputs;
 use crate::look::{Look, Refusal};
 use crate::looking::{is_gone, look_at};
 use crate::piece::{Piece, Stores, TaskRecipe};
-use crate::reads::{hold_less, hold_more, is_unasked, read_less, release, release_each};
+use crate::reads::{hold_less, hold_more, is_unasked, is_used, read_less, release, release_each};
 use crate::ready::{remove_at, withdraw};
 use crate::sharing::{again, claim, share};
 use crate::slot::Slot;
-use crate::stage::{Stage, are_made, is_joining, is_running, put, take_recipe};
+use crate::stage::{
+    Stage, are_made, is_done, is_joining, is_running, put, take_recipe, take_store,
+};
 use crate::waiting::{Readers, wait_for};
 use crate::waking::{can_fail, wake};
 use calls::{Recipe, Roles};
@@ -59,7 +61,7 @@ impl<N: Drop> Slots<N> {
     ghost use Rattle.board.specs.Progress.{Failed, Joining, Made, Progress as AnyProgress, is_joining, is_running};
     ghost use Rattle.board.specs.Progress.{is_underway, is_unfinished, is_untaken};
     ghost use Rattle.board.specs.Tasks.{object_at};
-    ghost use Rattle.board.specs.Views.{offered, state_of};
+    ghost use Rattle.board.specs.Views.{offered, reads_in, state_of};
     ghost use Rattle.calls.specs.Roles.{no_roles};
     ghost use Rattle.calls.specs.Recipes.{known_of};
     ghost use Rattle.model.specs.Object.{IsObject, rows_of};
@@ -308,6 +310,27 @@ impl<N: Drop> Slots<N> {
             &self.readers[number as usize],
         );
         Ok(())
+    }
+
+    /// A store of the same object in the place of the one that a slot has. Gives back the one that isn't needed: this
+    /// one, where the slot has none.
+    pub fn renew(&mut self, number: u64, store: Arc<Store>) -> Arc<Store>
+        requires right { IsStoreFor (object_at (slots_view self.old).tasks number) (arc_value store) }
+        ensures { slots_view self.new ≡ slots_view self.old }
+    {
+        if !is_done(&self.stages, number) {
+            return store;
+        }
+        let old = take_store(&mut self.stages, number);
+        put(&mut self.stages, number, Stage::Done(store));
+        old
+    }
+
+    /// Whether an input place of a slot that is to come names a slot.
+    pub fn is_read(&self, number: u64) -> bool
+        ensures { result ≡ nat_lt 0 (reads_in (slots_view self.now).tasks (slots_view self.now).progress number) }
+    {
+        is_used(&self.reads, number)
     }
 
     /// The store of a slot whose task is one piece, once that was done and joined, in the place of `give` and `whole`.

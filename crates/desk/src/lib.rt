@@ -13,7 +13,7 @@ mod works;
 pub use cutting::take_cut;
 pub use dropping::give_up;
 pub use picker::{Order, Picker};
-pub use pieces::SpareLists;
+pub use pieces::{Joining, SpareLists, entries_in, may_stay_apart, united};
 pub use places::{notes_of, slot_of};
 pub use placing::place;
 pub use ticket::Ticket;

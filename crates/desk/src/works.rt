@@ -26,7 +26,7 @@ use kernel::{
     Block, OneThread, VectorProducts, computed_over, eval_piece, eval_piece_by, join, patch_over,
 };
 use model::NoMemory;
-use pieces::{SpareLists, join_blocks};
+use pieces::{Joining, join_blocks};
 use runner::Failed;
 use std::alloc::Global;
 use std::ops::Range;
@@ -96,13 +96,12 @@ pub fn part_of(alloc: Global, piece: &mut Piece) -> Result<Block, NoMemory>
     block_by(&OneThread, alloc, piece)
 }
 
-/// The store of what a recipe makes, of the blocks of all pieces, in the order of their rows. It takes time and memory
-/// for their entries, and a second thread where they are many; lists that nobody needs take the place of fresh memory,
-/// where they suit.
+/// The store of what a recipe makes, of the blocks of all pieces, in the order of their rows. Where their lists are put
+/// together, it takes time and memory for their entries, and a second thread where they are many.
 pub fn joined_of(
     rt: &impl Threads,
     alloc: Global,
-    spares: SpareLists,
+    joining: Joining,
     recipe: &Recipe,
     blocks: Vec<Block>,
 ) -> Result<Arc<Store>, NoMemory>
@@ -111,7 +110,7 @@ pub fn joined_of(
     ensures { IfOk result (λ store. (o : Object) → IsObject o → o.shape ≡ (known_of recipe.now).shape
         → All (IsPartOf (cols_of o.shape) o.content) blocks.items → IsStoreFor o (arc_value store)) }
 {
-    let store = join_blocks(rt, alloc, spares, recipe, blocks)?;
+    let store = join_blocks(rt, alloc, joining, recipe, blocks)?;
     Ok(Arc::new(alloc, store)?)
 }
 

@@ -32,6 +32,12 @@ pub fn join(alloc: Global, recipe: &Recipe, block: Block) -> Store
     store
 }
 
+/// Whether the store of what a recipe gives is lists, whatever it has.
+pub fn makes_lists(recipe: &Recipe) -> bool {
+    let shape = recipe.signature().shape;
+    stays_listed(recipe) || !Store::may_be_bitmap(shape.rows(), shape.cols())
+}
+
 /// Whether what a recipe leaves stays in lists: a product, whose factors are read as lists; but no product with a
 /// vector and without a mask, which has a way of its own with bitmaps.
 fn stays_listed(recipe: &Recipe) -> bool {

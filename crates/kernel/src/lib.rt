@@ -23,7 +23,7 @@ pub use bitmap::{OneThread, SeveralThreads};
 pub use block::Block;
 pub use cutting::{cuts, is_cut};
 pub use evaluation::evaluate;
-pub use joining::join;
+pub use joining::{join, makes_lists};
 pub use over::computed_over;
 pub use piece::{eval_piece, eval_piece_by, patch_over};
 pub use spgemm::VectorProducts;

@@ -21,6 +21,16 @@ pub struct SpareLists {
     pub words: Option<Vec<u64>>,
 }
 
+impl SpareLists {
+    /// No lists.
+    pub fn none() -> SpareLists {
+        SpareLists {
+            inner: None,
+            words: None,
+        }
+    }
+}
+
 /// Fibers of blocks that follow one another: where they end, counted from the first block on, and their inner indices
 /// and words, a list a block.
 #[derive(Drop)]
@@ -171,7 +181,7 @@ fn joined(
 
 /// An empty list: one that nobody needs, where it has room for so many numbers and for less than twice as many, or one
 /// without memory.
-fn cleared(alloc: Global, spare: Option<Vec<u64>>, count: usize) -> Vec<u64>
+pub(crate) fn cleared(alloc: Global, spare: Option<Vec<u64>>, count: usize) -> Vec<u64>
     ensures { result.items ≡ [] }
 {
     match spare {

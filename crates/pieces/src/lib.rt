@@ -7,7 +7,7 @@ mod joint;
 mod part;
 mod pieces;
 
-pub use joining::join_blocks;
+pub use joining::{Joining, entries_in, join_blocks, may_stay_apart, united};
 pub use joint::SpareLists;
 pub use part::Part;
 pub use pieces::{Pieces, Refused};

@@ -14,6 +14,7 @@ mod shared;
 mod spares;
 mod starting;
 mod tasks;
+mod uniting;
 mod work;
 
 pub use gate::{Gate, Open};

@@ -3,6 +3,8 @@ ghost use Rattle.std.specs.Prelude.{◌≡◌, IfOk};
 ghost use Rattle.board.specs.Boards.{view_of};
 ghost use Rattle.board.specs.Events.{empty_view};
 ghost use Rattle.desk.specs.Desks.{object_in, told};
+ghost use Rattle.history.specs.Histories.{object_of};
+ghost use Rattle.runner.specs.Tickets.{made_by};
 
 use crate::crew::{Crew, SHARE};
 use crate::cutting::Cutting;
@@ -15,6 +17,7 @@ use crate::shared::Shared;
 use crate::spares::Spares;
 use crate::starting::start_first;
 use crate::tasks::Tasks;
+use crate::uniting::{unite_own, unite_shared};
 use board::Board;
 use calls::{Recipe, Roles};
 use desk::{Picker, Ticket, notes_of};
@@ -23,6 +26,8 @@ use journal::{Log, Naming, Note};
 use model::NoMemory;
 use runner::{Failed, Runner};
 use std::alloc::Global;
+use std::sync::atomic::AtomicBool;
+use std::sync::atomic::Ordering::SeqCst;
 use std::sync::{Arc, Condvar, Mutex, Wait};
 use std::thread;
 use std::thread::{JoinHandle, Threads};
@@ -99,6 +104,7 @@ where
             spares: Spares::new(alloc),
             more: Condvar::new(),
             come: Condvar::new(),
+            has_blocks: AtomicBool::new(false),
         };
         let shared = Arc::new(alloc, shared)?;
         let first = if workers == 0 {
@@ -140,6 +146,59 @@ where
     }
 }
 
+impl<J: Naming, R: Wait + Threads + Drop, G: Gate + Drop, P: Picker + Drop> Pool<J, R, G, P> {
+    /// A slot for what was noted, where the calling thread has the tasks; these are handed over where there is enough
+    /// to do for workers.
+    fn submit_own(
+        &mut self,
+        note: Note<J>,
+        recipe: Recipe,
+        inputs: &Roles<&Ticket<Note<J>>>,
+    ) -> Result<u64, NoMemory>
+        requires { object_of note ≡ made_by (object_in told) recipe inputs.now }
+        ensures { self.new.epoch ≡ self.old.epoch }
+    {
+        if self.shared.has_blocks.load(SeqCst) {
+            unite_own(
+                &self.rt,
+                self.alloc,
+                &self.named,
+                &self.shared.spares,
+                &mut self.own,
+                inputs,
+            );
+        }
+        let work = work_of(&recipe);
+        let slot = self.own.submit(&self.named.log, note, recipe, inputs)?;
+        let demand = self.own.demand_after(slot, work);
+        if demand.threads(self.share) > 0 {
+            hand_over(&self.rt, &self.shared, &mut self.own, demand);
+        }
+        Ok(slot)
+    }
+
+    /// The same where the tasks lie under the lock. Workers are woken where there is enough to do for them.
+    fn submit_shared(
+        &mut self,
+        note: Note<J>,
+        recipe: Recipe,
+        inputs: &Roles<&Ticket<Note<J>>>,
+    ) -> Result<u64, NoMemory>
+        requires { object_of note ≡ made_by (object_in told) recipe inputs.now }
+        ensures { self.new.epoch ≡ self.old.epoch }
+    {
+        if self.shared.has_blocks.load(SeqCst) {
+            unite_shared(&self.rt, self.alloc, &self.named, &self.shared, inputs);
+        }
+        let mut guard = self.shared.locked.lock(&self.rt);
+        let work = work_of(&recipe);
+        let slot = guard.submit(&self.named.log, note, recipe, inputs)?;
+        let called = guard.call_after(slot, work);
+        leave(&self.rt, &self.shared, guard, None, called);
+        Ok(slot)
+    }
+}
+
 /// How many threads can be at work at one time; all where that isn't known.
 fn processors(rt: &impl Threads) -> u64 {
     match thread::available_parallelism(rt) {
@@ -163,22 +222,11 @@ impl<J: Naming, R: Wait + Threads + Drop, G: Gate + Drop, P: Picker + Drop> Runn
         recipe: Recipe,
         inputs: Roles<&Ticket<Note<J>>>,
     ) -> Result<Ticket<Note<J>>, NoMemory> {
-        let log = &self.named.log;
-        let note = log.note(&self.rt, &recipe, notes_of(&inputs))?;
-        let own = work_of(&recipe);
+        let note = self.named.log.note(&self.rt, &recipe, notes_of(&inputs))?;
         let slot = if self.own.are_here() {
-            let slot = self.own.submit(log, note.again(), recipe, &inputs)?;
-            let demand = self.own.demand_after(slot, own);
-            if demand.threads(self.share) > 0 {
-                hand_over(&self.rt, &self.shared, &mut self.own, demand);
-            }
-            slot
+            self.submit_own(note.again(), recipe, &inputs)?
         } else {
-            let mut guard = self.shared.locked.lock(&self.rt);
-            let slot = guard.submit(log, note.again(), recipe, &inputs)?;
-            let called = guard.call_after(slot, own);
-            leave(&self.rt, &self.shared, guard, None, called);
-            slot
+            self.submit_shared(note.again(), recipe, &inputs)?
         };
         Ok(Ticket {
             epoch: self.epoch,

@@ -5,10 +5,11 @@ use crate::shared::Shared;
 use crate::tasks::Tasks;
 use crate::work::{Finished, Joint, Left, Work};
 use board::Piece;
-use desk::Picker;
+use desk::{Joining, Picker, entries_in};
 use journal::Naming;
 use kernel::SeveralThreads;
 use std::alloc::Global;
+use std::sync::atomic::Ordering::SeqCst;
 use std::sync::{MutexGuard, Wait};
 use std::thread::Threads;
 
@@ -114,13 +115,19 @@ pub fn done<J: Naming, R: Wait + Threads, G: Gate + Drop, P: Picker + Drop>(
     finished
 }
 
-/// Joins blocks, in the memory of stores that nobody needs where it suits.
+/// Joins blocks: in the memory of stores that nobody needs where it suits, and where no task is to read the store so
+/// that their lists may stay apart.
 pub fn joined<J: Naming, R: Wait + Threads, G: Gate + Drop, P: Picker + Drop>(
     rt: &R,
     alloc: Global,
     shared: &Shared<J, G, P>,
     joint: Joint<J>,
 ) -> Finished<J> {
-    let spares = shared.spares.take_for_blocks(rt, &joint.blocks);
-    joint.run(rt, alloc, spares)
+    let joining = if joint.stays_apart() {
+        shared.has_blocks.store(true, SeqCst);
+        Joining::Apart
+    } else {
+        Joining::Together(shared.spares.take_lists(rt, entries_in(&joint.blocks)))
+    };
+    joint.run(rt, alloc, joining)
 }

@@ -3,6 +3,7 @@ use crate::spares::Spares;
 use crate::tasks::Tasks;
 use desk::Picker;
 use journal::Naming;
+use std::sync::atomic::AtomicBool;
 use std::sync::{Condvar, Mutex};
 
 /// The lock, the gate, memory that is left, and what threads sleep on: workers on `more`, the calling thread on `come`.
@@ -13,4 +14,6 @@ pub struct Shared<J: Naming, G: Drop, P: Picker + Drop> {
     pub spares: Spares,
     pub more: Condvar,
     pub come: Condvar,
+    /// Whether a store may be in blocks, which are put together once a task is to read it.
+    pub has_blocks: AtomicBool,
 }

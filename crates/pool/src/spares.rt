@@ -4,7 +4,6 @@ use crate::work::Work;
 use board::Piece;
 use desk::SpareLists;
 use journal::Naming;
-use kernel::Block;
 use std::alloc::Global;
 use std::sync::{Arc, Mutex, Wait};
 use store::Store;
@@ -45,14 +44,10 @@ impl Spares {
         self.lists.lock(rt).pop()
     }
 
-    /// Lists that have room for the entries of blocks, as far as there are any.
-    pub fn take_for_blocks(&self, rt: &impl Wait, blocks: &[Block]) -> SpareLists {
-        let count = entries_in(blocks);
+    /// Lists that have room for so many entries, as far as there are any.
+    pub fn take_lists(&self, rt: &impl Wait, count: usize) -> SpareLists {
         if count < LEAST_WORDS {
-            return SpareLists {
-                inner: None,
-                words: None,
-            };
+            return SpareLists::none();
         }
         let mut lists = self.lists.lock(rt);
         SpareLists {
@@ -110,17 +105,6 @@ impl Spares {
         self.drop_share(rt, inputs.first);
         self.drop_share(rt, inputs.second);
     }
-}
-
-/// How many entries blocks have.
-fn entries_in(blocks: &[Block]) -> usize {
-    let mut count = 0usize;
-    for block in blocks {
-        if let Block::Rows(rows) = block {
-            count = count.saturating_add(rows.fibers().len());
-        }
-    }
-    count
 }
 
 /// The first list that has room for so many words and for less than twice as many, out of its place.

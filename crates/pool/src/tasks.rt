@@ -111,6 +111,25 @@ impl<J: Naming, P: Picker + Drop> Tasks<J, P> {
         look(&self.board, slot)
     }
 
+    /// A store of a ticket's object in the place of the one that is there. Gives back the one that isn't needed.
+    pub fn renew_store(
+        &mut self,
+        log: &Log,
+        ticket: &Ticket<Note<J>>,
+        store: Arc<Store>,
+    ) -> Arc<Store>
+        requires log { log.now ≡ J.log }
+        requires right { IsStoreFor (object_in told ticket.now) (arc_value store) }
+        ensures board { view_of self.new.board ≡ view_of self.old.board }
+        ensures epoch { self.new.epoch ≡ self.old.epoch }
+        ensures crew { self.new.crew ≡ self.old.crew }
+    {
+        match slot_of(&self.board, log, self.epoch, ticket) {
+            Some(slot) => self.board.renew(slot, store),
+            None => store,
+        }
+    }
+
     /// A piece of one of the tasks that can be done; None where none can.
     pub fn take(&mut self, alloc: Global) -> Option<Piece>
         ensures none { result ≡ None → offered_on (view_of self.new.board) (cuts_of self.new.board) ≡ [] }
@@ -191,11 +210,15 @@ impl<J: Naming, P: Picker + Drop> Tasks<J, P> {
             return Left::Spent(spent);
         };
         match end(&mut self.board, slot, spent.piece, outcome) {
-            Some(blocks) => Left::Joint(Joint {
-                ticket,
-                blocks,
-                spent,
-            }),
+            Some(blocks) => {
+                let is_unread = !self.board.is_read(slot);
+                Left::Joint(Joint {
+                    ticket,
+                    blocks,
+                    spent,
+                    is_unread,
+                })
+            }
             None => Left::Spent(spent),
         }
     }

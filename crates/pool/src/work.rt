@@ -12,7 +12,7 @@ ghost use Rattle.pool.specs.Outcomes.{AreParts, IsOutcomeFor};
 
 use board::Piece;
 use calls::Recipe;
-use desk::{SpareLists, Ticket, joined_of, made_of, part_of};
+use desk::{Joining, Ticket, joined_of, made_of, may_stay_apart, part_of};
 use journal::{Naming, Note};
 use kernel::{Block, VectorProducts};
 use model::NoMemory;
@@ -62,6 +62,8 @@ pub struct Joint<J: Naming> {
     pub blocks: Vec<Block>,
     /// What the last block was made of; the recipe is that of all.
     pub spent: Piece,
+    /// Whether no task is to read the store, as far as was known when the last block came.
+    pub is_unread: bool,
     ghost right: { ∥ AreParts (object_of ticket.note) (recipe_of spent.recipe) blocks.items ∥₁ },
 }
 
@@ -104,9 +106,14 @@ impl<J: Naming> Work<J> {
 }
 
 impl<J: Naming> Joint<J> {
-    /// Joins the blocks. It takes time and memory for their entries, and a second thread where they are many; lists
-    /// that nobody needs take the place of fresh memory, where they suit.
-    pub fn run(self, rt: &impl Threads, alloc: Global, spares: SpareLists) -> Finished<J>
+    /// Whether the lists of the blocks aren't put together until a task is to read them.
+    pub fn stays_apart(&self) -> bool {
+        self.is_unread && may_stay_apart(self.spent.recipe.get(), &self.blocks)
+    }
+
+    /// Joins the blocks. Where their lists are put together, it takes time and memory for their entries, and a second
+    /// thread where they are many.
+    pub fn run(self, rt: &impl Threads, alloc: Global, joining: Joining) -> Finished<J>
         ensures { result.ticket ≡ self.ticket }
     {
         let Joint {
@@ -115,7 +122,7 @@ impl<J: Naming> Joint<J> {
             spent,
             ..
         } = self;
-        let outcome = joined(rt, alloc, spares, spent.recipe.get(), blocks);
+        let outcome = joined(rt, alloc, joining, spent.recipe.get(), blocks);
         Finished {
             ticket,
             outcome,
@@ -146,7 +153,7 @@ fn outcome_of<V: VectorProducts>(products: &V, alloc: Global, piece: &mut Piece)
 fn joined(
     rt: &impl Threads,
     alloc: Global,
-    spares: SpareLists,
+    joining: Joining,
     recipe: &Recipe,
     blocks: Vec<Block>,
 ) -> Outcome
@@ -154,7 +161,7 @@ fn joined(
     requires cols { All (λ b. cols_in b ≡ cols_of (known_of recipe.now).shape) blocks.items }
     ensures { (o : Object) → AreParts o recipe.now blocks.items → IsOutcomeFor o recipe.now result }
 {
-    match joined_of(rt, alloc, spares, recipe, blocks) {
+    match joined_of(rt, alloc, joining, recipe, blocks) {
         Ok(store) => Outcome::Joined(store),
         Err(NoMemory) => Outcome::Refused,
     }

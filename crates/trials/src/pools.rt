@@ -1,10 +1,11 @@
 //! Pools whose pieces of work are held at a gate, and whose workers are woken for any work.
 ghost use Rattle.std.specs.Prelude.{◌≡◌, ◌≢◌, IfOk, None, Some};
 ghost use Rattle.algebra.specs.declared.domain.Domain.TheVariants.{Int64};
-ghost use Rattle.calls.specs.Recipes.{known_by};
+ghost use Rattle.calls.specs.Recipes.{known_by, known_of};
 ghost use Rattle.calls.specs.Stores.{IsStoreOf};
 ghost use Rattle.calls.specs.declared.role.Role.{Role as AnyRole};
 ghost use Rattle.calls.specs.declared.role.Role.TheVariants.{First};
+ghost use Rattle.model.specs.Object.{signature_of};
 ghost use Rattle.model.specs.declared.shape.Shape.TheVariants.{Two};
 
 use algebra::{Domain, FunctionName, UnaryKind, UnaryName};
@@ -23,7 +24,7 @@ use std::sync::{Arc, Wait};
 use std::thread;
 use std::thread::Threads;
 use std::time::{Clock, Duration};
-use store::Store;
+use store::{Form, Store};
 
 /// How often a piece that is held looks again, and then gives up.
 const TURNS: u64 = 10_000;
@@ -163,6 +164,7 @@ fn large_signature() -> Signature
 
 // A recipe that takes its entries as they are.
 fn taken_over(alloc: Global) -> Result<Recipe, AllocError>
+    ensures of { IfOk result (λ recipe. known_of recipe ≡ record { domain = Int64; shape = Two ROWS COLS }) }
     ensures first { IfOk result (λ recipe. known_by recipe First
         ≡ Some (record { domain = Int64; shape = Two ROWS COLS })) }
     ensures others { IfOk result (λ recipe. (role : AnyRole) → role ≢ First → known_by recipe role ≡ None) }
@@ -193,7 +195,10 @@ fn taken_over(alloc: Global) -> Result<Recipe, AllocError>
 }
 
 // A ticket of a copy of the large matrix, whose task is cut.
-fn large_ticket<R: Runner>(alloc: Global, runner: &mut R) -> Result<R::Ticket, AllocError> {
+fn large_ticket<R: Runner>(alloc: Global, runner: &mut R) -> Result<R::Ticket, AllocError>
+    ensures { IfOk result (λ ticket. signature_of (R.object_of ticket)
+        ≡ record { domain = Int64; shape = Two ROWS COLS }) }
+{
     let given = Recipe::Given(large(alloc)?);
     let first = runner.submit(given, Roles::none()).map_err(|_| AllocError)?;
     let inputs = Roles {
@@ -214,6 +219,30 @@ fn is_copied<R: Runner>(alloc: Global, runner: &mut R) -> Result<bool, AllocErro
         Ok(store) => Ok(store.nvals() == ROWS),
         Err(_) => Ok(false),
     }
+}
+
+// Whether the lists of the copy's pieces stay apart until a task is to read it.
+fn is_united<R: Runner>(alloc: Global, runner: &mut R) -> Result<bool, AllocError> {
+    let ticket = large_ticket(alloc, runner)?;
+    let Ok(blocks) = runner.fetch(&ticket) else {
+        return Ok(false);
+    };
+    let inputs = Roles {
+        first: Some(&ticket),
+        ..Roles::none()
+    };
+    let reader = runner
+        .submit(taken_over(alloc)?, inputs)
+        .map_err(|_| AllocError)?;
+    let Ok(lists) = runner.fetch(&ticket) else {
+        return Ok(false);
+    };
+    let Ok(copy) = runner.fetch(&reader) else {
+        return Ok(false);
+    };
+    let are_apart = matches!(blocks.form(), Form::Blocks(_));
+    let are_together = matches!(lists.form(), Form::Sparse(_));
+    Ok(are_apart && are_together && lists.nvals() == ROWS && copy.nvals() == ROWS)
 }
 
 // Tickets of vectors without entries, each of which is counted once its submission has returned.
@@ -283,6 +312,8 @@ enum Trial {
     Fetch,
     /// The store of a task that is cut is asked for.
     Copy,
+    /// Another task is to read it.
+    Unite,
     /// An epoch ends.
     Renew,
     /// An epoch ends while a task that is cut isn't done.
@@ -318,6 +349,7 @@ where
     let passed = match trial {
         Trial::Fetch => is_fetched(alloc, &mut pool, signs)?,
         Trial::Copy => is_copied(alloc, &mut pool)?,
+        Trial::Unite => is_united(alloc, &mut pool)?,
         Trial::Renew => is_renewed(&rt, alloc, &mut pool, signs)?,
         Trial::RenewCopy => {
             let old = large_ticket(alloc, &mut pool)?;
@@ -404,6 +436,14 @@ fn second_piece_enters_while_first_is_held(rt: HostRuntime) -> Result<(), AllocE
 fn first_piece_of_a_task_is_given_last(rt: HostRuntime) -> Result<(), AllocError> {
     let signs = Arc::new(rt.alloc(), Signs::new())?;
     assert!(rt; passes(&rt, &signs, (2, Sign::Entered, PIECES, TURNS), Trial::Copy)?);
+    assert!(rt; signs.lost.load(SeqCst) == 0);
+    Ok(())
+}
+
+#[test]
+fn lists_of_pieces_are_put_together_for_a_reader(rt: HostRuntime) -> Result<(), AllocError> {
+    let signs = Arc::new(rt.alloc(), Signs::new())?;
+    assert!(rt; passes(&rt, &signs, (0, Sign::Entered, 0, TURNS), Trial::Unite)?);
     assert!(rt; signs.lost.load(SeqCst) == 0);
     Ok(())
 }

@@ -9,13 +9,13 @@ pub note-requires-clause-fits : goal.note-requires-clause-fits
 note-requires-clause-fits g c = λ role.
     noted-known told c.args.inputs c.notes_of.result c.notes_of.ensures role ∙ c.requires.fits role
 
-pub submit-requires-clause-object : goal.submit-requires-clause-object
-submit-requires-clause-object g c =
+pub submit_own-requires : goal.submit_own-requires
+submit_own-requires g c =
     ap (λ (note : Told). object_of note) c.again.ensures
     ∙ (c.in_ok-note.ensures.object ∙ noted-made told c.args.inputs c.notes_of.result c.notes_of.ensures c.args.recipe)
 
-pub submit-requires-else-are_here-clause-object : goal.submit-requires-else-are_here-clause-object
-submit-requires-else-are_here-clause-object g c =
+pub submit_shared-requires : goal.submit_shared-requires
+submit_shared-requires g c =
     ap (λ (note : Told). object_of note) c.again-else-are_here.ensures
     ∙ (c.in_ok-note.ensures.object ∙ noted-made told c.args.inputs c.notes_of.result c.notes_of.ensures c.args.recipe)
 

@@ -1,8 +1,0 @@
-use Rattle.calls.specs.Recipes.{known_of}
-use Rattle.model.specs.Object.{cols_of, rows_of}
-use Rattle.pieces.proofs.JoiningLaws.{AreUpTo}
-use Rattle.pieces.proofs.joining.join_blocks.Given as goal
-
--- the rows of the blocks so far
-abbrev pub invariant-loop-block : goal.invariant-loop-block
-invariant-loop-block g l = AreUpTo (rows_of (known_of l.recipe).shape) (cols_of (known_of l.recipe).shape) l.fn.blocks.items l.block-iterator.rest.items l.joint
