@@ -6,14 +6,13 @@ use Rattle.std.proofs.lemmas.Bool.{and_parts, cases_Bool, cases_eq, cases_lt, eq
 use Rattle.std.proofs.lemmas.List.{get_or-set_other, get_or-set_same, get_or-take, get_or_default, length-set, length-take, map-append, take_all, take_more}
 use Rattle.std.proofs.lemmas.List.Concat.{flat_map-append}
 use Rattle.std.proofs.lemmas.List.Elements.{All-append, All-cons, All-head, All-nil, All-push, All-set, All-tail, All-take, All-weaker}
-use Rattle.std.proofs.lemmas.List.Folds.{length-flat_map-take}
 use Rattle.model.specs.declared.entry.Entry.{Entry}
 use Rattle.model.specs.declared.memory.NoMemory.{NoMemory}
-use Rattle.model.specs.Entries.{InOrder, IsInside, Precedes, below, entries_of, entry_at, row_entries, word_at}
+use Rattle.model.specs.Entries.{InOrder, Precedes, below, entries_of, entry_at, row_entries, word_at}
 use Rattle.model.specs.Object.{Content}
 use Rattle.model.specs.Reductions.{all_words}
 use Rattle.model.proofs.EntryLaws.{all_words-entries}
-use Rattle.store.specs.Blocks.{AreParts, IsAbove, IsPart, IsPartWith, entries_in_parts}
+use Rattle.store.specs.Blocks.{AreParts, IsAbove, IsPart, entries_in_parts}
 use Rattle.store.specs.declared.lists.FiberLists.{FiberLists}
 use Rattle.store.specs.Fibers.{AreFlat, entries_in}
 use Rattle.store.specs.Stored.{AreHeld, AreIn, IsBlock, IsStored, Stored, along, content_of}
@@ -111,7 +110,7 @@ words_of_parts rows cols parts are =
 
 -- ---- the word at a position
 
-word_append : (i j : ℕ) (es fs : List Entry) → word_at (es ++ fs) i j ≡ option_or (word_at es i j) (word_at fs i j)
+pub word_append : (i j : ℕ) (es fs : List Entry) → word_at (es ++ fs) i j ≡ option_or (word_at es i j) (word_at fs i j)
 unfolding word_at
 word_append i j [] fs = refl
 word_append i j (e ∷ es) fs =
@@ -223,36 +222,34 @@ fewer_entries rows cols es fs old new less =
     let both = fewer_in_rows cols (word_at es) (word_at fs) less (below rows) in
     omega arith
 
-apart_changed : (parts : List Stored) (at : ℕ) (s : Stored) → AllPairs IsAbove parts → at < length parts
+-- a part has no entry where the one that was there has none
+changed_less : (parts : List Stored) (at : ℕ) (s : Stored) → at < length parts
     → ((d : Stored) (p q : ℕ) → content_of (get_or parts at d) p q ≡ None → content_of s p q ≡ None)
-    → AllPairs IsAbove (set parts at s)
-apart_changed parts at s apart within less a b d low inside =
-    let long = length-set parts at s in
-    elim (cases_eq a at) [
-      | inl first ↦
-          let one : get_or (set parts at s) a d ≡ s = ap (λ n. get_or (set parts at s) n d) first ∙ get_or-set_same parts at s d within in
-          let two : get_or (set parts at s) b d ≡ get_or parts b d = get_or-set_other parts at b s d (λ same. absurd (omega arith)) in
-          rw (one, two) (λ i j p q here there. apart at b d (omega arith) (omega arith) i j p q (λ none. here (less d i j none)) there)
-      | inr other ↦ elim (cases_eq b at) [
-        | inl second ↦
-            let one : get_or (set parts at s) a d ≡ get_or parts a d = get_or-set_other parts at a s d other in
-            let two : get_or (set parts at s) b d ≡ s = ap (λ n. get_or (set parts at s) n d) second ∙ get_or-set_same parts at s d within in
-            rw (one, two) (λ i j p q here there. apart a at d (omega arith) within i j p q here (λ none. there (less d p q none)))
-        | inr neither ↦
-            let one : get_or (set parts at s) a d ≡ get_or parts a d = get_or-set_other parts at a s d other in
-            let two : get_or (set parts at s) b d ≡ get_or parts b d = get_or-set_other parts at b s d neither in
-            rw (one, two) (apart a b d low (omega arith))
-      ]
+    → (k : ℕ) (d : Stored) (p q : ℕ) → content_of (get_or parts k d) p q ≡ None
+    → content_of (get_or (set parts at s) k d) p q ≡ None
+changed_less parts at s within less k d p q none =
+    elim (cases_eq k at) [
+      | inl same ↦
+          rw (ap (λ n. get_or (set parts at s) n d) same ∙ get_or-set_same parts at s d within)
+          (less d p q (ap (λ n. content_of (get_or parts n d) p q) (sym same) ∙ none))
+      | inr other ↦ rw (get_or-set_other parts at k s d other) none
     ]
+
+apart_changed : (parts : List Stored) (at : ℕ) (s : Stored) → AllPairs IsAbove parts
+    → ((k : ℕ) (d : Stored) (p q : ℕ) → content_of (get_or parts k d) p q ≡ None → content_of (get_or (set parts at s) k d) p q ≡ None)
+    → AllPairs IsAbove (set parts at s)
+apart_changed parts at s apart less a b d low inside =
+    let long = length-set parts at s in
+    λ i j p q here there. apart a b d low (omega arith) i j p q (λ none. here (less a d i j none)) (λ none. there (less b d p q none))
 
 parts_changed : (rows cols : ℕ) (parts : List Stored) (at : ℕ) (s : Stored) → AreParts rows cols parts
     → at < length parts → IsPart rows cols s
-    → ((d : Stored) (p q : ℕ) → content_of (get_or parts at d) p q ≡ None → content_of s p q ≡ None)
+    → ((k : ℕ) (d : Stored) (p q : ℕ) → content_of (get_or parts k d) p q ≡ None → content_of (get_or (set parts at s) k d) p q ≡ None)
     → ((p q : ℕ) → word_at (entries_in_parts parts) p q ≡ None → word_at (entries_in_parts (set parts at s)) p q ≡ None)
     → AreParts rows cols (set parts at s)
 parts_changed rows cols parts at s are within part less less_in_all =
     let each = All-set (IsPart rows cols) parts at s part are.each in
-    let apart = apart_changed parts at s are.apart within less in
+    let apart = apart_changed parts at s are.apart less in
     let old = parts_stored rows cols parts are.each are.apart in
     let new = parts_stored rows cols (set parts at s) each apart in
     let few = fewer_entries rows cols (entries_in_parts parts) (entries_in_parts (set parts at s)) old new less_in_all in
@@ -264,6 +261,8 @@ pub record AreChanged (i j : ℕ) (o : Option ℕ) (rows cols : ℕ) (parts new 
   pub are : AreParts rows cols new
   pub words : (p q : ℕ) → word_at (entries_in_parts new) p q
       ≡ cond (eqb p i && eqb q j) o (word_at (entries_in_parts parts) p q)
+  pub less : (k : ℕ) (d : Stored) (p q : ℕ) → content_of (get_or parts k d) p q ≡ None
+      → content_of (get_or new k d) p q ≡ None
 
 here_or_none : (b : Bool) (o w : Option ℕ) → (b ≡ true → w ≢ None) → w ≡ None → cond b o w ≡ None
 here_or_none true o w some none = absurd (some refl none)
@@ -290,12 +289,13 @@ part_changed i j o rows cols parts at old s are within some is same_rows same_co
     let both = and_parts (eqb p i) (eqb q j) at_it in
     let found = word_in_part i j parts at old are.apart within some in
     some old (sym found ∙ rw (eqb-true p i both.0, eqb-true q j both.1) at none) in
+    let less = changed_less parts at s within (λ d p q none. content p q ∙ here_or_none (eqb p i && eqb q j) o (content_of old p q) (here p q) (ap (λ t. content_of t p q) (sym (same d)) ∙ none)) in
     record {
       are = parts_changed rows cols parts at s are within
-          (record { rows_are = rows_are; cols_are = cols_are; stored = rw (← rows_are, ← cols_are) stored })
-          (λ d p q none. content p q ∙ here_or_none (eqb p i && eqb q j) o (content_of old p q) (here p q) (ap (λ t. content_of t p q) (sym (same d)) ∙ none))
+          (record { rows_are = rows_are; cols_are = cols_are; stored = rw (← rows_are, ← cols_are) stored }) less
           (λ p q none. words p q ∙ here_or_none (eqb p i && eqb q j) o (word_at (entries_in_parts parts) p q) (all_here p q) none);
       words = words;
+      less = less;
     }
 
 -- ---- one part more
@@ -322,13 +322,13 @@ no_parts rows cols many = record {
   fits = omega arith;
 }
 
-rows_below : (es : List Entry) (i j first : ℕ) → All (λ e. e.row < first) es → word_at es i j ≢ None → i < first
+pub rows_below : (es : List Entry) (i j first : ℕ) → All (λ e. e.row < first) es → word_at es i j ≢ None → i < first
 rows_below es i j first low some = elim (cases_lt i first) [
   | inl less ↦ less
   | inr high ↦ absurd (some (none_there i j es (All-weaker (λ e. e.row < first) (λ e. i ≢ e.row) (λ e p is. absurd (omega arith)) es low)))
 ]
 
-rows_from : (es : List Entry) (i j first : ℕ) → All (λ e. first ≤ e.row) es → word_at es i j ≢ None → first ≤ i
+pub rows_from : (es : List Entry) (i j first : ℕ) → All (λ e. first ≤ e.row) es → word_at es i j ≢ None → first ≤ i
 rows_from es i j first high some = elim (cases_lt i first) [
   | inl less ↦ absurd (some (none_there i j es (All-weaker (λ e. first ≤ e.row) (λ e. i ≢ e.row) (λ e p is. absurd (omega arith)) es high)))
   | inr le ↦ le

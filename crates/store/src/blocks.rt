@@ -1,10 +1,12 @@
 //! Entries in several blocks of rows.
-ghost use Rattle.store.specs.Blocks.{IsPartWith};
+ghost use Rattle.std.specs.Prelude.{◌<◌, IfSome, IsTrue};
+ghost use Rattle.store.specs.Blocks.{IsAlone, IsPartWith, Misses};
 
 use crate::{FiberLists, RowBlock, Sparse};
 use model::NoMemory;
 use std::alloc::Global;
 use std::marker::Model;
+use std::ops::Range;
 use std::thread::Threads;
 
 /// What a matrix that is no column holds, as blocks of rows, one behind the other, each with lists of its own. So the
@@ -14,27 +16,36 @@ pub struct Blocks {
     rows: u64,
     cols: u64,
     parts: Vec<Sparse>,
+    // Of each part the rows that it was made for.
+    spans: Vec<RowSpan>,
+}
+
+/// The rows from `first` up to before `past`.
+#[derive(Clone, Copy, Debug)]
+struct RowSpan {
+    first: u64,
+    past: u64,
 }
 
 impl Model for Blocks {
-    ghost use Rattle.store.specs.Blocks.{AreParts, entries_in_parts};
+    ghost use Rattle.store.specs.Blocks.{AreInSpans, entries_in_parts};
     ghost use Rattle.store.specs.Stored.{Stored};
 
     ghost Value = { Stored };
 
     ghost view = { λ b. record { rows = b.rows; cols = b.cols; entries = entries_in_parts b.parts.items } };
 
-    ghost invariant = { λ b. AreParts b.rows b.cols b.parts.items };
+    ghost invariant = { λ b. AreInSpans b.rows b.cols b.spans.items b.parts.items };
 }
 
 impl Blocks {
-    ghost use Rattle.std.specs.Prelude.{◌≡◌, ◌≢◌, ◌<◌, ◌≤◌, ◌++◌, [], ℕ, IfOk, OnOk, false, if◌then◌else◌};
+    ghost use Rattle.std.specs.Prelude.{◌≡◌, ◌≢◌, ◌≤◌, ◌++◌, [], ℕ, IfOk, OnErr, OnOk, false, if◌then◌else◌};
     ghost use Rattle.std.specs.Prelude.{is_some, length};
-    ghost use Rattle.std.specs.List.{flat_map};
+    ghost use Rattle.std.specs.List.{All, flat_map};
     ghost use Rattle.model.specs.Entries.{entries_of};
     ghost use Rattle.model.specs.Object.{IsWithin, with_entry, without_entry};
     ghost use Rattle.model.specs.Reductions.{all_words};
-    ghost use Rattle.store.specs.Stored.{AreIn, content_of};
+    ghost use Rattle.store.specs.Stored.{AgreesIn, AreIn, content_of};
 
     /// A store of `rows` rows and `cols` columns, more than one or none, with no entry. It takes no memory.
     pub fn new(alloc: Global, rows: u64, cols: u64) -> Blocks
@@ -47,6 +58,7 @@ impl Blocks {
             rows,
             cols,
             parts: Vec::new(alloc),
+            spans: Vec::new(alloc),
         }
     }
 
@@ -58,12 +70,21 @@ impl Blocks {
         ensures rows { self.new.rows ≡ self.old.rows }
         ensures cols { self.new.cols ≡ self.old.cols }
         ensures entries { OnOk result (self.new.entries ≡ self.old.entries ++ block.entries) }
+        ensures refused { OnErr result (self.new ≡ self.old) }
     {
+        let span = RowSpan {
+            first: block.first(),
+            past: block.past(),
+        };
         let part = Sparse::from_block(self.rows, block);
         if self.nvals().checked_add(part.nvals()).is_none() {
             return Err(NoMemory);
         }
-        self.parts.push(part)?;
+        self.spans.push(span)?;
+        if self.parts.push(part).is_err() {
+            self.spans.truncate(self.parts.len());
+            return Err(NoMemory);
+        }
         Ok(())
     }
 
@@ -97,10 +118,29 @@ impl Blocks {
 
     /// The blocks, each as a store of all rows, so that their words follow one another.
     pub fn parts(&self) -> &[Sparse]
-        ensures { flat_map (λ s. all_words s.rows s.cols (content_of s)) result.now
+        ensures entries { flat_map (λ s. s.entries) result.now ≡ self.now.entries }
+        ensures shapes { All (λ s. (s.rows ≡ self.now.rows) × (s.cols ≡ self.now.cols)) result.now }
+        ensures words { flat_map (λ s. all_words s.rows s.cols (content_of s)) result.now
             ≡ all_words self.now.rows self.now.cols (content_of self.now) }
     {
         &self.parts
+    }
+
+    /// The row behind those that block `at` was made for, where there is such a block.
+    pub fn past(&self, at: usize) -> Option<u64> {
+        Some(self.spans.get(at)?.past)
+    }
+
+    /// The block that has all the entries in a range of rows, as a store of all rows; None where several blocks were
+    /// made for some of these. Its time grows with the number of blocks.
+    pub(crate) fn part_in(&self, range: &Range<u64>) -> Option<&Sparse>
+        ensures { IfSome result (λ part. AgreesIn range.now.start range.now.end part.now self.now) }
+    {
+        let at = only_one(&self.spans, range)?;
+        if at >= self.parts.len() {
+            return None;
+        }
+        Some(&self.parts[at])
     }
 
     /// The word at row `i` and column `j`, where there is one. Its time grows with the number of blocks and the
@@ -128,8 +168,38 @@ impl Blocks {
         })
     }
 
-    /// The same in the memory of empty lists, as far as they have some. A second thread copies one of the two lists of
-    /// each block that is long.
+    /// The entries of the blocks that were made for some of a range of rows, as lists of all rows, in memory of their
+    /// own. It takes time for these entries.
+    pub(crate) fn joined_rows(&self, range: &Range<u64>) -> Result<Sparse, NoMemory>
+        ensures { IfOk result (λ sparse. AgreesIn range.now.start range.now.end sparse self.now) }
+    {
+        let alloc = *self.parts.allocator();
+        let mut lists = FiberLists::with_capacity(alloc, self.count_rows(range))?;
+        for k in 0..self.parts.len() {
+            if !misses(self.spans[k], range) {
+                self.parts[k].append_to(&mut lists)?;
+            }
+        }
+        Ok(Sparse {
+            rows: self.rows,
+            cols: self.cols,
+            lists,
+        })
+    }
+
+    /// How many entries these blocks have.
+    fn count_rows(&self, range: &Range<u64>) -> usize {
+        let mut count = 0usize;
+        for k in 0..self.parts.len() {
+            if !misses(self.spans[k], range) {
+                count = count.saturating_add(self.parts[k].nvals() as usize);
+            }
+        }
+        count
+    }
+
+    /// All its entries as lists in the memory of empty lists, as far as they have some. A second thread copies one of
+    /// the two lists of each block that is long.
     pub fn joined_in<R: Threads>(&self, rt: &R, room: FiberLists) -> Result<Sparse, NoMemory>
         requires ends { room.ends.items ≡ [] }
         requires inner { room.inner.items ≡ [] }
@@ -191,6 +261,29 @@ impl Blocks {
             None => (Vec::new(alloc), None),
         }
     }
+}
+
+/// Whether a span has none of a range of rows.
+fn misses(span: RowSpan, range: &Range<u64>) -> bool
+    ensures { IsTrue result → Misses range.now.start range.now.end span }
+{
+    span.past <= range.start || range.end <= span.first
+}
+
+/// Where a span stands beside which none has some of a range of rows; None where several have.
+fn only_one(spans: &[RowSpan], range: &Range<u64>) -> Option<usize>
+    ensures { IfSome result (λ at. IsAlone range.now.start range.now.end spans.now at) }
+{
+    let mut at = None;
+    for k in 0..spans.len() {
+        if !misses(spans[k], range) {
+            if at.is_some() {
+                return None;
+            }
+            at = Some(k);
+        }
+    }
+    Some(at.unwrap_or(0))
 }
 
 /// Where a part stands that has an entry at row `i` and column `j`, if one has.

@@ -12,6 +12,7 @@ use model::NoMemory;
 use std::alloc::Global;
 use std::marker::Model;
 use std::mem;
+use std::ops::Range;
 
 /// What a matrix holds (`GrB_Matrix` of GraphBLAS C API 2.0): its number of rows and of columns, and its entries, at
 /// most one at a position. They are kept in lists or, where many positions have an entry, as a bitmap; a matrix that
@@ -83,7 +84,7 @@ const TIMES: u64 = 8;
 
 impl Store {
     ghost use Rattle.store.specs.Forms.{lent_in, of_bitmap, sparse_of};
-    ghost use Rattle.store.specs.Stored.{block_content, content_of};
+    ghost use Rattle.store.specs.Stored.{AgreesIn, block_content, content_of};
 
     /// A store of `rows` rows and `cols` columns with no entry. It takes no memory.
     pub fn new(alloc: Global, rows: u64, cols: u64) -> Store
@@ -186,6 +187,20 @@ impl Store {
             Kept::Sparse(sparse) => Ok(AsSparse::Lent(sparse)),
             Kept::Bitmap(bitmap) => Ok(AsSparse::Made(sparse_of(alloc, bitmap)?)),
             Kept::Blocks(blocks) => Ok(AsSparse::Made(blocks.joined()?)),
+        }
+    }
+
+    /// Lists of the same shape that have its entries in a range of rows, for whoever goes along these rows alone: of
+    /// blocks the one that has all of them, where one has, or those that have some, joined; else as `as_sparse` does.
+    pub fn lists_in(&self, alloc: Global, range: &Range<u64>) -> Result<AsSparse<'_>, NoMemory>
+        ensures { IfOk result (λ lists. AgreesIn range.now.start range.now.end (sparse_of lists) self.now) }
+    {
+        let Kept::Blocks(blocks) = &self.kept else {
+            return self.as_sparse(alloc);
+        };
+        match blocks.part_in(range) {
+            Some(part) => Ok(AsSparse::Lent(part)),
+            None => Ok(AsSparse::Made(blocks.joined_rows(range)?)),
         }
     }
 

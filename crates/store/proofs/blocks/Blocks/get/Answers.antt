@@ -15,4 +15,4 @@ returns c =
     let at = c.in_ok-at.at in
     let part = c.index.result.now in
     rw (← c.self.view_is) (c.get.ensures ∙ ap (λ s. content_of s c.args.i c.args.j) c.index.ensures
-    ∙ sym (word_in_part c.args.i c.args.j parts at part c.self.invariant.apart found.0 found.1))
+    ∙ sym (word_in_part c.args.i c.args.j parts at part c.self.invariant.are.apart found.0 found.1))

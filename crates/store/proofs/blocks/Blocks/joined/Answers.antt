@@ -15,7 +15,7 @@ append_to-requires-clause-flat c = c.loop-k.invariant.flat
 pub append_to-requires-clause-order : goal.append_to-requires-clause-order
 append_to-requires-clause-order c =
     let b = c.self.inside in
-    joined_order b.rows b.cols b.parts.items c.loop-k.k c.index.result.now c.loop-k.lists c.self.invariant c.loop-k.invariant (within (search rules)) c.index.ensures
+    joined_order b.rows b.cols b.parts.items c.loop-k.k c.index.result.now c.loop-k.lists c.self.invariant.are c.loop-k.invariant (within (search rules)) c.index.ensures
 
 pub loop-k-preserved : goal.loop-k-preserved
 loop-k-preserved c =
@@ -28,9 +28,9 @@ end c = let ok = c.self.inside.parts.ok in let test = c.loop-k-test.false in let
 pub invariant_of-result : goal.invariant_of-result
 invariant_of-result c =
     let b = c.self.inside in
-    joined_held b.rows b.cols b.parts.items c.loop-k.k c.loop-k.lists c.self.invariant c.loop-k.invariant (end (search rules))
+    joined_held b.rows b.cols b.parts.items c.loop-k.k c.loop-k.lists c.self.invariant.are c.loop-k.invariant (end (search rules))
 
 pub returns : goal.returns
 returns c =
     let b = c.self.inside in
-    rw (← c.self.view_is) (joined_is b.rows b.cols b.parts.items c.loop-k.k c.loop-k.lists c.self.invariant c.loop-k.invariant (end (search rules)))
+    rw (← c.self.view_is) (joined_is b.rows b.cols b.parts.items c.loop-k.k c.loop-k.lists c.self.invariant.are c.loop-k.invariant (end (search rules)))

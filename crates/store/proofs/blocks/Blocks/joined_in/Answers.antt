@@ -19,7 +19,7 @@ append_beside-requires-clause-flat g c = c.loop-k.invariant.flat
 pub append_beside-requires-clause-order : goal.append_beside-requires-clause-order
 append_beside-requires-clause-order g c =
     let b = c.self.inside in
-    joined_order b.rows b.cols b.parts.items c.loop-k.k c.index.result.now c.loop-k.lists c.self.invariant c.loop-k.invariant (within g (search rules)) c.index.ensures
+    joined_order b.rows b.cols b.parts.items c.loop-k.k c.index.result.now c.loop-k.lists c.self.invariant.are c.loop-k.invariant (within g (search rules)) c.index.ensures
 
 pub loop-k-preserved : goal.loop-k-preserved
 loop-k-preserved g c =
@@ -32,9 +32,9 @@ end g c = let ok = c.self.inside.parts.ok in let test = c.loop-k-test.false in l
 pub invariant_of-result : goal.invariant_of-result
 invariant_of-result g c =
     let b = c.self.inside in
-    joined_held b.rows b.cols b.parts.items c.loop-k.k c.loop-k.lists c.self.invariant c.loop-k.invariant (end g (search rules))
+    joined_held b.rows b.cols b.parts.items c.loop-k.k c.loop-k.lists c.self.invariant.are c.loop-k.invariant (end g (search rules))
 
 pub returns : goal.returns
 returns g c =
     let b = c.self.inside in
-    rw (← c.self.view_is) (joined_is b.rows b.cols b.parts.items c.loop-k.k c.loop-k.lists c.self.invariant c.loop-k.invariant (end g (search rules)))
+    rw (← c.self.view_is) (joined_is b.rows b.cols b.parts.items c.loop-k.k c.loop-k.lists c.self.invariant.are c.loop-k.invariant (end g (search rules)))

@@ -1,4 +1,4 @@
-use Rattle.std.proofs.Common.{◌≡◌, ◌∙◌, ◌+◌, ◌<◌, ◌≤◌, List, ap, arith, get_or, length, length-append, refl, rules, subst, sym, take}
+use Rattle.std.proofs.Common.{◌≡◌, ◌∙◌, ◌<◌, List, ap, arith, get_or, length, length-append, refl, rules, subst, sym, take}
 use Rattle.std.proofs.lemmas.List.{take_all}
 use Rattle.std.proofs.lemmas.List.Folds.{length-flat_map-take}
 use Rattle.model.specs.declared.entry.Entry.{Entry}
@@ -20,7 +20,7 @@ part_is : (c : After-nvals-count)
 part_is c =
     let b = c.self.inside in
     let is = c.index.ensures in
-    let part : IsPart b.rows b.cols c.index.result.now = subst (IsPart b.rows b.cols) (sym is) (c.self.invariant.each c.loop-k.k c.index.result.now (within (search rules))) in
+    let part : IsPart b.rows b.cols c.index.result.now = subst (IsPart b.rows b.cols) (sym is) (c.self.invariant.are.each c.loop-k.k c.index.result.now (within (search rules))) in
     c.nvals-count.ensures ∙ count_part b.rows b.cols c.index.result.now part ∙ ap (λ (s : Stored). length s.entries) is
 
 pub overflow_add-count : goal.overflow_add-count
@@ -29,7 +29,7 @@ overflow_add-count c =
     let f : Stored → List Entry = λ s. s.entries in
     let part = part_is (search rules) in
     let before = c.loop-k.invariant in
-    let fits = c.self.invariant.fits in
+    let fits = c.self.invariant.are.fits in
     let most = length-flat_map-take f parts c.loop-k.k c.index.result.now (within (search rules)) in
     omega arith
 
@@ -49,6 +49,6 @@ returns c =
     let ok = b.parts.ok in
     let end = c.loop-k-test.false in
     let long = c.len-k-end.ensures in
-    let stored = parts_stored b.rows b.cols parts c.self.invariant.each c.self.invariant.apart in
+    let stored = parts_stored b.rows b.cols parts c.self.invariant.are.each c.self.invariant.are.apart in
     let all : take c.loop-k.k parts ≡ parts = take_all c.loop-k.k parts (omega arith) in
     rw (← c.self.view_is) (c.loop-k.invariant ∙ ap (λ ps. length (entries_in_parts ps)) all ∙ sym (count_stored b.rows b.cols (entries_in_parts parts) stored))

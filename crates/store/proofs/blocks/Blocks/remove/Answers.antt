@@ -1,6 +1,8 @@
-use Rattle.std.proofs.Common.{◌∙◌, ◌∷◌, ap, None, refl, rules, set, subst, sym}
+use Rattle.std.proofs.Common.{None, rules, set}
+use Rattle.std.proofs.lemmas.List.{length-set}
 use Rattle.store.specs.Blocks.{entries_in_parts}
 use Rattle.store.proofs.BlockLaws.{AreChanged, never_there, none_in_parts, part_changed}
+use Rattle.store.proofs.SpanLaws.{spans_changed}
 use Rattle.store.proofs.blocks.Blocks.remove.Goals as goal
 use Rattle.store.proofs.blocks.Blocks.remove.Goals.{After-self-1}
 
@@ -12,10 +14,13 @@ changed c =
     let found = rw c.deref.ensures.value at c.in-Some.ensures in
     let old = c.index_mut.result.now in
     let gone = c.remove.ensures in
-    part_changed c.args.i c.args.j None b.rows b.cols parts c.in-Some.at old c.remove.new.self c.self.invariant found.0 found.1 c.index_mut.ensures.value gone.rows gone.cols gone.stored gone.content
+    part_changed c.args.i c.args.j None b.rows b.cols parts c.in-Some.at old c.remove.new.self c.self.invariant.are found.0 found.1 c.index_mut.ensures.value gone.rows gone.cols gone.stored gone.content
 
 pub invariant_of-self : goal.invariant_of-self
-invariant_of-self c = (changed (search rules)).are
+invariant_of-self c =
+    let b = c.self.inside in
+    let parts = b.parts.items in
+    spans_changed c.args.i c.args.j None b.rows b.cols b.spans.items parts (set parts c.in-Some.at c.remove.new.self) c.self.invariant (changed (search rules)) (length-set parts c.in-Some.at c.remove.new.self)
 
 pub returns-in-Some-clause-content : goal.returns-in-Some-clause-content
 returns-in-Some-clause-content c = λ p q. rw (← c.self.view_is) ((changed (search rules)).words p q)
