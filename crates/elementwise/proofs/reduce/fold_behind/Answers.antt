@@ -1,13 +1,12 @@
 -- Outside BOOL a monoid's laws hold of every word.
-use Rattle.std.proofs.Common.{◌≡◌, ◌∙◌, ◌++◌, ◌<◌, ◌^◌, ℕ, Bool, List, ap, arith, false, get_or, subst, sym, true}
+use Rattle.std.proofs.Common.{◌≡◌, ◌∙◌, ◌++◌, ◌<◌, ◌^◌, ℕ, Bool, List, arith, false, get_or, subst, sym, true}
 use Rattle.std.specs.List.{All}
 use Rattle.std.proofs.lemmas.List.{get_or_default}
-use Rattle.algebra.specs.Operators.{combines_by, eval_of, offers}
+use Rattle.algebra.specs.Operators.{combines_by, offers}
 use Rattle.algebra.specs.Value.{IsWordOf, is_boolean}
 use Rattle.algebra.specs.declared.domain.Domain.{Domain}
 use Rattle.algebra.specs.declared.domain.Domain.TheVariants as domain
 use Rattle.algebra.proofs.Sums.{fold-two}
-use Rattle.lanes.specs.Lists.{fold_of}
 use Rattle.elementwise.proofs.reduce.fold_behind.Goals as goal
 
 are_words : (d : Domain) (words : List ℕ) → is_boolean d ≡ false → ((k : ℕ) → get_or words k 0 < 2 ^ 64)

@@ -1,9 +1,6 @@
 -- One block more.
-use Rattle.std.proofs.Common.{◌≡◌, ◌∙◌, ◌∷◌, ◌≤◌, ap, arith, length, refl, rules, sym}
-use Rattle.std.proofs.lemmas.Bool.Decides.{nat_tests}
+use Rattle.std.proofs.Common.{◌≡◌, ◌∙◌, ◌∷◌, ◌≤◌, ap, arith, length, rules, sym}
 use Rattle.calls.specs.Recipes.{known_of}
-use Rattle.kernel.specs.declared.block.Block.TheVariants.{Rows}
-use Rattle.model.specs.Entries.{word_at}
 use Rattle.model.specs.Object.{cols_of, rows_of}
 use Rattle.pieces.proofs.JoiningLaws.{AreAll, next_cols, up_all, up_empty, up_front, up_more, up_past, up_start, up_whole}
 use Rattle.store.specs.Stored.{Stored, content_of}

@@ -2,7 +2,7 @@ use Rattle.std.proofs.Common.{◌≡◌, ◌∙◌, ap, map, refl, rules, slice_
 use Rattle.std.specs.VecDeque.{deque_capacity}
 use Rattle.board.specs.SlotViews.{slots_view}
 use Rattle.board.specs.Slots.{task_of}
-use Rattle.board.specs.Stages.{has_store, progress_of}
+use Rattle.board.specs.Stages.{has_store}
 use Rattle.board.specs.declared.stage.Stage.TheVariants as stage
 use Rattle.board.proofs.BoardLaws.{same_store}
 use Rattle.board.proofs.RenewLaws.{IsRenewed, renewed}
