@@ -6,5 +6,6 @@ pub mod MaskLaws
 pub mod NameLaws
 pub mod OverLaws
 pub mod PieceLaws
+pub mod RowLaws
 pub mod Spread
 pub mod TakenLaws

@@ -49,9 +49,9 @@ written-masked mask out t all i j same is =
     written-same mask out t all i j is
     ∙ ap (λ is_in. written_at out.accum out.desc.replace is_in (out.c.content i j) (all i j)) (sym same)
 
--- rows of a map, where there is memory for them, are those of one that is the same
+-- rows of a map, where there is memory for them, are those of one that is the same there
 pub if_rows : {E : Type 0} (result : Result Block E) (first past cols cols' : ℕ) (c d : Content) → cols ≡ cols'
-    → ((i j : ℕ) → c i j ≡ d i j)
+    → ((i j : ℕ) → first ≤ i → i < past → c i j ≡ d i j)
     → IfOk result (λ block. block.first ≡ first) → IfOk result (λ block. block.past ≡ past)
     → IfOk result (λ block. block.cols ≡ cols)
     → IfOk result (λ block. (i j : ℕ) → first ≤ i → i < past → block_content block i j ≡ c i j)
@@ -60,7 +60,7 @@ if_rows (Ok block) first past cols cols' c d same_cols same is_first is_past is_
   first_is = is_first;
   past_is = is_past;
   cols_are = is_cols ∙ same_cols;
-  words = λ i j low high. words i j low high ∙ same i j;
+  words = λ i j low high. words i j low high ∙ same i j low high;
 }
 if_rows (Err e) first past cols cols' c d same_cols same is_first is_past is_cols words = tt
 

@@ -89,7 +89,7 @@ fn over_old(
         then block_content block i j
         else content_of old.now i j)) }
 {
-    let old = old.as_sparse(alloc)?;
+    let old = old.lists_in(alloc, &(block.first()..block.past()))?;
     match region {
         Region::One(rows) => put_rows(alloc, old.get(), block, rows, &IndexList::all()),
         Region::Two(rows, cols) => put_rows(alloc, old.get(), block, rows, cols),

@@ -7,7 +7,7 @@ use crate::sampling::cut_products;
 use calls::{Recipe, Roles};
 use model::NoMemory;
 use std::alloc::Global;
-use store::{Sparse, Store};
+use store::{Blocks, Sparse, Store};
 
 /// How many entries say where columns are cut, and up to twice as many: with more, pieces would hardly be more even.
 const SAMPLE: usize = 512;
@@ -47,6 +47,7 @@ pub fn cuts(
             let front = (by.nvals() / threads.max(1)).max(entries);
             cut_rows(alloc, by, least, front as usize, entries as usize)
         }
+        Along::Blocks(by) => cut_blocks(alloc, by, least),
         Along::Products(a, b) => cut_products(alloc, a, b, least, threads),
         Along::Columns(by) => cut_columns(alloc, by, least, pieces),
         Along::Evenly(rows) => cut_evenly(alloc, rows, least, pieces),
@@ -78,6 +79,23 @@ fn cut_rows(
         rows.push(next)?;
         row = next;
         size = entries;
+    }
+    Ok(rows)
+}
+
+/// The rows at which blocks end, where pieces between these have at least so many rows.
+fn cut_blocks(alloc: Global, by: &Blocks, least: u64) -> Result<Vec<u64>, NoMemory>
+    ensures { IfOk result (λ rows. AllPairs (λ row later. row < later) rows.items) }
+{
+    let mut rows = Vec::new(alloc);
+    let mut last = 0u64;
+    for at in 0..by.parts().len() {
+        if let Some(past) = by.past(at)
+            && may_cut(by.rows(), last, past, least)
+        {
+            rows.push(past)?;
+            last = past;
+        }
     }
     Ok(rows)
 }
@@ -139,11 +157,11 @@ fn cut_evenly(alloc: Global, rows: u64, least: u64, pieces: u64) -> Result<Vec<u
     Ok(cuts)
 }
 
-/// Whether a column stands far enough behind the last one at which so many were cut, and before their end.
-fn may_cut(cols: u64, last: u64, column: u64, least: u64) -> bool
-    ensures { IsTrue result → last < column }
+/// Whether a row or column stands far enough behind the last one at which so many were cut, and before their end.
+fn may_cut(count: u64, last: u64, next: u64, least: u64) -> bool
+    ensures { IsTrue result → last < next }
 {
-    last < column && column - last >= least && column < cols && cols - column >= least
+    last < next && next - last >= least && next < count && count - next >= least
 }
 
 /// The columns of some entries, in order.

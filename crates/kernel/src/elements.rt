@@ -37,7 +37,7 @@ pub(crate) fn applied_rows(
     let Some(function) = function.resolve() else {
         unreachable!();
     };
-    let a = a.store.as_sparse(alloc)?;
+    let a = a.store.lists_in(alloc, &range)?;
     apply_rows(alloc, a.get(), function, range)
 }
 
@@ -59,7 +59,7 @@ pub(crate) fn selected_rows(
         unreachable!();
     };
     let s = op.scalar().wrapped(scalar);
-    let a = a.store.as_sparse(alloc)?;
+    let a = a.store.lists_in(alloc, &range)?;
     select_rows(alloc, a.get(), op, s, range)
 }
 
@@ -79,7 +79,7 @@ pub(crate) fn summed_rows(
     let Some(monoid) = monoid.resolve() else {
         unreachable!();
     };
-    let a = a.store.as_sparse(alloc)?;
+    let a = a.store.lists_in(alloc, &range)?;
     reduce_rows(alloc, a.get(), monoid, range)
 }
 
@@ -103,8 +103,8 @@ pub(crate) fn combined_rows(
     let Some(op) = op.resolve() else {
         unreachable!();
     };
-    let a = a.store.as_sparse(alloc)?;
-    let b = b.store.as_sparse(alloc)?;
+    let a = a.store.lists_in(alloc, &range)?;
+    let b = b.store.lists_in(alloc, &range)?;
     match positions {
         Positions::Union => union_rows(alloc, a.get(), b.get(), op, range),
         Positions::Intersection => intersect_rows(alloc, a.get(), b.get(), op, range),

@@ -1,8 +1,9 @@
 //! What of a task decides where it is cut into pieces of rows.
 use crate::bitmaps::makes_column;
-use calls::{Accepted, OneInput, Operation, Recipe, Region, Roles, TwoInputs};
+use crate::reading::reads_all_of;
+use calls::{Accepted, OneInput, Operation, Recipe, Region, Role, Roles, TwoInputs};
 use model::Form as Factors;
-use store::{Form, Sparse, Store};
+use store::{Blocks, Form, Sparse, Store};
 
 /// How much work each piece has at least, in entries: less takes about as long as to wake a thread for it, and to join
 /// it.
@@ -41,6 +42,8 @@ pub(crate) struct Job<'a> {
 pub(crate) enum Along<'a> {
     /// The entries in an input's rows, which are the output's.
     Rows(&'a Sparse),
+    /// The blocks of an input with the output's rows, so that no piece needs parts of several.
+    Blocks(&'a Blocks),
     /// The products of these entries with the rows of another store.
     Products(&'a Sparse, &'a Store),
     /// The entries in an input's columns, which are the output's rows.
@@ -52,14 +55,13 @@ pub(crate) enum Along<'a> {
 impl<'a> Job<'a> {
     /// How a recipe is cut; None where it isn't.
     pub(crate) fn of(recipe: &Recipe, stores: &Roles<&'a Store>) -> Option<Job<'a>> {
-        let a = stores.first?;
         let job = match recipe {
-            Recipe::Transposed(_) => job_of_transpose(a)?,
-            Recipe::Computed(computation) => job_of_operation(&computation.accepted, a, stores)?,
+            Recipe::Transposed(_) => job_of_transpose(stores.first?)?,
+            Recipe::Computed(computation) => job_of_operation(&computation.accepted, stores)?,
             _ => return None,
         };
         Some(Job {
-            again: job.again.saturating_add(turned_entries(stores)),
+            again: job.again.saturating_add(turned_entries(recipe, stores)),
             ..job
         })
     }
@@ -77,32 +79,50 @@ impl<'a> Job<'a> {
     }
 }
 
-/// How an operation is cut whose first input is `a`.
-fn job_of_operation<'a>(
-    accepted: &Accepted,
-    a: &'a Store,
-    stores: &Roles<&'a Store>,
-) -> Option<Job<'a>> {
+/// How an operation is cut.
+fn job_of_operation<'a>(accepted: &Accepted, stores: &Roles<&'a Store>) -> Option<Job<'a>> {
     match &accepted.operation {
-        Operation::Fill { .. } => None,
-        Operation::OfOne { computes, .. } => job_of_one(accepted, computes, a),
+        Operation::Fill { region, .. } => job_over(region, stores.old?),
+        Operation::OfOne { computes, .. } => job_of_one(accepted, computes, stores),
         Operation::OfTwo { computes, .. } => {
-            job_of_two(accepted, *computes, a, stores.second?, stores.old)
+            job_of_two(
+                accepted,
+                *computes,
+                stores.first?,
+                stores.second?,
+                stores.old,
+            )
         }
     }
 }
 
 /// How an operation on one input is cut.
-fn job_of_one<'a>(accepted: &Accepted, computes: &OneInput, a: &'a Store) -> Option<Job<'a>> {
+fn job_of_one<'a>(
+    accepted: &Accepted,
+    computes: &OneInput,
+    stores: &Roles<&'a Store>,
+) -> Option<Job<'a>> {
+    let a = stores.first?;
     match computes {
         OneInput::Apply(_) | OneInput::Select { .. } | OneInput::ReduceRows(_) => {
             job_along(a, a.nvals())
         }
         OneInput::Transpose => job_of_transpose(a),
         OneInput::Extract(region) => job_of_extract(region, a, accepted.out.c.shape.rows()),
-        // Most of what was there is copied, which to join the pieces would do again.
-        OneInput::Assign(_) => None,
+        OneInput::Assign(region) => job_over(region, stores.old?),
     }
+}
+
+/// How an operation is cut that writes at a region over what was there: along the entries of this, most of which are
+/// copied. That doesn't pay where the pieces are joined at once, which would copy them again.
+fn job_over<'a>(region: &Region, old: &'a Store) -> Option<Job<'a>> {
+    if old.cols() == 1 || Store::may_be_bitmap(old.rows(), old.cols()) {
+        return None;
+    }
+    Some(Job {
+        again: work_for_lists(region),
+        ..job_along(old, old.nvals())?
+    })
 }
 
 /// How a transpose is cut: each piece takes some columns out of all rows. That pays where columns have an entry each,
@@ -184,7 +204,8 @@ fn job_of_product<'a>(a: &'a Store, b: &'a Store) -> Job<'a> {
     let products = (b.nvals() / b.rows().max(1)).max(1);
     let (along, pieces_a_thread) = match a.form() {
         Form::Sparse(lists) => (Along::Products(lists, b), PRODUCT_PIECES),
-        Form::Bitmap(_) | Form::Blocks(_) => (Along::Evenly(a.rows()), LONG_PIECES),
+        Form::Blocks(blocks) => (Along::Blocks(blocks), PRODUCT_PIECES),
+        Form::Bitmap(_) => (Along::Evenly(a.rows()), LONG_PIECES),
     };
     Job {
         along,
@@ -194,19 +215,23 @@ fn job_of_product<'a>(a: &'a Store, b: &'a Store) -> Job<'a> {
     }
 }
 
-/// How an operation is cut that takes about the same time for each entry.
+/// How an operation is cut that takes about the same time for each entry. One that goes along bitmaps is done in one
+/// piece.
 fn job_along(by: &Store, work: u64) -> Option<Job<'_>> {
-    let lists = lists_of(by)?;
+    let along = match by.form() {
+        Form::Sparse(lists) => Along::Rows(lists),
+        Form::Blocks(blocks) => Along::Blocks(blocks),
+        Form::Bitmap(_) => return None,
+    };
     Some(Job {
-        along: Along::Rows(lists),
+        along,
         work,
         again: 0,
         pieces_a_thread: EVEN_PIECES,
     })
 }
 
-/// The lists of a store that has them in one: of another form each piece would make them anew, and an operation that
-/// goes along bitmaps is done in one piece.
+/// The lists of a store that has them in one: of another form each piece would make them anew.
 fn lists_of(store: &Store) -> Option<&Sparse> {
     match store.form() {
         Form::Sparse(lists) => Some(lists),
@@ -214,18 +239,21 @@ fn lists_of(store: &Store) -> Option<&Sparse> {
     }
 }
 
-/// How many entries each piece turns into lists, before it begins: those of the bitmaps and blocks among the stores.
-fn turned_entries(stores: &Roles<&Store>) -> u64 {
-    bitmap_entries(stores.old)
-        .saturating_add(bitmap_entries(stores.mask))
-        .saturating_add(bitmap_entries(stores.first))
-        .saturating_add(bitmap_entries(stores.second))
+/// How many entries each piece turns into lists, before it begins: those of the bitmaps among the stores, and of the
+/// blocks that it doesn't go along by its rows.
+fn turned_entries(recipe: &Recipe, stores: &Roles<&Store>) -> u64 {
+    turned_in(recipe, Role::Old, stores.old)
+        .saturating_add(turned_in(recipe, Role::Mask, stores.mask))
+        .saturating_add(turned_in(recipe, Role::First, stores.first))
+        .saturating_add(turned_in(recipe, Role::Second, stores.second))
 }
 
-/// The entries of a store that is a bitmap.
-fn bitmap_entries(store: Option<&Store>) -> u64 {
-    match store {
-        Some(store) if lists_of(store).is_none() => store.nvals(),
-        _ => 0,
+/// The entries of a store in a role that each piece turns into lists.
+fn turned_in(recipe: &Recipe, role: Role, store: Option<&Store>) -> u64 {
+    let Some(store) = store else { return 0 };
+    match store.form() {
+        Form::Sparse(_) => 0,
+        Form::Blocks(_) if !reads_all_of(recipe, role) => 0,
+        Form::Bitmap(_) | Form::Blocks(_) => store.nvals(),
     }
 }

@@ -32,12 +32,15 @@ pub(crate) fn multiplied_rows(
     ensures { IfOk result (HasRows range.start range.end (cols_of_product form b.now) (inside_of mask.entry
         (multiplied form (semiring_named semiring) (inner_of form a.now) (content_of a.now) (content_of b.now)))) }
 {
-    let a = a.as_sparse(alloc)?;
     let b = b.as_sparse(alloc)?;
     match form {
         Form::MatrixMatrix | Form::MatrixVector => {
+            let a = a.lists_in(alloc, &range)?;
             multiply_rows_under(alloc, a.get(), b.get(), mask, semiring, range)
         }
-        Form::VectorMatrix => multiply_vector(alloc, a.get(), b.get(), mask, semiring, range),
+        Form::VectorMatrix => {
+            let a = a.as_sparse(alloc)?;
+            multiply_vector(alloc, a.get(), b.get(), mask, semiring, range)
+        }
     }
 }

@@ -48,7 +48,7 @@ pub(crate) fn task_rows(
     let mask = mask_of(task);
     let t = computed_rows(alloc, task, mask, range)?;
     let Out { c, desc, .. } = task.out;
-    let old = c.store.as_sparse(alloc)?;
+    let old = c.store.lists_in(alloc, &(t.first()..t.past()))?;
     write_back(
         alloc,
         old.get(),
