@@ -382,6 +382,11 @@ impl<N: Drop> Board<N> {
         self.slots.is_read(number)
     }
 
+    /// Whether a task that waits for a slot is to read all of its store (`kernel::reads_all_of`).
+    pub fn is_read_whole(&self, number: u64) -> bool {
+        self.slots.is_read_whole(number)
+    }
+
     /// The store of a slot whose task is one piece, once that was done and joined, in the place of `give` and `whole`.
     pub fn hand_in(&mut self, number: u64, store: Arc<Store>) -> Result<(), Refusal>
         requires right { is_running (slice_get (view_of self.old).progress number) ≡ true

@@ -4,7 +4,8 @@ ghost use Rattle.board.specs.Inputs.{slot_in};
 ghost use Rattle.board.specs.Places.{each};
 ghost use Rattle.calls.specs.Roles.{no_roles};
 
-use calls::Roles;
+use calls::{Recipe, Role, Roles};
+use kernel::reads_all_of;
 use std::marker::Model;
 
 /// The word that stands for no slot.
@@ -70,6 +71,16 @@ impl Inputs {
             first: self.first(),
             second: self.second(),
         }
+    }
+
+    /// Whether a recipe of these inputs reads all of one that a slot is.
+    pub(crate) fn are_whole_in(&self, recipe: &Recipe, number: u64) -> bool {
+        let is_whole = |input: Option<u64>, role| input == Some(number)
+            && reads_all_of(recipe, role);
+        is_whole(self.old(), Role::Old)
+            || is_whole(self.mask(), Role::Mask)
+            || is_whole(self.first(), Role::First)
+            || is_whole(self.second(), Role::Second)
     }
 
     pub(crate) fn old(&self) -> Option<u64>

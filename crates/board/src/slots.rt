@@ -333,6 +333,22 @@ impl<N: Drop> Slots<N> {
         is_used(&self.reads, number)
     }
 
+    /// Whether a task that waits for a slot is to read all of its store.
+    pub fn is_read_whole(&self, number: u64) -> bool {
+        let Some(readers) = self.readers.get(number as usize) else {
+            return false;
+        };
+        for reader in readers {
+            if let Some(recipe) = self.recipe(*reader)
+                && let Some(slot) = self.slots.get(*reader as usize)
+                && slot.inputs.are_whole_in(recipe, number)
+            {
+                return true;
+            }
+        }
+        false
+    }
+
     /// The store of a slot whose task is one piece, once that was done and joined, in the place of `give` and `whole`.
     pub fn hand_in(&mut self, number: u64, store: Arc<Store>) -> Result<(), Refusal>
         requires right { is_running (slice_get (slots_view self.old).progress number) ≡ true

@@ -165,6 +165,7 @@ impl<J: Naming, R: Wait + Threads + Drop, G: Gate + Drop, P: Picker + Drop> Pool
                 &self.named,
                 &self.shared.spares,
                 &mut self.own,
+                &recipe,
                 inputs,
             );
         }
@@ -188,7 +189,14 @@ impl<J: Naming, R: Wait + Threads + Drop, G: Gate + Drop, P: Picker + Drop> Pool
         ensures { self.new.epoch ≡ self.old.epoch }
     {
         if self.shared.has_blocks.load(SeqCst) {
-            unite_shared(&self.rt, self.alloc, &self.named, &self.shared, inputs);
+            unite_shared(
+                &self.rt,
+                self.alloc,
+                &self.named,
+                &self.shared,
+                &recipe,
+                inputs,
+            );
         }
         let mut guard = self.shared.locked.lock(&self.rt);
         let work = work_of(&recipe);

@@ -115,8 +115,8 @@ pub fn done<J: Naming, R: Wait + Threads, G: Gate + Drop, P: Picker + Drop>(
     finished
 }
 
-/// Joins blocks: in the memory of stores that nobody needs where it suits, and where no task is to read the store so
-/// that their lists may stay apart.
+/// Joins blocks: in the memory of stores that nobody needs where it suits, and where no task is to read all of the
+/// store so that their lists may stay apart.
 pub fn joined<J: Naming, R: Wait + Threads, G: Gate + Drop, P: Picker + Drop>(
     rt: &R,
     alloc: Global,

@@ -14,6 +14,6 @@ pub struct Shared<J: Naming, G: Drop, P: Picker + Drop> {
     pub spares: Spares,
     pub more: Condvar,
     pub come: Condvar,
-    /// Whether a store may be in blocks, which are put together once a task is to read it.
+    /// Whether a store may be in blocks, which are put together once a task is to read all of it.
     pub has_blocks: AtomicBool,
 }

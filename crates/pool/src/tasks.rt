@@ -21,7 +21,7 @@ use crate::crew::Crew;
 use crate::cutting::Cutting;
 use crate::demand::{Demand, entries_for, work_in};
 use crate::ending::end;
-use crate::work::{Finished, Joint, Left, Work};
+use crate::work::{Finished, Joint, Left, Reading, Work};
 use board::{Board, Look, Piece};
 use calls::{Recipe, Roles};
 use desk::{Picker, Ticket, give_up, look, place, slot_of, take_cut};
@@ -211,12 +211,12 @@ impl<J: Naming, P: Picker + Drop> Tasks<J, P> {
         };
         match end(&mut self.board, slot, spent.piece, outcome) {
             Some(blocks) => {
-                let is_unread = !self.board.is_read(slot);
+                let reading = reading_of(&self.board, slot);
                 Left::Joint(Joint {
                     ticket,
                     blocks,
                     spent,
-                    is_unread,
+                    reading,
                 })
             }
             None => Left::Spent(spent),
@@ -384,5 +384,16 @@ fn share_of<N: Drop>(board: &Board<N>, slot: u64) -> Option<Arc<Store>> {
     match board.look(slot) {
         Look::Done(store) if store.nvals() >= SOON_DROPPED => Arc::try_clone(store).ok(),
         _ => None,
+    }
+}
+
+/// How tasks that wait for a slot's store are to read it.
+fn reading_of<N: Drop>(board: &Board<N>, slot: u64) -> Reading {
+    if board.is_read_whole(slot) {
+        Reading::Whole
+    } else if board.is_read(slot) {
+        Reading::ByRows
+    } else {
+        Reading::Nobody
     }
 }

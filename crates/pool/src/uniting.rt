@@ -1,4 +1,4 @@
-//! Stores in blocks, whose lists are put together once a task is to read them.
+//! Stores in blocks, whose lists are put together once a task is to read all of them.
 ghost use Rattle.std.specs.Prelude.{◌≡◌, IfSome};
 ghost use Rattle.std.specs.Arc.{arc_value};
 
@@ -7,40 +7,47 @@ use crate::named::Named;
 use crate::shared::Shared;
 use crate::spares::Spares;
 use crate::tasks::Tasks;
-use calls::Roles;
+use crate::work::ENOUGH_TO_CUT;
+use calls::{Recipe, Role, Roles};
 use desk::{Picker, Ticket, united};
 use journal::{Naming, Note};
+use kernel::reads_all_of;
 use std::alloc::Global;
 use std::sync::{Arc, Wait};
 use std::thread::Threads;
 use store::{Form, Store};
 
-// It is done once, by the calling thread, before the task is there: tasks that read such a store would each make lists
-// of their own. Where memory is refused for it, they do.
+// It is done once, by the calling thread, before the task is there: tasks that read all of such a store would each make
+// lists of their own, and so would those that go along its rows but aren't cut. Where memory is refused for it, they do.
 
-/// Puts the lists of stores together that a task of the calling thread's is to read.
+/// Puts the lists of stores together that a task of the calling thread's is to read in one.
 pub fn unite_own<J: Naming, R: Wait + Threads, P: Picker + Drop>(
     rt: &R,
     alloc: Global,
     named: &Named<J>,
     spares: &Spares,
     own: &mut Tasks<J, P>,
+    recipe: &Recipe,
     inputs: &Roles<&Ticket<Note<J>>>,
 )
     ensures epoch { own.new.epoch ≡ own.old.epoch }
     ensures crew { own.new.crew ≡ own.old.crew }
 {
     if let Some(ticket) = inputs.old {
-        unite_one(rt, alloc, named, spares, own, ticket);
+        let is_whole = reads_all_of(recipe, Role::Old);
+        unite_one(rt, alloc, named, spares, own, ticket, is_whole);
     }
     if let Some(ticket) = inputs.mask {
-        unite_one(rt, alloc, named, spares, own, ticket);
+        let is_whole = reads_all_of(recipe, Role::Mask);
+        unite_one(rt, alloc, named, spares, own, ticket, is_whole);
     }
     if let Some(ticket) = inputs.first {
-        unite_one(rt, alloc, named, spares, own, ticket);
+        let is_whole = reads_all_of(recipe, Role::First);
+        unite_one(rt, alloc, named, spares, own, ticket, is_whole);
     }
     if let Some(ticket) = inputs.second {
-        unite_one(rt, alloc, named, spares, own, ticket);
+        let is_whole = reads_all_of(recipe, Role::Second);
+        unite_one(rt, alloc, named, spares, own, ticket, is_whole);
     }
 }
 
@@ -50,19 +57,24 @@ pub fn unite_shared<J: Naming, R: Wait + Threads, G: Gate + Drop, P: Picker + Dr
     alloc: Global,
     named: &Named<J>,
     shared: &Shared<J, G, P>,
+    recipe: &Recipe,
     inputs: &Roles<&Ticket<Note<J>>>,
 ) {
     if let Some(ticket) = inputs.old {
-        unite_beside(rt, alloc, named, shared, ticket);
+        let is_whole = reads_all_of(recipe, Role::Old);
+        unite_beside(rt, alloc, named, shared, ticket, is_whole);
     }
     if let Some(ticket) = inputs.mask {
-        unite_beside(rt, alloc, named, shared, ticket);
+        let is_whole = reads_all_of(recipe, Role::Mask);
+        unite_beside(rt, alloc, named, shared, ticket, is_whole);
     }
     if let Some(ticket) = inputs.first {
-        unite_beside(rt, alloc, named, shared, ticket);
+        let is_whole = reads_all_of(recipe, Role::First);
+        unite_beside(rt, alloc, named, shared, ticket, is_whole);
     }
     if let Some(ticket) = inputs.second {
-        unite_beside(rt, alloc, named, shared, ticket);
+        let is_whole = reads_all_of(recipe, Role::Second);
+        unite_beside(rt, alloc, named, shared, ticket, is_whole);
     }
 }
 
@@ -74,6 +86,7 @@ fn unite_one<J: Naming, R: Wait + Threads, P: Picker + Drop>(
     spares: &Spares,
     own: &mut Tasks<J, P>,
     ticket: &Ticket<Note<J>>,
+    is_whole: bool,
 )
     ensures epoch { own.new.epoch ≡ own.old.epoch }
     ensures crew { own.new.crew ≡ own.old.crew }
@@ -81,7 +94,7 @@ fn unite_one<J: Naming, R: Wait + Threads, P: Picker + Drop>(
     let Some(Ok(store)) = own.look(&named.log, ticket) else {
         return;
     };
-    let Some(lists) = lists_of(rt, alloc, spares, &store) else {
+    let Some(lists) = lists_of(rt, alloc, spares, &store, is_whole) else {
         return;
     };
     let left = own.renew_store(&named.log, ticket, lists);
@@ -96,6 +109,7 @@ fn unite_beside<J: Naming, R: Wait + Threads, G: Gate + Drop, P: Picker + Drop>(
     named: &Named<J>,
     shared: &Shared<J, G, P>,
     ticket: &Ticket<Note<J>>,
+    is_whole: bool,
 ) {
     let guard = shared.locked.lock(rt);
     let found = guard.look(&named.log, ticket);
@@ -103,7 +117,7 @@ fn unite_beside<J: Naming, R: Wait + Threads, G: Gate + Drop, P: Picker + Drop>(
     let Some(Ok(store)) = found else {
         return;
     };
-    let Some(lists) = lists_of(rt, alloc, &shared.spares, &store) else {
+    let Some(lists) = lists_of(rt, alloc, &shared.spares, &store, is_whole) else {
         return;
     };
     let mut guard = shared.locked.lock(rt);
@@ -113,18 +127,23 @@ fn unite_beside<J: Naming, R: Wait + Threads, G: Gate + Drop, P: Picker + Drop>(
     shared.spares.drop_share(rt, Some(left));
 }
 
-/// The store as lists in one, where it has several and there is memory for that.
+/// The store as lists in one, where it has several and there is memory for that, for a task that reads all of it or, of
+/// so few entries that it isn't cut, each row.
 fn lists_of<R: Wait + Threads>(
     rt: &R,
     alloc: Global,
     spares: &Spares,
     store: &Arc<Store>,
+    is_whole: bool,
 ) -> Option<Arc<Store>>
     ensures { IfSome result (λ lists. arc_value lists ≡ arc_value store.now) }
 {
     let Form::Blocks(blocks) = store.form() else {
         return None;
     };
+    if !is_whole && blocks.nvals() >= ENOUGH_TO_CUT {
+        return None;
+    }
     let room = spares.take_lists(rt, blocks.nvals() as usize);
     let lists = united(rt, alloc, room, blocks).ok()?;
     Arc::new(alloc, lists).ok()

@@ -12,7 +12,7 @@ ghost use Rattle.pool.specs.Outcomes.{AreParts, IsOutcomeFor};
 
 use board::Piece;
 use calls::Recipe;
-use desk::{Joining, Ticket, joined_of, made_of, may_stay_apart, part_of};
+use desk::{Joining, Ticket, entries_in, joined_of, made_of, may_stay_apart, part_of};
 use journal::{Naming, Note};
 use kernel::{Block, VectorProducts};
 use model::NoMemory;
@@ -55,6 +55,21 @@ pub struct Finished<J: Naming> {
     ghost right: { ∥ IsOutcomeFor (object_of ticket.note) (recipe_of spent.recipe) outcome ∥₁ },
 }
 
+/// How tasks that wait for a store are to read it.
+#[derive(Clone, Copy, Debug, PartialEq, Eq)]
+pub enum Reading {
+    /// There is none.
+    Nobody,
+    /// By the rows that they make.
+    ByRows,
+    /// At least one reads all of it.
+    Whole,
+}
+
+/// A task that goes along the rows of a store with so many entries is cut, and its pieces read blocks of the store as
+/// they are; in one piece it would join them.
+pub const ENOUGH_TO_CUT: u64 = 1 << 18;
+
 /// The blocks of all pieces of a task, in the order of their rows, which are to be joined.
 #[derive(Drop)]
 pub struct Joint<J: Naming> {
@@ -62,8 +77,8 @@ pub struct Joint<J: Naming> {
     pub blocks: Vec<Block>,
     /// What the last block was made of; the recipe is that of all.
     pub spent: Piece,
-    /// Whether no task is to read the store, as far as was known when the last block came.
-    pub is_unread: bool,
+    /// How it is to be read, as far as was known when the last block came.
+    pub reading: Reading,
     ghost right: { ∥ AreParts (object_of ticket.note) (recipe_of spent.recipe) blocks.items ∥₁ },
 }
 
@@ -106,9 +121,14 @@ impl<J: Naming> Work<J> {
 }
 
 impl<J: Naming> Joint<J> {
-    /// Whether the lists of the blocks aren't put together until a task is to read them.
+    /// Whether the lists of the blocks aren't put together until a task is to read all of them.
     pub fn stays_apart(&self) -> bool {
-        self.is_unread && may_stay_apart(self.spent.recipe.get(), &self.blocks)
+        let is_worth = match self.reading {
+            Reading::Whole => false,
+            Reading::ByRows => entries_in(&self.blocks) as u64 >= ENOUGH_TO_CUT,
+            Reading::Nobody => true,
+        };
+        is_worth && may_stay_apart(self.spent.recipe.get(), &self.blocks)
     }
 
     /// Joins the blocks. Where their lists are put together, it takes time and memory for their entries, and a second

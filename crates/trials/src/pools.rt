@@ -4,13 +4,14 @@ ghost use Rattle.algebra.specs.declared.domain.Domain.TheVariants.{Int64};
 ghost use Rattle.calls.specs.Recipes.{known_by, known_of};
 ghost use Rattle.calls.specs.Stores.{IsStoreOf};
 ghost use Rattle.calls.specs.declared.role.Role.{Role as AnyRole};
-ghost use Rattle.calls.specs.declared.role.Role.TheVariants.{First};
+ghost use Rattle.calls.specs.declared.role.Role.TheVariants.{First, Old};
 ghost use Rattle.model.specs.Object.{signature_of};
 ghost use Rattle.model.specs.declared.shape.Shape.TheVariants.{Two};
 
 use algebra::{Domain, FunctionName, UnaryKind, UnaryName};
 use calls::{
-    Accepted, Desc, Given, OneInput, Operation, Out, Recipe, Roles, Shape, Signature, straight,
+    Accepted, Desc, Given, OneInput, Operation, Out, Recipe, Resize, Roles, Shape, Signature,
+    straight,
 };
 use desk::Order;
 use journal::{Log, Naming};
@@ -194,6 +195,17 @@ fn taken_over(alloc: Global) -> Result<Recipe, AllocError>
     Ok(straight(accepted))
 }
 
+// A recipe that gives it the shape that it has, for which all of it is read.
+fn resized(alloc: Global) -> Result<Recipe, AllocError>
+    ensures old { IfOk result (λ recipe. known_by recipe Old
+        ≡ Some (record { domain = Int64; shape = Two ROWS COLS })) }
+    ensures others { IfOk result (λ recipe. (role : AnyRole) → role ≢ Old → known_by recipe role ≡ None) }
+{
+    let of = large_signature();
+    let shape = of.shape;
+    Ok(Recipe::Resized(Box::new(alloc, Resize { of, shape })?))
+}
+
 // A ticket of a copy of the large matrix, whose task is cut.
 fn large_ticket<R: Runner>(alloc: Global, runner: &mut R) -> Result<R::Ticket, AllocError>
     ensures { IfOk result (λ ticket. signature_of (R.object_of ticket)
@@ -221,28 +233,34 @@ fn is_copied<R: Runner>(alloc: Global, runner: &mut R) -> Result<bool, AllocErro
     }
 }
 
-// Whether the lists of the copy's pieces stay apart until a task is to read it.
+// Whether the lists of the copy's pieces stay apart where a task reads it row by row, until one is to read all of it.
 fn is_united<R: Runner>(alloc: Global, runner: &mut R) -> Result<bool, AllocError> {
     let ticket = large_ticket(alloc, runner)?;
-    let Ok(blocks) = runner.fetch(&ticket) else {
-        return Ok(false);
-    };
-    let inputs = Roles {
+    let by_rows = Roles {
         first: Some(&ticket),
         ..Roles::none()
     };
+    let copy = runner
+        .submit(taken_over(alloc)?, by_rows)
+        .map_err(|_| AllocError)?;
+    let copied = runner.fetch(&copy).is_ok_and(|store| is_apart(&store));
+    let apart = runner.fetch(&ticket).is_ok_and(|store| is_apart(&store));
     let reader = runner
-        .submit(taken_over(alloc)?, inputs)
+        .submit(resized(alloc)?, Roles::of_old(&ticket))
         .map_err(|_| AllocError)?;
     let Ok(lists) = runner.fetch(&ticket) else {
         return Ok(false);
     };
-    let Ok(copy) = runner.fetch(&reader) else {
-        return Ok(false);
-    };
-    let are_apart = matches!(blocks.form(), Form::Blocks(_));
-    let are_together = matches!(lists.form(), Form::Sparse(_));
-    Ok(are_apart && are_together && lists.nvals() == ROWS && copy.nvals() == ROWS)
+    let whole = runner
+        .fetch(&reader)
+        .is_ok_and(|store| store.nvals() == ROWS);
+    let together = matches!(lists.form(), Form::Sparse(_));
+    Ok(copied && apart && together && whole && lists.nvals() == ROWS)
+}
+
+// Whether a store has the entries of the large matrix, in several lists.
+fn is_apart(store: &Store) -> bool {
+    matches!(store.form(), Form::Blocks(_)) && store.nvals() == ROWS
 }
 
 // Tickets of vectors without entries, each of which is counted once its submission has returned.
