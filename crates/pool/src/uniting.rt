@@ -18,7 +18,8 @@ use std::thread::Threads;
 use store::{Form, Store};
 
 // It is done once, by the calling thread, before the task is there: tasks that read all of such a store would each make
-// lists of their own, and so would those that go along its rows but aren't cut. Where memory is refused for it, they do.
+// lists of their own, and so would those that go along its rows but aren't cut. Where memory is refused for it, they
+// do.
 
 /// Puts the lists of stores together that a task of the calling thread's is to read in one.
 pub fn unite_own<J: Naming, R: Wait + Threads, P: Picker + Drop>(
