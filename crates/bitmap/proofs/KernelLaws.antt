@@ -5,7 +5,7 @@ use Rattle.std.specs.Option.{option_map}
 use Rattle.std.specs.List.{sum, zip}
 use Rattle.std.proofs.lemmas.Bool.{cases_Bool}
 use Rattle.std.proofs.lemmas.Bool.Decides.{nat_tests}
-use Rattle.std.proofs.lemmas.List.{get_or-map, get_or_past, length-map}
+use Rattle.std.proofs.lemmas.List.{ext_get_or, get_or-map, get_or_past, length-map}
 use Rattle.std.proofs.lemmas.Slice.Zip.{length-zip, get_or-zip}
 use Rattle.std.proofs.lemmas.Nat.Bits.{bit_at-lt, bit_at_and, bit_at_or}
 use Rattle.lanes.specs.Bits.{has_bit}
@@ -65,6 +65,15 @@ either_bit xs ys k same =
     let i = k % 64 in
     ap (λ n. eqb (bit_at n i) 1) (zip_with_at bit_or xs ys (k / 64) same refl)
     ∙ ap (λ n. eqb n 1) (bit_at_or a b i) ∙ max_one (bit_at a i) (bit_at b i) (bit_at-lt a i) (bit_at-lt b i)
+
+-- words that are what both lists have, one by one
+pub cleared : (xs ys zs : List ℕ) → length ys ≡ length xs → length zs ≡ length xs
+    → ((k : ℕ) → k < length xs → get_or zs k 0 ≡ bit_and (get_or xs k 0) (get_or ys k 0)) → zs ≡ zip_with bit_and xs ys
+cleared xs ys zs same long each =
+    ext_get_or 0 zs (zip_with bit_and xs ys) (long ∙ sym (length-zip_with bit_and xs ys same))
+    (λ k within.
+    let inside : k < length xs = omega (arith, long) in
+    each k inside ∙ sym (get_or-zip_with bit_and xs ys k same inside))
 
 -- ---- places
 

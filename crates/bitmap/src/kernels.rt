@@ -1,6 +1,6 @@
 //! What is done to all words of a bitmap at once, 64 places to a word of bits.
 ghost use Rattle.std.specs.Prelude.{◌≡◌, ◌<◌, ◌≤◌, ◌*◌, ◌/◌, ◌+◌, ◌^◌, ℕ, if◌then◌else◌, IfOk, None, Some, false};
-ghost use Rattle.std.specs.Prelude.{length, map, slice_index};
+ghost use Rattle.std.specs.Prelude.{bit_and, length, map, slice_index};
 ghost use Rattle.std.specs.Option.{option_map};
 ghost use Rattle.algebra.specs.Operators.{answer_domain, eval_of};
 ghost use Rattle.algebra.specs.Value.{cast_of};
@@ -107,6 +107,18 @@ impl Bitmap {
         })
     }
 
+    /// Drops the entries at the places whose bits aren't set.
+    pub fn retain(&mut self, keeps: &[u64])
+        requires { length keeps.now ≡ self.old.rows * self.old.cols / 64 + 1 }
+        ensures rows { self.new.rows ≡ self.old.rows }
+        ensures cols { self.new.cols ≡ self.old.cols }
+        ensures content { (i j : ℕ) → word_at self.new.entries i j
+            ≡ (if has_bit keeps.now (place_of self.old.cols i j) then word_at self.old.entries i j else None) }
+    {
+        clear_others(&mut self.bits, keeps);
+        self.count = count_ones(&self.bits);
+    }
+
     /// What the operator gives where both bitmaps have an entry, and nothing elsewhere.
     pub fn intersect<M: WordMaker>(
         maker: &M,
@@ -177,5 +189,17 @@ impl Bitmap {
             words,
             ..*a
         })
+    }
+}
+
+/// Clears the bits that aren't set in other words.
+fn clear_others(bits: &mut [u64], keeps: &[u64])
+    requires { length keeps.now ≡ length bits.old }
+    ensures length { length bits.new ≡ length bits.old }
+    ensures words { (k : ℕ) → k < length bits.old
+        → slice_index bits.new k ≡ bit_and (slice_index bits.old k) (slice_index keeps.now k) }
+{
+    for at in 0..bits.len() {
+        bits[at] &= keeps[at];
     }
 }

@@ -45,8 +45,8 @@ impl<'a, R> SeveralThreads<'a, R> {
         SeveralThreads::with_spare(starter, others, None)
     }
 
-    /// The same, with a list that nobody needs any more: words that several threads make next lie in its memory, where
-    /// it has room for them. What it holds doesn't matter.
+    /// The same, with a list that nobody needs any more: the words that are made next lie in its memory, where it has
+    /// room for them. What it holds doesn't matter.
     pub fn with_spare(
         starter: &'a R,
         others: u64,
@@ -74,20 +74,17 @@ impl<'a, R> SeveralThreads<'a, R> {
         self.others
     }
 
-    /// So many words, whatever they are: those of the list that nobody needs, where it has room for them and for less
-    /// than twice as many, and else zeros.
-    fn any_words(&self, alloc: Global, places: usize) -> Result<Vec<u64>, NoMemory>
-        ensures { IfOk result (λ words. length words.items ≡ places) }
-    {
-        let mut words = match self.spare.replace(None) {
-            Some(spare) if spare.capacity() >= places && spare.capacity() / 2 < places => spare,
+    /// The list that nobody needs, where it has room for so many words and for less than twice as many.
+    fn spare_for(&self, places: usize) -> Option<Vec<u64>> {
+        match self.spare.replace(None) {
+            Some(spare) if spare.capacity() >= places && spare.capacity() / 2 < places => {
+                Some(spare)
+            }
             other => {
                 self.spare.set(other);
-                Vec::new(alloc)
+                None
             }
-        };
-        words.resize(places, 0)?;
-        Ok(words)
+        }
     }
 }
 
@@ -95,13 +92,15 @@ impl<'a, R: Threads> WordMaker for SeveralThreads<'a, R> {
     fn make(&self, alloc: Global, words: Words<'_>) -> Result<Vec<u64>, NoMemory> {
         let places = words.places();
         let parts = (words.read() / WORTH_A_THREAD) as u64;
-        let parts = parts.min(self.others.saturating_add(1)) as usize;
-        if parts < 2 {
+        let parts = parts.min(self.others.saturating_add(1)).max(1) as usize;
+        let spare = self.spare_for(places);
+        if parts == 1 && spare.is_none() {
             return make_alone(alloc, words);
         }
 
-        // Where several threads write, there have to be words beforehand.
-        let mut made = self.any_words(alloc, places)?;
+        // Where several threads write, there have to be words beforehand: any, since all are written.
+        let mut made = spare.unwrap_or(Vec::new(alloc));
+        made.resize(places, 0)?;
         fill_beside(
             self.starter,
             words,
