@@ -13,6 +13,7 @@ pub mod MarkedLaws
 mod Merges
 mod Merging
 mod PairLaws
+mod ReadBits
 pub mod SameEnds
 pub mod SamePlaces
 mod SparseLaws

@@ -1,8 +1,9 @@
 //! Masks whose store is a bitmap, and what they keep of the entries of a column, in the same memory.
 ghost use Rattle.std.specs.Prelude.{◌≡◌, ℕ, ◌<◌, ◌≤◌, ◌+◌, ◌-◌, ◌*◌, ◌^◌, ◌==◌, ◌∷◌, [], if◌then◌else◌};
-ghost use Rattle.std.specs.Prelude.{None, length, take};
+ghost use Rattle.std.specs.Prelude.{IfErr, None, OnOk, length, take};
 ghost use Rattle.std.specs.Int.{bit_at};
 ghost use Rattle.std.specs.List.{filter};
+ghost use Rattle.lanes.specs.Bits.{has_bit};
 ghost use Rattle.model.specs.Entries.{word_at};
 ghost use Rattle.store.specs.Fibers.{end_at, entries_along};
 ghost use Rattle.store.specs.Stored.{block_content, transposed};
@@ -11,6 +12,8 @@ ghost use Rattle.masks.specs.Masks.{lets_word};
 
 use crate::MaskTest;
 use bitmap::Bitmap;
+use model::NoMemory;
+use std::alloc::Global;
 use store::{FiberEnd, RowBlock};
 
 /// The positions that a column as a bitmap lets through, for whoever asks for each.
@@ -64,6 +67,39 @@ impl MarkedMask<'_> {
             bits |= (self.lets(first + k) as u64) << k;
         }
         bits
+    }
+
+    /// Reads which rows are let through, so many words of bits from the first row on.
+    pub fn read_bits(self, bits: &mut Vec<u64>, words: usize) -> Result<(), NoMemory>
+        requires column { self.bitmap.now.cols ≡ 1 }
+        requires small { words < 2 ^ 58 }
+        ensures length { OnOk result (length bits.new.items ≡ words) }
+        ensures bits { OnOk result ((at : ℕ) → at < 64 * words → has_bit bits.new.items at
+            ≡ lets_word self.entry.test (word_at self.entry.bitmap.now.entries at 0)) }
+    {
+        bits.clear();
+        bits.reserve(words)?;
+        for at in 0..words {
+            bits.push(self.let_bits(at))?;
+        }
+        Ok(())
+    }
+
+    /// Drops the entries of a column that aren't let through; all stay where memory is refused.
+    pub fn keep_column(self, alloc: Global, column: &mut Bitmap) -> Result<(), NoMemory>
+        requires mask { self.bitmap.now.cols ≡ 1 }
+        requires column { column.old.cols ≡ 1 }
+        ensures rows { column.new.rows ≡ column.old.rows }
+        ensures cols { column.new.cols ≡ column.old.cols }
+        ensures content { OnOk result ((i j : ℕ) → word_at column.new.entries i j
+            ≡ (if lets_word self.entry.test (word_at self.entry.bitmap.now.entries i j)
+            then word_at column.old.entries i j else None)) }
+        ensures refused { IfErr result (λ _. column.new ≡ column.old) }
+    {
+        let mut bits = Vec::new(alloc);
+        self.read_bits(&mut bits, column.rows() as usize / 64 + 1)?;
+        column.retain(&bits);
+        Ok(())
     }
 
     /// Brings the entries of a column that are let through to the front of its lists, and answers how many there are.

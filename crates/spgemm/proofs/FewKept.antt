@@ -1,12 +1,8 @@
 -- Sums of products of which only those at columns that are kept are added.
-use Rattle.std.proofs.Common.{◌≡◌, ℕ, ◌+◌, ◌*◌, ◌/◌, ◌<◌, Bool, List, [], ◌∷◌, ◌++◌, ◌%◌, get_or, length, take, refl, sym, ◌∙◌, ap, subst, append_assoc, inl, inr, eqb, arith}
-use Rattle.std.specs.Int.{bit_at}
+use Rattle.std.proofs.Common.{◌≡◌, ℕ, ◌+◌, ◌<◌, Bool, List, [], ◌∷◌, ◌++◌, get_or, length, take, refl, sym, ◌∙◌, ap, subst, append_assoc}
 use Rattle.std.specs.List.{All}
-use Rattle.std.proofs.lemmas.Bool.{cases_eq}
-use Rattle.std.proofs.lemmas.List.{get_or_append_left, get_or_at, length-append}
 use Rattle.std.proofs.lemmas.List.Elements.{All-head, All-tail, filter-append}
 use Rattle.algebra.specs.declared.binary.BinaryOp.{BinaryOp}
-use Rattle.lanes.specs.Bits.{has_bit}
 use Rattle.model.specs.declared.entry.Entry.{Entry}
 use Rattle.spgemm.specs.declared.term.Term.{Term}
 use Rattle.spgemm.specs.Dense.{AreColumnSums}
@@ -38,27 +34,3 @@ pub kept_alike : (f g : ℕ → Bool) (past : ℕ) (terms : List Term) → ((at 
 kept_alike f g past [] same below = refl
 kept_alike f g past (t ∷ ts) same below =
     rw (same t.col (All-head (λ t. t.col < past) t ts below), kept_alike f g past ts same (All-tail (λ t. t.col < past) t ts below)) refl
-
--- the bits of the first so many words are those of the columns that are kept
-pub record AreRead (keeps : ℕ → Bool) (bits : List ℕ) (words : ℕ) : Type 0 where
-  pub long : length bits ≡ words
-  pub are : (at : ℕ) → at < 64 * words → has_bit bits at ≡ keeps at
-
--- a word of them more
-pub read_more : (keeps : ℕ → Bool) (bits : List ℕ) (words word : ℕ) → AreRead keeps bits words
-    → ((k : ℕ) → k < 64 → eqb (bit_at word k) 1 ≡ keeps (64 * words + k)) → AreRead keeps (bits ++ word ∷ []) (words + 1)
-read_more keeps bits words word here lets = record {
-  long = let long = here.long in let more = length-append bits (word ∷ []) in omega arith;
-  are = λ at less.
-      let long = here.long in
-      let k = at % 64 in
-      elim (cases_eq (at / 64) words) [
-        | inl same ↦
-            let there : get_or (bits ++ word ∷ []) (at / 64) 0 ≡ word = ap (λ n. get_or (bits ++ word ∷ []) n 0) same ∙ get_or_at bits word [] 0 words long in
-            let place : 64 * words + k ≡ at = omega arith in
-            rw there (lets k (omega arith) ∙ ap keeps place)
-        | inr other ↦
-            let before : at / 64 < length bits = omega arith in
-            rw (get_or_append_left bits (word ∷ []) 0 (at / 64) before) (here.are at (omega arith))
-      ];
-}

@@ -22,25 +22,6 @@ use store::{FiberLists, Row, RowHints, Sparse};
 /// takes less than to add what is dropped later. Where it keeps more, what can't be foreseen costs more than the sums.
 const COLUMNS_A_KEPT: u64 = 32;
 
-/// Reads which of the columns of so many words of bits the mask lets through; these are rows of its own column.
-pub(crate) fn read_columns(
-    kept: &mut Vec<u64>,
-    mask: MarkedMask<'_>,
-    words: usize,
-) -> Result<(), NoMemory>
-    requires mask { mask.bitmap.now.cols ≡ 1 }
-    requires small { words < 2 ^ 58 }
-    ensures length { OnOk result (length kept.new.items ≡ words) }
-    ensures bits { OnOk result ((at : ℕ) → at < 64 * words → has_bit kept.new.items at ≡ keeps_marked mask.entry at) }
-{
-    kept.clear();
-    kept.reserve(words)?;
-    for at in 0..words {
-        kept.push(mask.let_bits(at))?;
-    }
-    Ok(())
-}
-
 /// Whether so few of so many columns are kept that it pays to ask first.
 pub(crate) fn keeps_few(kept: &[u64], cols: u64) -> bool
     requires { 64 * length kept.now < 2 ^ 64 }

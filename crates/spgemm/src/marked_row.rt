@@ -8,7 +8,7 @@ ghost use Rattle.spgemm.specs.Products.{HasOpenRow, HasRow};
 ghost use Rattle.spgemm.specs.Terms.{AreFirstTerms, kept_terms, terms_of_row};
 
 use crate::dense::fit;
-use crate::few_kept::{keeps_few, read_columns, sum_few};
+use crate::few_kept::{keeps_few, sum_few};
 use crate::row::{Scratch, collect_terms, sum_in_places, sum_terms};
 use crate::term::Term;
 use algebra::Semiring;
@@ -103,7 +103,8 @@ fn sum_marked_places(
         ..
     } = scratch;
     fit(bits, sums, b.cols())?;
-    read_columns(kept, mask, bits.len())?;
+    // The columns are rows of the mask's own column.
+    mask.read_bits(kept, bits.len())?;
     if keeps_few(kept, b.cols()) {
         return sum_few(lists, bits, sums, kept, row, b, hints, semiring);
     }
