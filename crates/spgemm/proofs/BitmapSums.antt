@@ -1,5 +1,5 @@
 -- The sums of a product in a place for each column, as a bitmap.
-use Rattle.std.proofs.Common.{◌≡◌, ◌≢◌, ℕ, ◌/◌, ◌%◌, ◌<◌, ◌≤◌, true, false, cond, ◌&&◌, ltb, Bool, List, length, get_or, take, Some, None, refl, sym, ◌∙◌, ap, inl, inr, arith}
+use Rattle.std.proofs.Common.{◌≡◌, ◌≢◌, ℕ, ◌/◌, ◌%◌, ◌*◌, ◌<◌, ◌≤◌, true, false, cond, ◌&&◌, ltb, Bool, List, length, get_or, take, Some, None, refl, sym, ◌∙◌, ap, inl, inr, arith}
 use Rattle.std.specs.List.{reduce}
 use Rattle.std.proofs.lemmas.Bool.{cases_Bool, cases_lt}
 use Rattle.std.proofs.lemmas.Bool.Decides.{nat_tests}
@@ -20,6 +20,7 @@ use Rattle.store.proofs.Content.{nothing_outside}
 use Rattle.spgemm.specs.declared.term.Term.{Term}
 use Rattle.spgemm.specs.Dense.{AreColumnSums, HaveRoom}
 use Rattle.spgemm.specs.Terms.{apply, sum_at, terms_of_row}
+use Rattle.spgemm.specs.Truths.{AreTruths, truth}
 use Rattle.spgemm.proofs.Kept.{terms_inside}
 use Rattle.spgemm.proofs.Product.{no_factor, no_product, row_product}
 use Rattle.spgemm.proofs.Terms.{words_at-none}
@@ -41,6 +42,15 @@ pub none_behind : (op mul : BinaryOp) (row : List Entry) (b : Stored) (bits word
 none_behind op mul row b bits words room here at past =
     elim (cases_lt at (length words)) [
       | inl inside ↦ no_word (has_bit bits at) (get_or words at 0) (here.sums_are at inside ∙ no_sum op mul row b at past)
+      | inr behind ↦ rw (get_or_past bits (at / 64) 0 (omega arith), bit_at-zero (at % 64)) refl
+    ]
+
+-- ..over LOR
+pub no_truth_behind : (op mul : BinaryOp) (row : List Entry) (b : Stored) (bits trues : List ℕ)
+    → AreTruths op (terms_of_row mul row b) bits trues → (at : ℕ) → b.cols ≤ at → has_bit bits at ≡ false
+no_truth_behind op mul row b bits trues here at past =
+    elim (cases_lt at (64 * length bits)) [
+      | inl inside ↦ no_word (has_bit bits at) (truth (has_bit trues at)) (here.sums_are at inside ∙ no_sum op mul row b at past)
       | inr behind ↦ rw (get_or_past bits (at / 64) 0 (omega arith), bit_at-zero (at % 64)) refl
     ]
 

@@ -1,11 +1,10 @@
 -- A walk along some rows of B, beside a vector that is asked at each of them.
-use Rattle.std.proofs.Common.{◌≡◌, ℕ, zero, suc, ◌+◌, ◌-◌, ◌≤◌, Bool, List, [], ◌∷◌, ◌++◌, Option, None, Some, append-nil, refl, sym, ◌∙◌, ap, subst, arith}
+use Rattle.std.proofs.Common.{◌≡◌, ℕ, zero, suc, ◌+◌, ◌-◌, ◌≤◌, List, [], ◌∷◌, ◌++◌, Option, None, Some, append-nil, refl, sym, ◌∙◌, ap, subst, arith}
 use Rattle.std.specs.List.{cons_option, filter_map}
 use Rattle.std.specs.Option.{option_map}
 use Rattle.std.proofs.lemmas.Grind.{flat_map-append}
 use Rattle.std.proofs.lemmas.List.Elements.{filter_map-append}
 use Rattle.algebra.specs.declared.binary.BinaryOp.{BinaryOp}
-use Rattle.algebra.specs.declared.semiring.Semiring.{Semiring}
 use Rattle.bitmap.specs.Bitmaps.{row_part}
 use Rattle.model.specs.declared.entry.Entry.{Entry}
 use Rattle.model.specs.Entries.{count_from, entries_between, entry_at, row_entries}
@@ -14,7 +13,6 @@ use Rattle.store.specs.Fibers.{entries_along}
 use Rattle.store.specs.Stored.{Stored, content_of}
 use Rattle.store.specs.Walks.{IsFirstRow}
 use Rattle.spgemm.specs.declared.term.Term.{Term}
-use Rattle.spgemm.specs.Dense.{AreMarkedSums}
 use Rattle.spgemm.specs.Terms.{terms_of_row, times_found, times_row}
 use Rattle.spgemm.proofs.Terms.{times_any}
 use Rattle.spgemm.proofs.WalkLaws.{AreEmpty, AreLeftFrom, left_all, left_none, next_row}
@@ -92,36 +90,34 @@ columns_past op c b first low past le empty =
 -- ---- the walk
 
 -- of so many columns from first on the terms of some are summed, and of B the rows behind them are left
-pub record IsWalkedAcross (semiring : Semiring) (c : Content) (b : Stored) (first past : ℕ) (marks : List Bool)
-    (sums : List ℕ) (rest : List Entry) : Type 0 where
+pub record IsWalkedAcross (op : BinaryOp) (c : Content) (b : Stored) (first past : ℕ) (AreSums : List Term → Type 0)
+    (rest : List Entry) : Type 0 where
   pub done : ℕ
   pub le : first + done ≤ past
   pub left : AreLeftFrom b (first + done) past rest
-  pub sums_are : AreMarkedSums semiring.add (terms_of_row semiring.multiply (row_part c 0 first done) b) marks sums
+  pub sums_are : AreSums (terms_of_row op (row_part c 0 first done) b)
 
-pub across_none : (semiring : Semiring) (c : Content) (b : Stored) (first past : ℕ) (marks : List Bool)
-    (sums : List ℕ) (rest : List Entry) → first ≤ past → rest ≡ entries_between first past b.cols (content_of b)
-    → AreMarkedSums semiring.add [] marks sums → IsWalkedAcross semiring c b first past marks sums rest
+pub across_none : (op : BinaryOp) (c : Content) (b : Stored) (first past : ℕ) (AreSums : List Term → Type 0)
+    (rest : List Entry) → first ≤ past → rest ≡ entries_between first past b.cols (content_of b) → AreSums []
+    → IsWalkedAcross op c b first past AreSums rest
 unfolding count_from
-across_none semiring c b first past marks sums rest order is here =
+across_none op c b first past AreSums rest order is here =
     let from : first + 0 ≡ first = omega arith in
     record { done = 0; le = omega arith; left = rw (is, from) (left_all b first past); sums_are = here }
 
-pub across_next : (semiring : Semiring) (c : Content) (b : Stored) (first past : ℕ) (marks : List Bool)
-    (sums : List ℕ) (rest : List Entry) (line : ℕ) (line_cols line_words : List ℕ) (others : List Entry)
-    → IsWalkedAcross semiring c b first past marks sums rest → IsFirstRow line line_cols line_words rest others
+pub across_next : (op : BinaryOp) (c : Content) (b : Stored) (first past : ℕ) (AreSums : List Term → Type 0)
+    (rest : List Entry) (line : ℕ) (line_cols line_words : List ℕ) (others : List Entry)
+    → IsWalkedAcross op c b first past AreSums rest → IsFirstRow line line_cols line_words rest others
     → entries_along line line_cols line_words ≡ row_entries b.cols (content_of b) line
-across_next semiring c b first past marks sums rest line line_cols line_words others here starts =
+across_next op c b first past AreSums rest line line_cols line_words others here starts =
     let next = next_row b (first + here.done) past line line_cols line_words rest others here.left starts in next.entries
 
-pub across_more : (semiring : Semiring) (c : Content) (b : Stored) (first past : ℕ) (marks : List Bool)
-    (sums : List ℕ) (rest : List Entry) (line : ℕ) (line_cols line_words : List ℕ) (others : List Entry)
-    (marks' : List Bool) (sums' : List ℕ) → IsWalkedAcross semiring c b first past marks sums rest
-    → IsFirstRow line line_cols line_words rest others
-    → ((terms : List Term) → AreMarkedSums semiring.add terms marks sums → AreMarkedSums semiring.add (terms ++ times_found semiring.multiply (c 0 line) (entries_along 0 line_cols line_words)) marks' sums')
-    → IsWalkedAcross semiring c b first past marks' sums' others
-across_more semiring c b first past marks sums rest line line_cols line_words others marks' sums' here starts add =
-    let op = semiring.multiply in
+pub across_more : (op : BinaryOp) (c : Content) (b : Stored) (first past : ℕ) (AreSums AreSums' : List Term → Type 0)
+    (rest : List Entry) (line : ℕ) (line_cols line_words : List ℕ) (others : List Entry)
+    → IsWalkedAcross op c b first past AreSums rest → IsFirstRow line line_cols line_words rest others
+    → ((terms : List Term) → AreSums terms → AreSums' (terms ++ times_found op (c 0 line) (entries_along 0 line_cols line_words)))
+    → IsWalkedAcross op c b first past AreSums' others
+across_more op c b first past AreSums AreSums' rest line line_cols line_words others here starts add =
     let next = next_row b (first + here.done) past line line_cols line_words rest others here.left starts in
     let count = line - first in
     let at : first + count ≡ line = omega (arith, next.above) in
@@ -139,13 +135,13 @@ across_more semiring c b first past marks sums rest line line_cols line_words ot
       done = count + 1;
       le = omega (arith, next.below, at);
       left = rw behind next.others_left;
-      sums_are = subst (λ ts. AreMarkedSums semiring.add ts marks' sums') (sym more) (add sofar here.sums_are);
+      sums_are = subst AreSums' (sym more) (add sofar here.sums_are);
     }
 
-pub across_all : (semiring : Semiring) (c : Content) (b : Stored) (first past : ℕ) (marks : List Bool)
-    (sums : List ℕ) (rest : List Entry) → IsWalkedAcross semiring c b first past marks sums rest → rest ≡ []
-    → AreMarkedSums semiring.add (terms_of_row semiring.multiply (row_part c 0 first (past - first)) b) marks sums
-across_all semiring c b first past marks sums rest here none =
+pub across_all : (op : BinaryOp) (c : Content) (b : Stored) (first past : ℕ) (AreSums : List Term → Type 0)
+    (rest : List Entry) → IsWalkedAcross op c b first past AreSums rest → rest ≡ []
+    → AreSums (terms_of_row op (row_part c 0 first (past - first)) b)
+across_all op c b first past AreSums rest here none =
     let all : first + (past - first) ≡ past = omega (arith, here.le) in
-    subst (λ ts. AreMarkedSums semiring.add ts marks sums)
-    (sym (columns_past semiring.multiply c b first here.done (past - first) (omega (arith, here.le)) (rw all (left_none b (first + here.done) past rest here.left none)))) here.sums_are
+    subst AreSums
+    (sym (columns_past op c b first here.done (past - first) (omega (arith, here.le)) (rw all (left_none b (first + here.done) past rest here.left none)))) here.sums_are

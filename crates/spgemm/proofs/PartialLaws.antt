@@ -9,6 +9,7 @@ use Rattle.algebra.proofs.Words.{IsWordOf-eval}
 use Rattle.algebra.specs.Monoids.{identity_of}
 use Rattle.algebra.specs.Operators.{combines_by, offers}
 use Rattle.algebra.specs.Value.{IsWordOf}
+use Rattle.algebra.specs.declared.kinds.MonoidKind.TheVariants.{Lor}
 use Rattle.algebra.specs.declared.monoid.Monoid.{Monoid}
 use Rattle.algebra.specs.declared.semiring.Semiring.{Semiring}
 use Rattle.bitmap.specs.Bitmaps.{row_part}
@@ -19,12 +20,17 @@ use Rattle.model.specs.Object.{transposed_content}
 use Rattle.store.specs.Stored.{Stored, content_of}
 use Rattle.spgemm.specs.declared.bitmap_sums.Factors.{Factors}
 use Rattle.spgemm.specs.declared.bitmap_sums.Sums.{Sums}
+use Rattle.spgemm.specs.declared.bitmap_sums.Sums.TheVariants.{Truths, Words}
+use Rattle.spgemm.specs.declared.bitmap_truths.TruthSums.{TruthSums}
+use Rattle.spgemm.specs.declared.bitmap_words.WordSums.{WordSums}
 use Rattle.spgemm.specs.declared.term.Term.{Term}
 use Rattle.spgemm.specs.Dense.{AreColumnSums, AreMarkedSums}
-use Rattle.spgemm.specs.Partials.{AreSumsOf}
+use Rattle.spgemm.specs.Partials.{AreAlike, AreSumsOf, AreTruthsOf, AreWordsOf, terms_between}
 use Rattle.spgemm.specs.Terms.{apply, term_at, terms_of_row, times_row, words_at}
 use Rattle.spgemm.proofs.BitmapWalk.{terms_append}
+use Rattle.spgemm.specs.Truths.{AreTruths, truth}
 use Rattle.spgemm.proofs.Terms.{reduce-none, words_at-append}
+use Rattle.spgemm.proofs.TruthLaws.{lor_either, on_bool}
 
 -- ---- the words of products
 
@@ -152,35 +158,107 @@ sums_together semiring low high b marks others marks' words adds words' long lon
           summed col within ∙ rw (front.others_are col within both.0, back.others_are col (omega arith) both.1) (first_identity add (identity_of add.kind add.op.domain) (identity_is_word add));
     }
 
--- ..of rows of A side by side
-pub parts_together : (f : Factors) (first cut past : ℕ) (low high sums : Sums) → first ≤ cut → cut ≤ past
-    → AreSumsOf f first cut low → AreSumsOf f cut past high → length sums.marks.items ≡ f.places
-    → length sums.words.items ≡ f.places
-    → ((at : ℕ) → at < length low.words.items → get_or sums.marks.items at false ≡ (get_or low.marks.items at false || get_or high.marks.items at false))
-    → ((at : ℕ) → at < length low.words.items → get_or sums.words.items at 0 ≡ apply f.semiring.add.op (get_or low.words.items at 0) (get_or high.words.items at 0))
-    → AreSumsOf f first past sums
-parts_together f first cut past low high sums le le' front back marks_long words_long marked summed =
-    let mul = f.semiring.multiply in
-    let c = transposed_content (word_at f.u.now.entries) in
-    let a = f.a.now in
-    let m = cut - first in
-    let n = past - cut in
-    let at : first + m ≡ cut = omega arith in
-    let all : past - first ≡ m + n = omega arith in
-    let whole : terms_of_row mul (row_part c 0 first (past - first)) a ≡ terms_of_row mul (row_part c 0 first m) a ++ terms_of_row mul (row_part c 0 cut n) a =
-    ap (λ k. terms_of_row mul (row_part c 0 first k) a) all ∙ terms_append mul c a first m n ∙ ap (λ k. terms_of_row mul (row_part c 0 first m) a ++ terms_of_row mul (row_part c 0 k n) a) at in
+-- ..over LOR
+truths_together : (semiring : Semiring) (low high : List Entry) (b : Stored) (bits trues others adds bits' trues' : List ℕ)
+    → semiring.add.kind ≡ Lor → length others ≡ length bits → length bits' ≡ length bits
+    → ((at : ℕ) → has_bit bits' at ≡ (has_bit bits at || has_bit others at))
+    → ((at : ℕ) → has_bit trues' at ≡ (has_bit trues at || has_bit adds at))
+    → AreTruths semiring.add.op (terms_of_row semiring.multiply low b) bits trues
+    → AreTruths semiring.add.op (terms_of_row semiring.multiply high b) others adds
+    → AreTruths semiring.add.op (terms_of_row semiring.multiply low b ++ terms_of_row semiring.multiply high b) bits' trues'
+truths_together semiring low high b bits trues others adds bits' trues' lor long long' met true_ front back =
+    let add = semiring.add in
+    let ts = terms_of_row semiring.multiply low b in
+    let us = terms_of_row semiring.multiply high b in
+    let on = on_bool add lor in
+    let zero : identity_of add.kind add.op.domain ≡ truth false = rw lor refl in
     record {
-      mark_each = marks_long;
-      word_each = words_long;
-      sums_are = subst (λ ts. AreMarkedSums f.semiring.add ts sums.marks.items sums.words.items) (sym whole)
-          (sums_together f.semiring (row_part c 0 first m) (row_part c 0 cut n) a low.marks.items high.marks.items sums.marks.items low.words.items high.words.items sums.words.items
-          (back.word_each ∙ sym front.word_each) (words_long ∙ sym front.word_each) marked summed front.sums_are back.sums_are);
+      sums_are = λ col within.
+          let m = has_bit bits col in
+          let n = has_bit others col in
+          let p = has_bit trues col in
+          let q = has_bit adds col in
+          rw (met col, true_ col)
+          (ap (λ w. cond (m || n) (Some w) None) (sym (lor_either add.op p q on.0 on.1))
+          ∙ place_sum add (words_at col ts) (words_at col us) m n (truth p) (truth q)
+          (sums_of_words semiring col low b) (sums_of_words semiring col high b) (front.sums_are col (omega arith)) (back.sums_are col (omega arith))
+          (λ none. ap truth (front.others_are col none) ∙ sym zero) (λ none. ap truth (back.others_are col none) ∙ sym zero)
+          ∙ ap (reduce (apply add.op)) (sym (words_at-append col ts us)));
+      others_are = λ col none.
+          let both = none_marked (has_bit bits col) (has_bit others col) (sym (met col) ∙ none) in
+          true_ col ∙ rw (front.others_are col both.0, back.others_are col both.1) refl;
     }
 
--- ..of all rows
-pub all_sums : (f : Factors) (past : ℕ) (sums : Sums) → AreSumsOf f 0 past sums
-    → AreMarkedSums f.semiring.add (terms_of_row f.semiring.multiply (row_entries past (transposed_content (word_at f.u.now.entries)) 0) f.a.now) sums.marks.items sums.words.items
-all_sums f past sums here = let all : past - 0 ≡ past = omega arith in rw all at here.sums_are
+-- ---- rows of A side by side
+
+module _ (f : Factors) (first cut past : ℕ) (le : first ≤ cut) (le' : cut ≤ past) where
+  terms_beside : terms_between f first past ≡ terms_between f first cut ++ terms_between f cut past
+  terms_beside =
+      let mul = f.semiring.multiply in
+      let c = transposed_content (word_at f.u.now.entries) in
+      let a = f.a.now in
+      let m = cut - first in
+      let n = past - cut in
+      let at : first + m ≡ cut = omega arith in
+      let all : past - first ≡ m + n = omega arith in
+      ap (λ k. terms_of_row mul (row_part c 0 first k) a) all ∙ terms_append mul c a first m n
+      ∙ ap (λ k. terms_of_row mul (row_part c 0 first m) a ++ terms_of_row mul (row_part c 0 k n) a) at
+
+  pub words_beside : (low high sums : WordSums) → AreWordsOf f (terms_between f first cut) low
+      → AreWordsOf f (terms_between f cut past) high → length sums.marks.items ≡ length low.marks.items
+      → length sums.words.items ≡ length low.words.items
+      → ((at : ℕ) → at < length low.words.items → get_or sums.marks.items at false ≡ (get_or low.marks.items at false || get_or high.marks.items at false))
+      → ((at : ℕ) → at < length low.words.items → get_or sums.words.items at 0 ≡ apply f.semiring.add.op (get_or low.words.items at 0) (get_or high.words.items at 0))
+      → AreWordsOf f (terms_between f first past) sums
+  words_beside low high sums front back marks_long words_long marked summed =
+      let c = transposed_content (word_at f.u.now.entries) in
+      record {
+        other = front.other;
+        mark_each = marks_long ∙ front.mark_each;
+        word_each = words_long ∙ front.word_each;
+        sums_are = subst (λ ts. AreMarkedSums f.semiring.add ts sums.marks.items sums.words.items) (sym terms_beside)
+            (sums_together f.semiring (row_part c 0 first (cut - first)) (row_part c 0 cut (past - cut)) f.a.now low.marks.items high.marks.items sums.marks.items low.words.items high.words.items sums.words.items
+            (back.word_each ∙ sym front.word_each) words_long marked summed front.sums_are back.sums_are);
+      }
+
+  pub truths_beside : (low high sums : TruthSums) → AreTruthsOf f (terms_between f first cut) low
+      → AreTruthsOf f (terms_between f cut past) high → length sums.bits.items ≡ length low.bits.items
+      → length sums.trues.items ≡ length low.trues.items
+      → ((at : ℕ) → has_bit sums.bits.items at ≡ (has_bit low.bits.items at || has_bit high.bits.items at))
+      → ((at : ℕ) → has_bit sums.trues.items at ≡ (has_bit low.trues.items at || has_bit high.trues.items at))
+      → AreTruthsOf f (terms_between f first past) sums
+  truths_beside low high sums front back bits_long trues_long met true_ =
+      let c = transposed_content (word_at f.u.now.entries) in
+      let bit_each = front.bit_each in
+      let other_each = back.bit_each in
+      let true_each = front.true_each in
+      record {
+        lor = front.lor;
+        bit_each = omega arith;
+        true_each = omega arith;
+        sums_are = subst (λ ts. AreTruths f.semiring.add.op ts sums.bits.items sums.trues.items) (sym terms_beside)
+            (truths_together f.semiring (row_part c 0 first (cut - first)) (row_part c 0 cut (past - cut)) f.a.now low.bits.items low.trues.items high.bits.items high.trues.items sums.bits.items sums.trues.items
+            front.lor (omega arith) bits_long met true_ front.sums_are back.sums_are);
+      }
+
+-- they are in one form
+pub are_alike : (f : Factors) (first cut past : ℕ) (low high : Sums) → AreSumsOf f first cut low
+    → AreSumsOf f cut past high → AreAlike low high
+are_alike f first cut past (Words low) (Words high) front back =
+    (back.mark_each ∙ sym front.mark_each, (back.word_each ∙ sym front.word_each, front.mark_each ∙ sym front.word_each))
+are_alike f first cut past (Truths low) (Truths high) front back =
+    let bit_each = front.bit_each in
+    let other_bit_each = back.bit_each in
+    let true_each = front.true_each in
+    let other_true_each = back.true_each in
+    (omega arith, omega arith)
+are_alike f first cut past (Words low) (Truths high) front back = absurd (front.other back.lor)
+are_alike f first cut past (Truths low) (Words high) front back = absurd (back.other front.lor)
+
+-- the terms of all rows
+pub all_terms : (f : Factors) (past : ℕ)
+    → terms_between f 0 past ≡ terms_of_row f.semiring.multiply (row_entries past (transposed_content (word_at f.u.now.entries)) 0) f.a.now
+all_terms f past = let all : past - 0 ≡ past = omega arith in rw all refl
 
 -- ---- marks as bits
 

@@ -1,8 +1,10 @@
 -- Sums over LOR as bits, one term after another.
-use Rattle.std.proofs.Common.{◌≡◌, ℕ, ◌<◌, ◌*◌, ◌+◌, ◌/◌, ◌%◌, ◌&&◌, ◌||◌, ◌++◌, ◌∷◌, [], Bool, true, false, cond, List, Some, None, length, eqb, get_or, set, refl, sym, ◌∙◌, ap, inl, inr, arith}
-use Rattle.std.proofs.lemmas.Bool.{cases_eq, eq-eqb, ne_eqb}
-use Rattle.std.proofs.lemmas.List.{get_or-set_other, get_or-set_same}
-use Rattle.std.proofs.lemmas.Nat.Bits.{bit_at-zero}
+use Rattle.std.proofs.Common.{◌≡◌, ℕ, ◌<◌, ◌≤◌, ◌*◌, ◌+◌, ◌/◌, ◌%◌, ◌&&◌, ◌||◌, ◌++◌, ◌∷◌, [], Bool, true, false, cond, List, Some, None, length, eqb, get_or, bit_or, max, set, refl, sym, ◌∙◌, ap, inl, inr, arith}
+use Rattle.std.specs.Int.{bit_at}
+use Rattle.std.proofs.lemmas.Bool.{cases_eq, cases_lt, eq-eqb, ne_eqb}
+use Rattle.std.proofs.lemmas.Bool.Decides.{nat_tests}
+use Rattle.std.proofs.lemmas.List.{get_or-set_other, get_or-set_same, get_or_past}
+use Rattle.std.proofs.lemmas.Nat.Bits.{bit_at-lt, bit_at-zero, bit_at_or}
 use Rattle.algebra.proofs.Words.{IsWordOf-eval}
 use Rattle.algebra.specs.declared.binary.BinaryOp.{BinaryOp}
 use Rattle.algebra.specs.declared.domain.Domain.{Domain}
@@ -27,6 +29,14 @@ lor_truths op true true kind domain = rw (kind, domain) refl
 lor_truths op true false kind domain = rw (kind, domain) refl
 lor_truths op false true kind domain = rw (kind, domain) refl
 lor_truths op false false kind domain = rw (kind, domain) refl
+
+-- ..as they come
+pub lor_either : (op : BinaryOp) (a b : Bool) → op.kind ≡ Lor → op.domain ≡ BOOL
+    → apply op (truth a) (truth b) ≡ truth (a || b)
+lor_either op true true kind domain = rw (kind, domain) refl
+lor_either op true false kind domain = rw (kind, domain) refl
+lor_either op false true kind domain = rw (kind, domain) refl
+lor_either op false false kind domain = rw (kind, domain) refl
 
 -- a word of BOOL is a truth value
 pub truth_of : (word : ℕ) → word < 2 → word ≡ truth (eqb word 1)
@@ -97,7 +107,7 @@ no_truths op bits trues clear all_false = record {
 }
 
 -- written as words they are the sums
-pub truths_written : (op : BinaryOp) (terms : List Term) (bits trues words : List ℕ) → length words ≡ 64 * length bits
+pub truths_written : (op : BinaryOp) (terms : List Term) (bits trues words : List ℕ) → length words ≤ 64 * length bits
     → ((at : ℕ) → at < length words → get_or words at 0 ≡ truth (has_bit trues at)) → AreTruths op terms bits trues
     → AreColumnSums op terms bits words
 truths_written op terms bits trues words long written here = record {
@@ -120,6 +130,27 @@ written_more trues words at within here = record {
         | inr other ↦ get_or-set_other words at k (truth (has_bit trues at)) 0 other ∙ here.are k (omega arith)
       ];
 }
+
+-- ---- bits of two lists
+
+max_one : (a b : ℕ) → a < 2 → b < 2 → eqb (max a b) 1 ≡ (eqb a 1 || eqb b 1)
+max_one a b a_small b_small = grind (arith, nat_tests)
+
+-- the bits of words that are those of either list
+pub either_bits : (xs ys zs : List ℕ) → length ys ≡ length xs → length zs ≡ length xs
+    → ((k : ℕ) → k < length xs → get_or zs k 0 ≡ bit_or (get_or xs k 0) (get_or ys k 0)) → (at : ℕ)
+    → has_bit zs at ≡ (has_bit xs at || has_bit ys at)
+either_bits xs ys zs same long each at =
+    let k = at / 64 in
+    let i = at % 64 in
+    elim (cases_lt k (length xs)) [
+      | inl inside ↦
+          let a = get_or xs k 0 in
+          let b = get_or ys k 0 in
+          ap (λ n. eqb (bit_at n i) 1) (each k inside) ∙ ap (λ n. eqb n 1) (bit_at_or a b i)
+          ∙ max_one (bit_at a i) (bit_at b i) (bit_at-lt a i) (bit_at-lt b i)
+      | inr past ↦ rw (get_or_past zs k 0 (omega arith), get_or_past xs k 0 (omega arith), get_or_past ys k 0 (omega arith), bit_at-zero i) refl
+    ]
 
 -- LOR is on BOOL alone
 boolean : (d : Domain) → is_boolean d ≡ true → d ≡ BOOL

@@ -2,17 +2,19 @@
 ghost use Rattle.std.specs.Prelude.{◌≡◌, ◌≤◌, ◌+◌, ◌*◌, ◌/◌, ◌^◌, ℕ, IfOk, false, length, true};
 ghost use Rattle.algebra.specs.OperatorNames.{semiring_named};
 ghost use Rattle.lanes.specs.Bits.{has_bit};
-ghost use Rattle.model.specs.Entries.{row_entries, word_at};
+ghost use Rattle.model.specs.Entries.{word_at};
 ghost use Rattle.model.specs.Object.{transposed_content};
 ghost use Rattle.model.specs.Product.{product};
 ghost use Rattle.store.specs.Stored.{content_of};
 ghost use Rattle.spgemm.specs.Dense.{AreColumnSums};
-ghost use Rattle.spgemm.specs.Partials.{AreSumsOf};
-ghost use Rattle.spgemm.specs.Terms.{terms_of_row};
+ghost use Rattle.spgemm.specs.Partials.{AreSumsOf, terms_between};
 
 use crate::bitmap_sums::{Factors, Sums, sum_alone, sum_beside};
+use crate::bitmap_truths::TruthSums;
+use crate::bitmap_words::WordSums;
 use crate::dense::MOST_PLACES;
 use crate::many::set_marked;
+use crate::truths::write_truths;
 use algebra::Semiring;
 use bitmap::{Bitmap, OneThread, SeveralThreads, WordMaker};
 use model::NoMemory;
@@ -126,13 +128,20 @@ fn column_of(
     ensures none_behind { IfOk result (λ r. (at : ℕ) → factors.entry.a.now.cols ≤ at
         → has_bit r.0.items at ≡ false) }
     ensures sums { IfOk result (λ r. AreColumnSums factors.entry.semiring.add.op
-        (terms_of_row factors.entry.semiring.multiply (row_entries factors.entry.a.now.rows
-        (transposed_content (word_at factors.entry.u.now.entries)) 0) factors.entry.a.now) r.0.items r.1.items) }
+        (terms_between factors.entry 0 factors.entry.a.now.rows) r.0.items r.1.items) }
 {
-    let Sums { marks, mut words } = sums;
     let cols = factors.a.cols() as usize;
-    let mut bits = vec![in alloc; 0; cols / 64 + 1]?;
-    set_marked(&mut bits, &marks);
-    words.truncate(cols);
-    Ok((bits, words))
+    match sums {
+        Sums::Words(WordSums { marks, mut words }) => {
+            let mut bits = vec![in alloc; 0; cols / 64 + 1]?;
+            set_marked(&mut bits, &marks);
+            words.truncate(cols);
+            Ok((bits, words))
+        }
+        Sums::Truths(TruthSums { bits, trues }) => {
+            let mut words = vec![in alloc; 0; cols]?;
+            write_truths(&mut words, &trues);
+            Ok((bits, words))
+        }
+    }
 }

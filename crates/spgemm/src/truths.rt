@@ -1,6 +1,6 @@
 //! The sums of a row of a product over LOR, as bits that say which of them are true.
-ghost use Rattle.std.specs.Prelude.{◌≡◌, ℕ, ◌<◌, ◌≤◌, ◌*◌, ◌++◌, ◌∷◌, [], List, OnOk};
-ghost use Rattle.std.specs.Prelude.{length, slice_index, true};
+ghost use Rattle.std.specs.Prelude.{◌≡◌, ◌≢◌, ℕ, ◌<◌, ◌≤◌, ◌*◌, ◌++◌, ◌∷◌, [], List, OnOk};
+ghost use Rattle.std.specs.Prelude.{false, length, slice_index, true};
 ghost use Rattle.std.specs.List.{All};
 ghost use Rattle.algebra.specs.declared.kinds.MonoidKind.TheVariants.{Lor};
 ghost use Rattle.lanes.specs.Bits.{has_bit};
@@ -18,7 +18,8 @@ use store::{Row, RowHints, Sparse};
 /// Whether sums are true or false, and true where a product is: a bit for each lies in a cache where words for all
 /// columns don't.
 pub(crate) fn are_truths(semiring: Semiring) -> bool
-    ensures { result ≡ true → semiring.add.kind ≡ Lor }
+    ensures yes { result ≡ true → semiring.add.kind ≡ Lor }
+    ensures no { result ≡ false → semiring.add.kind ≢ Lor }
 {
     semiring.add.kind == MonoidKind::Lor
 }
@@ -47,7 +48,7 @@ fn add_product(
 
 /// Adds a word times each entry of a row to the sum at its column.
 #[inline(always)]
-fn add_products(
+pub(crate) fn add_products(
     bits: &mut [u64],
     trues: &mut [u64],
     word: u64,
@@ -126,8 +127,8 @@ fn add_rows_by(
 }
 
 /// Writes at each place whether its bit is set.
-fn write_truths(sums: &mut [u64], trues: &[u64])
-    requires { length sums.old ≡ 64 * length trues.now }
+pub(crate) fn write_truths(sums: &mut [u64], trues: &[u64])
+    requires { length sums.old ≤ 64 * length trues.now }
     ensures length { length sums.new ≡ length sums.old }
     ensures words { (at : ℕ) → at < length sums.old → slice_index sums.new at ≡ truth (has_bit trues.now at) }
 {

@@ -1,6 +1,6 @@
 use Rattle.std.proofs.Common.{◌≡◌, ◌<◌, ◌≤◌, ◌||◌, ℕ, false, get_or}
 use Rattle.spgemm.specs.Terms.{apply}
-use Rattle.spgemm.proofs.bitmap_sums.put_by.Given as goal
+use Rattle.spgemm.proofs.bitmap_words.put_by.Given as goal
 
 -- the places so far are put together, and the others are as they were
 abbrev pub invariant-loop-at : goal.invariant-loop-at

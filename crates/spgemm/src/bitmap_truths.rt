@@ -1,0 +1,161 @@
+//! The sums over LOR of the products of a vector that is a bitmap and some rows of a store, as bits.
+ghost use Rattle.std.specs.Prelude.{◌≡◌, ◌<◌, ◌≤◌, ◌-◌, ◌*◌, ◌/◌, ◌+◌, ◌++◌, ◌||◌, ℕ, List, IfOk, length};
+ghost use Rattle.std.specs.List.{All};
+ghost use Rattle.algebra.specs.declared.kinds.MonoidKind.TheVariants.{Lor};
+ghost use Rattle.bitmap.specs.Bitmaps.{row_part};
+ghost use Rattle.lanes.specs.Bits.{has_bit};
+ghost use Rattle.model.specs.Entries.{word_at};
+ghost use Rattle.model.specs.Object.{transposed_content};
+ghost use Rattle.store.specs.Fibers.{entries_along};
+ghost use Rattle.spgemm.specs.Dense.{AreClear};
+ghost use Rattle.spgemm.specs.Partials.{AreTruthsOf, terms_between};
+ghost use Rattle.spgemm.specs.Terms.{terms_of_row, times_found};
+ghost use Rattle.spgemm.specs.Truths.{AreTruths};
+ghost use Rattle.spgemm.specs.declared.term.Term.{Term};
+
+use crate::bitmap_sums::Factors;
+use crate::truths::add_products;
+use algebra::{Semiring, with_semirings};
+use bitmap::Bitmap;
+use model::NoMemory;
+use std::alloc::Global;
+use std::ops::Range;
+use store::{Row, Sparse};
+
+/// Bits of the columns that have products, and of those whose sum is true.
+#[derive(Drop)]
+pub(crate) struct TruthSums {
+    pub(crate) bits: Vec<u64>,
+    pub(crate) trues: Vec<u64>,
+}
+
+impl TruthSums {
+    /// The sums of the products with the rows in a range.
+    pub(crate) fn of_rows(
+        alloc: Global,
+        factors: Factors<'_>,
+        rows: Range<u64>,
+    ) -> Result<TruthSums, NoMemory>
+        requires lor { factors.semiring.add.kind ≡ Lor }
+        requires order { rows.start ≤ rows.end }
+        requires places { factors.places ≡ 64 * (factors.a.now.cols / 64 + 1) }
+        ensures { IfOk result (AreTruthsOf factors.entry (terms_between factors.entry rows.start rows.end)) }
+    {
+        let Factors {
+            u,
+            a,
+            semiring,
+            places,
+        } = factors;
+        let mut bits = vec![in alloc; 0; places / 64]?;
+        let mut trues = vec![in alloc; 0; places / 64]?;
+        add_rows(&mut bits, &mut trues, u, a, semiring, rows);
+        Ok(TruthSums { bits, trues })
+    }
+
+    /// Adds the sums of other products, place by place.
+    pub(crate) fn add(&mut self, other: &TruthSums)
+        requires bits { length other.now.bits.items ≡ length self.old.bits.items }
+        requires trues { length other.now.trues.items ≡ length self.old.trues.items }
+        ensures bits_length { length self.new.bits.items ≡ length self.old.bits.items }
+        ensures trues_length { length self.new.trues.items ≡ length self.old.trues.items }
+        ensures bits { (at : ℕ) → has_bit self.new.bits.items at
+            ≡ (has_bit self.old.bits.items at || has_bit other.now.bits.items at) }
+        ensures trues { (at : ℕ) → has_bit self.new.trues.items at
+            ≡ (has_bit self.old.trues.items at || has_bit other.now.trues.items at) }
+    {
+        put_to(&mut self.bits, &other.bits);
+        put_to(&mut self.trues, &other.trues);
+    }
+}
+
+/// Sets the bits that are set in other words.
+fn put_to(bits: &mut [u64], others: &[u64])
+    requires { length others.now ≡ length bits.old }
+    ensures length { length bits.new ≡ length bits.old }
+    ensures bits { (at : ℕ) → has_bit bits.new at ≡ (has_bit bits.old at || has_bit others.now at) }
+{
+    for at in 0..bits.len() {
+        bits[at] |= others[at];
+    }
+}
+
+/// Adds the products of a vector with the rows of `a` in a range, where no bit is set.
+#[tactic(auto, using(crate::proofs::Arms::same_truths))]
+fn add_rows(
+    bits: &mut [u64],
+    trues: &mut [u64],
+    u: &Bitmap,
+    a: &Sparse,
+    semiring: Semiring,
+    rows: Range<u64>,
+)
+    requires lor { semiring.add.kind ≡ Lor }
+    requires trues { length trues.old ≡ length bits.old }
+    requires inside { a.now.cols ≤ 64 * length bits.old }
+    requires order { rows.start ≤ rows.end }
+    requires none { AreClear bits.old }
+    requires all_false { AreClear trues.old }
+    ensures { AreTruths semiring.add.op (terms_of_row semiring.multiply
+        (row_part (transposed_content (word_at u.now.entries)) 0 rows.start (rows.end - rows.start)) a.now)
+        bits.new trues.new }
+{
+    // All that runs below the arms is inlined, so that its loops are compiled for each.
+    with_semirings!(
+        semiring,
+        own,
+        add_rows_by(bits, trues, u, a, own, rows.start..rows.end),
+        Lor Land Bool,
+    )
+}
+
+/// What `add_rows` does, by one semiring of its arms.
+#[inline(always)]
+fn add_rows_by(
+    bits: &mut [u64],
+    trues: &mut [u64],
+    u: &Bitmap,
+    a: &Sparse,
+    semiring: Semiring,
+    rows: Range<u64>,
+)
+    requires lor { semiring.add.kind ≡ Lor }
+    requires trues { length trues.old ≡ length bits.old }
+    requires inside { a.now.cols ≤ 64 * length bits.old }
+    requires order { rows.start ≤ rows.end }
+    requires none { AreClear bits.old }
+    requires all_false { AreClear trues.old }
+    ensures { AreTruths semiring.add.op (terms_of_row semiring.multiply
+        (row_part (transposed_content (word_at u.now.entries)) 0 rows.start (rows.end - rows.start)) a.now)
+        bits.new trues.new }
+{
+    let mut rest = a.rows_in(rows);
+    while let Some((line, others)) = rest.split_first() {
+        let word = u.get(line.index, 0);
+        add_row(bits, trues, word, line, semiring);
+        rest = others;
+    }
+}
+
+/// Adds what the vector has at a row of `a` times each entry of the row, where it has a word.
+#[inline(always)]
+fn add_row(
+    bits: &mut [u64],
+    trues: &mut [u64],
+    word: Option<u64>,
+    line: Row<'_>,
+    semiring: Semiring,
+)
+    requires lor { semiring.add.kind ≡ Lor }
+    requires trues { length trues.old ≡ length bits.old }
+    requires lengths { length line.words.now ≡ length line.cols.now }
+    requires inside { All (λ col. col < 64 * length bits.old) line.cols.now }
+    ensures { (terms : List Term) → AreTruths semiring.add.op terms bits.old trues.old
+        → AreTruths semiring.add.op
+        (terms ++ times_found semiring.multiply word (entries_along 0 line.entry.cols.now line.entry.words.now))
+        bits.new trues.new }
+{
+    if let Some(word) = word {
+        add_products(bits, trues, word, line.cols, line.words, semiring);
+    }
+}
