@@ -6,7 +6,7 @@ ghost use Rattle.algebra.specs.OperatorNames.{semiring_named};
 ghost use Rattle.algebra.specs.Operators.{offers};
 ghost use Rattle.algebra.specs.Value.{IsWordOf, are_compatible};
 ghost use Rattle.kernel.specs.Accepts.{Accepts};
-ghost use Rattle.kernel.specs.Bitmaps.{FitsOver, HasAll, IsEverywhere, WritesAll, left_by};
+ghost use Rattle.kernel.specs.Bitmaps.{FitsOver, HasAll, IsEverywhere, IsReplacing, IsWriting, left_by};
 ghost use Rattle.kernel.specs.Factors.{AreFactors, cols_of_product, inner_of, rows_of_product};
 ghost use Rattle.kernel.specs.Inputs.{known_of, object_of};
 ghost use Rattle.kernel.specs.Spread.{computed_in};
@@ -28,12 +28,13 @@ ghost use Rattle.store.specs.Stored.{content_of};
 
 use crate::computing::answer_of;
 use crate::input::Input;
-use crate::output::accumulator_of;
+use crate::output::{accumulator_of, mask_of};
 use crate::task::Task;
 use algebra::{BinaryOp, Domain, FunctionName, IndexName, OpName, Semiring, SemiringName};
 use bitmap::{Bitmap, WordMaker};
 use calls::{OneInput, Out, Positions, Region, Shape, Signature, TwoInputs};
 use elementwise::{apply_bitmap, select_bitmap};
+use masks::{MarkedMask, Mask};
 use model::{Lent, NoMemory};
 use spgemm::{VectorProducts, multiply_by_bitmap, suits_bitmap, suits_rows};
 use std::alloc::Global;
@@ -46,9 +47,11 @@ enum Writing<'a> {
     Anew,
     /// Accumulated with what was there, by an operator.
     Over { old: &'a Bitmap, op: BinaryOp },
+    /// In the place of what was there at the positions that a mask lets through, and nothing at the others.
+    Under(MarkedMask<'a>),
 }
 
-/// All that a task leaves in its output, where no mask keeps some of that as it was, and it goes along bitmaps.
+/// All that a task leaves in its output, where nothing of that stays as it was, and it goes along bitmaps.
 /// The words, and products with a vector, are made by `products`.
 pub(crate) fn task_bitmap<P: VectorProducts>(
     products: &P,
@@ -92,12 +95,15 @@ fn computed_bitmap<P: VectorProducts>(
     Ok(Some(bitmap_in_domain(bitmap, from, c.domain)))
 }
 
-/// How a task writes all of its output; None where a mask keeps some of that, or what it accumulates with is no bitmap.
+/// How a task writes all of its output; None where something of that stays, or what it accumulates with is no bitmap.
 fn writing_of<'a>(task: &Task<'a>) -> Option<Writing<'a>>
-    ensures { IfSome result (WritesAll task.now.out) }
+    ensures { IfSome result (IsWriting task.now.out) }
 {
     let out = &task.out;
-    if out.mask.is_some() || out.desc.complement {
+    if out.mask.is_some() {
+        return Some(Writing::Under(replacing_mask(task)?));
+    }
+    if out.desc.complement {
         return None;
     }
     let Some(op) = accumulator_of(task) else {
@@ -106,6 +112,39 @@ fn writing_of<'a>(task: &Task<'a>) -> Option<Writing<'a>>
     match out.c.store.form() {
         Form::Bitmap(old) => Some(Writing::Over { old, op }),
         Form::Sparse(_) | Form::Blocks(_) => None,
+    }
+}
+
+/// The mask of a task, where it is a column as a bitmap and nothing stays at the positions that it keeps out
+/// (`GrB_REPLACE`). The product of a matrix and a vector is better made row by row, since a row that is kept out takes
+/// no time.
+fn replacing_mask<'a>(task: &Task<'a>) -> Option<MarkedMask<'a>>
+    ensures { IfSome result (IsReplacing task.now.out) }
+{
+    let out = &task.out;
+    if out.accum.is_some() || !out.desc.replace || goes_by_rows(task.operation) {
+        return None;
+    }
+    let Mask::By(mask) = mask_of(task) else {
+        return None;
+    };
+    match mask.store.form() {
+        Form::Bitmap(bitmap) if bitmap.cols() == 1 => {
+            let test = mask.test;
+            Some(MarkedMask { bitmap, test })
+        }
+        _ => None,
+    }
+}
+
+/// Whether an operation is the product of a matrix and a vector.
+fn goes_by_rows(operation: Lent<'_, Input<'_>>) -> bool {
+    match operation {
+        Lent::OfTwo {
+            computes: TwoInputs::Multiply { form, .. },
+            ..
+        } => { form == model::Form::MatrixVector }
+        _ => false,
     }
 }
 
@@ -136,6 +175,11 @@ fn write<M: WordMaker>(
     match writing {
         Writing::Anew => Ok(computed),
         Writing::Over { old, op } => Bitmap::unite(maker, alloc, old, &computed, op),
+        Writing::Under(mask) => {
+            let mut computed = computed;
+            mask.keep_column(alloc, &mut computed)?;
+            Ok(computed)
+        }
     }
 }
 

@@ -22,9 +22,10 @@ pub fn is_cut(recipe: &Recipe, stores: &Roles<&Store>, threads: u64) -> bool {
 }
 
 /// The rows at which a recipe's rows are cut for threads that work apart, of the stores that take its roles: no row for
-/// a task that isn't cut (`is_cut`). Each piece has `least` rows or more, and about the same work; or less and less,
-/// where rows may take very different times. Where memory for the rows is refused, the task isn't cut. Its time follows
-/// the number of pieces and the logarithm of that of entries, of which it looks at some thousands at the most.
+/// a task that isn't cut (`is_cut`). Each piece but the last has `least` rows or more, and about the same work; or less
+/// and less, where rows may take very different times. Where memory for the rows is refused, the task isn't cut. Its
+/// time follows the number of pieces and the logarithm of that of entries, of which it looks at some thousands at the
+/// most.
 pub fn cuts(
     alloc: Global,
     recipe: &Recipe,
@@ -100,22 +101,34 @@ fn cut_blocks(alloc: Global, by: &Blocks, least: u64) -> Result<Vec<u64>, NoMemo
     Ok(rows)
 }
 
-/// The row behind the piece from a row on, where another piece follows it.
-pub(crate) fn next_cut(by: &Sparse, row: u64, least: u64, entries: usize) -> Option<u64>
+/// The row behind the piece from a row on, where another piece follows it that has at least as many rows, too.
+fn next_cut(by: &Sparse, row: u64, least: u64, entries: usize) -> Option<u64>
     ensures { IfSome result (λ next. row < next) }
+{
+    let next = piece_end(by, row, least, entries)?;
+    if by.rows() - next < least {
+        return None;
+    }
+    Some(next)
+}
+
+/// The row behind the piece of about so many entries, and of at least so many rows, from a row on; None where no row
+/// follows it.
+pub(crate) fn piece_end(by: &Sparse, row: u64, least: u64, entries: usize) -> Option<u64>
+    ensures start { IfSome result (λ end. row < end) }
+    ensures end { IfSome result (λ end. end < by.now.rows) }
 {
     let rows = by.rows();
     if row >= rows {
         return None;
     }
-    let next = by
+    let end = by
         .part_end(row..rows, entries)
         .max(row.saturating_add(least));
-    // The last piece has as many rows as any other, or more.
-    if next >= rows || rows - next < least {
+    if end >= rows {
         return None;
     }
-    Some(next)
+    Some(end)
 }
 
 /// The columns at which lists are cut into so many parts of about as many entries, as far as some of these tell, and of

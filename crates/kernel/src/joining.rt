@@ -39,7 +39,8 @@ pub fn makes_lists(recipe: &Recipe) -> bool {
 }
 
 /// Whether what a recipe leaves stays in lists: a product, whose factors are read as lists; but no product with a
-/// vector and without a mask, which has a way of its own with bitmaps.
+/// vector that has a way of its own with bitmaps, which is without a mask, or of a vector and a matrix where nothing
+/// stays of what was there.
 fn stays_listed(recipe: &Recipe) -> bool {
     let Recipe::Computed(computation) = recipe else {
         return false;
@@ -47,12 +48,13 @@ fn stays_listed(recipe: &Recipe) -> bool {
     let Operation::OfTwo { computes, .. } = computation.accepted.operation else {
         return false;
     };
+    let out = &computation.accepted.out;
     match computes {
-        TwoInputs::Multiply {
-            form: Form::MatrixMatrix,
-            ..
-        } => true,
-        TwoInputs::Multiply { .. } => computation.accepted.out.mask.is_some(),
+        TwoInputs::Multiply { form, .. } => match form {
+            Form::MatrixMatrix => true,
+            Form::MatrixVector => out.mask.is_some(),
+            Form::VectorMatrix => out.mask.is_some() && !out.desc.replace,
+        },
         TwoInputs::Combine { .. } => false,
     }
 }

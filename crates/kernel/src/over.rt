@@ -47,7 +47,9 @@ pub fn computed_over<P: VectorProducts>(
         ≡ meaning accepted.now.out accepted.now.operation (λ role. map_in (beside old stores.now role)) i j) }
 {
     if let Some(bitmap) = bitmap_over(products, alloc, accepted, &old, stores)? {
-        return Ok(Store::from_bitmap(bitmap));
+        let mut store = Store::from_bitmap(bitmap);
+        store.settle(alloc);
+        return Ok(store);
     }
     let mut old = old;
     let t = unwritten_rows(alloc, accepted, &old, stores)?;

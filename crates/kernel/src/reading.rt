@@ -1,4 +1,4 @@
-//! Which inputs are read whole.
+//! Which inputs are read whole, and which as lists.
 use calls::{OneInput, Operation, Recipe, Role, TwoInputs};
 use model::Form;
 
@@ -13,6 +13,27 @@ pub fn reads_all_of(recipe: &Recipe, role: Role) -> bool {
             Role::Mask => true,
             Role::First => reads_all_of_first(&computation.accepted.operation),
             Role::Second => reads_all_of_second(&computation.accepted.operation),
+        },
+    }
+}
+
+/// Whether the input in a role is a factor of a product of matrices, whose pieces read it as lists, whatever its form
+/// is.
+pub fn is_factor(recipe: &Recipe, role: Role) -> bool {
+    let Recipe::Computed(computation) = recipe else {
+        return false;
+    };
+    match role {
+        Role::Old | Role::Mask => false,
+        Role::First | Role::Second => match &computation.accepted.operation {
+            Operation::OfTwo { computes, .. } => matches!(
+                computes,
+                TwoInputs::Multiply {
+                    form: Form::MatrixMatrix,
+                    ..
+                }
+            ),
+            Operation::Fill { .. } | Operation::OfOne { .. } => false,
         },
     }
 }

@@ -2,7 +2,7 @@
 ghost use Rattle.std.specs.Prelude.{◌<◌, IfOk, IfSome};
 ghost use Rattle.std.specs.List.{AllPairs};
 
-use crate::cutting::next_cut;
+use crate::cutting::piece_end;
 use crate::job::{LEAST_WORK, MOST_PIECES, PRODUCT_PIECES};
 use model::NoMemory;
 use std::alloc::Global;
@@ -76,10 +76,10 @@ fn entries_in_row(store: &Store, row: u64) -> u64 {
     }
 }
 
-/// The rows at which the product of two factors is cut, each piece of at least so many rows. The first piece stays
-/// where it is when the others are joined to it, and so is long; but it has less than a thread's share, since its
-/// products may take longer than others. The pieces behind it get smaller and smaller, so that all threads end at about
-/// one time.
+/// The rows at which the product of two factors is cut, each piece but the last of at least so many rows. The first
+/// piece stays where it is when the others are joined to it, and so is long; but it has less than a thread's share,
+/// since its products may take longer than others. The pieces behind it get smaller and smaller, so that all threads
+/// end at about one time.
 pub(crate) fn cut_products(
     alloc: Global,
     a: &Sparse,
@@ -122,5 +122,14 @@ fn next_row(sample: &Sample, a: &Sparse, row: u64, least: u64, threads: u64) -> 
         return None;
     }
     let entries = sample.entries(before.saturating_add(size));
-    next_cut(a, row, least, entries.saturating_sub(done).max(1))
+    let next = piece_end(a, row, least, entries.saturating_sub(done).max(1))?;
+
+    // The last piece may have fewer rows than others, but not less work.
+    let rest = sample
+        .total()
+        .saturating_sub(sample.before(a.fibers_in(0..next).len()));
+    if rest < small {
+        return None;
+    }
+    Some(next)
 }
