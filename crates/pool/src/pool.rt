@@ -19,10 +19,11 @@ use crate::starting::start_first;
 use crate::tasks::Tasks;
 use crate::uniting::{unite_own, unite_shared};
 use board::Board;
-use calls::{Recipe, Roles};
+use calls::{Recipe, Role, Roles};
 use desk::{Picker, Ticket, notes_of};
 use history::Noted;
 use journal::{Log, Naming, Note};
+use kernel::is_factor;
 use model::NoMemory;
 use runner::{Failed, Runner};
 use std::alloc::Global;
@@ -147,6 +148,11 @@ where
 }
 
 impl<J: Naming, R: Wait + Threads + Drop, G: Gate + Drop, P: Picker + Drop> Pool<J, R, G, P> {
+    /// Whether a store may have to be given another form before a recipe reads it.
+    fn may_unite(&self, recipe: &Recipe) -> bool {
+        self.shared.has_blocks.load(SeqCst) || is_factor(recipe, Role::First)
+    }
+
     /// A slot for what was noted, where the calling thread has the tasks; these are handed over where there is enough
     /// to do for workers.
     fn submit_own(
@@ -158,7 +164,7 @@ impl<J: Naming, R: Wait + Threads + Drop, G: Gate + Drop, P: Picker + Drop> Pool
         requires { object_of note ≡ made_by (object_in told) recipe inputs.now }
         ensures { self.new.epoch ≡ self.old.epoch }
     {
-        if self.shared.has_blocks.load(SeqCst) {
+        if self.may_unite(&recipe) {
             unite_own(
                 &self.rt,
                 self.alloc,
@@ -188,7 +194,7 @@ impl<J: Naming, R: Wait + Threads + Drop, G: Gate + Drop, P: Picker + Drop> Pool
         requires { object_of note ≡ made_by (object_in told) recipe inputs.now }
         ensures { self.new.epoch ≡ self.old.epoch }
     {
-        if self.shared.has_blocks.load(SeqCst) {
+        if self.may_unite(&recipe) {
             unite_shared(
                 &self.rt,
                 self.alloc,

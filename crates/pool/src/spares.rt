@@ -4,16 +4,17 @@ use crate::work::Work;
 use board::Piece;
 use desk::SpareLists;
 use journal::Naming;
+use kernel::makes_lists;
 use std::alloc::Global;
 use std::sync::{Arc, Mutex, Wait};
 use store::Store;
 
-/// Shorter lists are made by one thread, and take as long in memory of their own.
-const LEAST_WORDS: usize = 1 << 17;
+/// To keep a shorter list takes about as long as to have memory for it and to clear that.
+const LEAST_WORDS: usize = 1 << 11;
 
 /// Bitmaps of so many words have so many entries at the least, as a rule: a store of fewer is dropped without a look at
 /// it, and work on fewer needs no list.
-const LEAST_ENTRIES: u64 = 1 << 14;
+const LEAST_ENTRIES: u64 = 1 << 8;
 
 /// How many lists are kept: those of two stores.
 const MOST: usize = 4;
@@ -35,10 +36,11 @@ impl Spares {
         }
     }
 
-    /// One of the lists, for work in which several threads may make the words of a bitmap; `put_back` brings it back
-    /// where they didn't.
+    /// One of the lists, for work that may make the words of a bitmap, all of them; `put_back` brings it back where it
+    /// didn't.
     pub fn take_for<J: Naming>(&self, rt: &impl Wait, work: &Work<J>) -> Option<Vec<u64>> {
-        if work.helpers == 0 || work_in(&work.piece) < LEAST_ENTRIES {
+        let piece = &work.piece;
+        if !piece.is_whole() || makes_lists(piece.recipe.get()) || work_in(piece) < LEAST_ENTRIES {
             return None;
         }
         self.lists.lock(rt).pop()

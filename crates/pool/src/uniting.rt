@@ -1,4 +1,4 @@
-//! Stores in blocks, whose lists are put together once a task is to read all of them.
+//! Stores that are given the form in which a task is to read them: lists in one, of those in blocks and of bitmaps.
 ghost use Rattle.std.specs.Prelude.{◌≡◌, IfSome};
 ghost use Rattle.std.specs.Arc.{arc_value};
 
@@ -11,15 +11,19 @@ use crate::work::ENOUGH_TO_CUT;
 use calls::{Recipe, Role, Roles};
 use desk::{Picker, Ticket, united};
 use journal::{Naming, Note};
-use kernel::reads_all_of;
+use kernel::{is_factor, reads_all_of};
 use std::alloc::Global;
 use std::sync::{Arc, Wait};
 use std::thread::Threads;
-use store::{Form, Store};
+use store::{AsSparse, Form, Store};
 
-// It is done once, by the calling thread, before the task is there: tasks that read all of such a store would each make
-// lists of their own, and so would those that go along its rows but aren't cut. Where memory is refused for it, they
-// do.
+// It is done once, by the calling thread, before the task is there: tasks that read all of a store in blocks would each
+// make lists of their own, and so would those that go along its rows but aren't cut, and each piece of a product of a
+// factor that is a bitmap. Where memory is refused for it, they do. A matrix that was a factor is likely to be one
+// again, so it stays in lists, as what products leave does.
+
+/// A bitmap with fewer entries is made lists of by each piece, or by the one piece that there is.
+const WORTH_LISTS: u64 = 1 << 16;
 
 /// Puts the lists of stores together that a task of the calling thread's is to read in one.
 pub fn unite_own<J: Naming, R: Wait + Threads, P: Picker + Drop>(
@@ -35,20 +39,16 @@ pub fn unite_own<J: Naming, R: Wait + Threads, P: Picker + Drop>(
     ensures crew { own.new.crew ≡ own.old.crew }
 {
     if let Some(ticket) = inputs.old {
-        let is_whole = reads_all_of(recipe, Role::Old);
-        unite_one(rt, alloc, named, spares, own, ticket, is_whole);
+        unite_one(rt, alloc, named, spares, own, ticket, recipe, Role::Old);
     }
     if let Some(ticket) = inputs.mask {
-        let is_whole = reads_all_of(recipe, Role::Mask);
-        unite_one(rt, alloc, named, spares, own, ticket, is_whole);
+        unite_one(rt, alloc, named, spares, own, ticket, recipe, Role::Mask);
     }
     if let Some(ticket) = inputs.first {
-        let is_whole = reads_all_of(recipe, Role::First);
-        unite_one(rt, alloc, named, spares, own, ticket, is_whole);
+        unite_one(rt, alloc, named, spares, own, ticket, recipe, Role::First);
     }
     if let Some(ticket) = inputs.second {
-        let is_whole = reads_all_of(recipe, Role::Second);
-        unite_one(rt, alloc, named, spares, own, ticket, is_whole);
+        unite_one(rt, alloc, named, spares, own, ticket, recipe, Role::Second);
     }
 }
 
@@ -62,20 +62,16 @@ pub fn unite_shared<J: Naming, R: Wait + Threads, G: Gate + Drop, P: Picker + Dr
     inputs: &Roles<&Ticket<Note<J>>>,
 ) {
     if let Some(ticket) = inputs.old {
-        let is_whole = reads_all_of(recipe, Role::Old);
-        unite_beside(rt, alloc, named, shared, ticket, is_whole);
+        unite_beside(rt, alloc, named, shared, ticket, recipe, Role::Old);
     }
     if let Some(ticket) = inputs.mask {
-        let is_whole = reads_all_of(recipe, Role::Mask);
-        unite_beside(rt, alloc, named, shared, ticket, is_whole);
+        unite_beside(rt, alloc, named, shared, ticket, recipe, Role::Mask);
     }
     if let Some(ticket) = inputs.first {
-        let is_whole = reads_all_of(recipe, Role::First);
-        unite_beside(rt, alloc, named, shared, ticket, is_whole);
+        unite_beside(rt, alloc, named, shared, ticket, recipe, Role::First);
     }
     if let Some(ticket) = inputs.second {
-        let is_whole = reads_all_of(recipe, Role::Second);
-        unite_beside(rt, alloc, named, shared, ticket, is_whole);
+        unite_beside(rt, alloc, named, shared, ticket, recipe, Role::Second);
     }
 }
 
@@ -87,7 +83,8 @@ fn unite_one<J: Naming, R: Wait + Threads, P: Picker + Drop>(
     spares: &Spares,
     own: &mut Tasks<J, P>,
     ticket: &Ticket<Note<J>>,
-    is_whole: bool,
+    recipe: &Recipe,
+    role: Role,
 )
     ensures epoch { own.new.epoch ≡ own.old.epoch }
     ensures crew { own.new.crew ≡ own.old.crew }
@@ -95,7 +92,7 @@ fn unite_one<J: Naming, R: Wait + Threads, P: Picker + Drop>(
     let Some(Ok(store)) = own.look(&named.log, ticket) else {
         return;
     };
-    let Some(lists) = lists_of(rt, alloc, spares, &store, is_whole) else {
+    let Some(lists) = lists_of(rt, alloc, spares, &store, recipe, role) else {
         return;
     };
     let left = own.renew_store(&named.log, ticket, lists);
@@ -110,7 +107,8 @@ fn unite_beside<J: Naming, R: Wait + Threads, G: Gate + Drop, P: Picker + Drop>(
     named: &Named<J>,
     shared: &Shared<J, G, P>,
     ticket: &Ticket<Note<J>>,
-    is_whole: bool,
+    recipe: &Recipe,
+    role: Role,
 ) {
     let guard = shared.locked.lock(rt);
     let found = guard.look(&named.log, ticket);
@@ -118,7 +116,7 @@ fn unite_beside<J: Naming, R: Wait + Threads, G: Gate + Drop, P: Picker + Drop>(
     let Some(Ok(store)) = found else {
         return;
     };
-    let Some(lists) = lists_of(rt, alloc, &shared.spares, &store, is_whole) else {
+    let Some(lists) = lists_of(rt, alloc, &shared.spares, &store, recipe, role) else {
         return;
     };
     let mut guard = shared.locked.lock(rt);
@@ -128,24 +126,36 @@ fn unite_beside<J: Naming, R: Wait + Threads, G: Gate + Drop, P: Picker + Drop>(
     shared.spares.drop_share(rt, Some(left));
 }
 
-/// The store as lists in one, where it has several and there is memory for that, for a task that reads all of it or, of
-/// so few entries that it isn't cut, each row.
+/// The store as lists in one, where there is memory for that: of several, for a task that reads all of them or, of so
+/// few entries that it isn't cut, each row; and of a bitmap, for a product of which it is a factor.
 fn lists_of<R: Wait + Threads>(
     rt: &R,
     alloc: Global,
     spares: &Spares,
     store: &Arc<Store>,
-    is_whole: bool,
+    recipe: &Recipe,
+    role: Role,
 ) -> Option<Arc<Store>>
     ensures { IfSome result (λ lists. arc_value lists ≡ arc_value store.now) }
 {
-    let Form::Blocks(blocks) = store.form() else {
-        return None;
-    };
-    if !is_whole && blocks.nvals() >= ENOUGH_TO_CUT {
-        return None;
+    match store.form() {
+        Form::Sparse(_) => None,
+        Form::Blocks(blocks) => {
+            if !reads_all_of(recipe, role) && blocks.nvals() >= ENOUGH_TO_CUT {
+                return None;
+            }
+            let room = spares.take_lists(rt, blocks.nvals() as usize);
+            let lists = united(rt, alloc, room, blocks).ok()?;
+            Arc::new(alloc, lists).ok()
+        }
+        Form::Bitmap(bitmap) => {
+            if !is_factor(recipe, role) || bitmap.nvals() < WORTH_LISTS {
+                return None;
+            }
+            let Ok(AsSparse::Made(lists)) = store.as_sparse(alloc) else {
+                return None;
+            };
+            Arc::new(alloc, Store::from_sparse(lists)).ok()
+        }
     }
-    let room = spares.take_lists(rt, blocks.nvals() as usize);
-    let lists = united(rt, alloc, room, blocks).ok()?;
-    Arc::new(alloc, lists).ok()
 }
