@@ -1,5 +1,5 @@
 -- A walk along some rows of B, beside a vector that is asked at each of them.
-use Rattle.std.proofs.Common.{◌≡◌, ℕ, zero, suc, ◌+◌, ◌-◌, ◌≤◌, List, [], ◌∷◌, ◌++◌, Option, None, Some, append-nil, refl, sym, ◌∙◌, ap, subst, arith}
+use Rattle.std.proofs.Common.{◌≡◌, ℕ, zero, suc, ◌+◌, ◌-◌, ◌<◌, ◌≤◌, List, [], ◌∷◌, ◌++◌, Option, None, Some, append-nil, refl, sym, ◌∙◌, ap, subst, arith}
 use Rattle.std.specs.List.{cons_option, filter_map}
 use Rattle.std.specs.Option.{option_map}
 use Rattle.std.proofs.lemmas.Grind.{flat_map-append}
@@ -86,6 +86,53 @@ columns_past op c b first low past le empty =
     let n = past - low in
     let whole : low + n ≡ past = omega arith in
     ap (λ k. terms_of_row op (row_part c 0 first k) b) (sym whole) ∙ columns_gap op c b first low n (λ i above below. empty i above (omega arith))
+
+-- no columns have none
+pub no_columns : (op : BinaryOp) (c : Content) (b : Stored) (first : ℕ)
+    → terms_of_row op (row_part c 0 first (first - first)) b ≡ []
+unfolding count_from
+no_columns op c b first = let none : first - first ≡ 0 = omega arith in rw none refl
+
+-- columns at which the row has nothing give no terms
+pub vector_gap : (op : BinaryOp) (c : Content) (b : Stored) (first p n : ℕ)
+    → ((k : ℕ) → first + p ≤ k → k < first + (p + n) → c 0 k ≡ None)
+    → terms_of_row op (row_part c 0 first (p + n)) b ≡ terms_of_row op (row_part c 0 first p) b
+vector_gap op c b first p zero empty = let none : p + 0 ≡ p = omega arith in rw none refl
+vector_gap op c b first p (suc n) empty =
+    let k = p + n in
+    let next : p + suc n ≡ k + 1 = omega arith in
+    let here : c 0 (first + k) ≡ None = empty (first + k) (omega arith) (omega arith) in
+    rw next (column_more op c b first k ∙ ap (λ o. terms_of_row op (row_part c 0 first k) b ++ times_found op o (row_entries b.cols (content_of b) (first + k))) here
+    ∙ append-nil (terms_of_row op (row_part c 0 first k) b)
+    ∙ vector_gap op c b first p n (λ i low high. empty i low (omega arith)))
+
+-- ..so those up to one behind them have the terms of those before, and its own
+pub vector_more : (op : BinaryOp) (c : Content) (b : Stored) (start from row : ℕ) (cols words : List ℕ) → start ≤ from
+    → from ≤ row → ((k : ℕ) → from ≤ k → k < row → c 0 k ≡ None)
+    → entries_along row cols words ≡ row_entries b.cols (content_of b) row
+    → terms_of_row op (row_part c 0 start (row + 1 - start)) b
+    ≡ terms_of_row op (row_part c 0 start (from - start)) b ++ times_found op (c 0 row) (entries_along 0 cols words)
+vector_more op c b start from row cols words le low empty line =
+    let p = from - start in
+    let n = row - from in
+    let all : row + 1 - start ≡ p + n + 1 = omega arith in
+    let at : start + (p + n) ≡ row = omega arith in
+    ap (λ k. terms_of_row op (row_part c 0 start k) b) all ∙ column_more op c b start (p + n)
+    ∙ ap (λ ts. ts ++ times_found op (c 0 (start + (p + n))) (row_entries b.cols (content_of b) (start + (p + n))))
+    (vector_gap op c b start p n (λ k above below. empty k (omega arith) (omega arith)))
+    ∙ ap (λ k. terms_of_row op (row_part c 0 start p) b ++ times_found op (c 0 k) (row_entries b.cols (content_of b) k)) at
+    ∙ ap (λ es. terms_of_row op (row_part c 0 start p) b ++ times_found op (c 0 row) es) (sym line)
+    ∙ ap (λ ts. terms_of_row op (row_part c 0 start p) b ++ ts) (found_any op (c 0 row) row cols words)
+
+-- ..and those up to the end, where nothing is left
+pub vector_all : (op : BinaryOp) (c : Content) (b : Stored) (start from past : ℕ) → start ≤ from → from ≤ past
+    → ((k : ℕ) → from ≤ k → k < past → c 0 k ≡ None)
+    → terms_of_row op (row_part c 0 start (past - start)) b ≡ terms_of_row op (row_part c 0 start (from - start)) b
+vector_all op c b start from past le low empty =
+    let p = from - start in
+    let n = past - from in
+    let all : past - start ≡ p + n = omega arith in
+    ap (λ k. terms_of_row op (row_part c 0 start k) b) all ∙ vector_gap op c b start p n (λ k above below. empty k (omega arith) (omega arith))
 
 -- ---- the walk
 

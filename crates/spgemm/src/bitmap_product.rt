@@ -43,8 +43,9 @@ pub fn suits_bitmap(u: &Bitmap, a: &Sparse) -> bool
 pub trait VectorProducts: WordMaker {
     /// All of the product of a vector and `a` over a semiring (`GrB_vxm` of GraphBLAS C API 2.0), from a bitmap to a
     /// bitmap. An entry stands where some k has both u(k) and A(k, i), also where its sum is 0, and is the sum of these
-    /// products in rising order of k. It goes along the rows of `a` that have entries and asks the vector at each: its
-    /// time follows these rows, the products and the columns of `a`. NoMemory where there is none for its lists.
+    /// products in rising order of k. It goes along the rows of `a` that have entries and asks the vector at each, or
+    /// over LOR along the vector's entries: its time follows these rows, the products and the columns of `a`. NoMemory
+    /// where there is none for its lists.
     fn multiply_bitmap(
         &self,
         alloc: Global,

@@ -56,7 +56,8 @@ impl<'a> Factors<'a> {
 
 /// The sums of all products, by one thread.
 pub(crate) fn sum_alone(alloc: Global, factors: Factors<'_>) -> Result<Sums, NoMemory>
-    requires { factors.places ≡ 64 * (factors.a.now.cols / 64 + 1) }
+    requires vector { factors.u.now.cols ≡ 1 }
+    requires places { factors.places ≡ 64 * (factors.a.now.cols / 64 + 1) }
     ensures { IfOk result (AreSumsOf factors.entry 0 factors.entry.a.now.rows) }
 {
     Sums::of_rows(alloc, factors, 0..factors.a.rows())
@@ -70,7 +71,8 @@ pub(crate) fn sum_beside<R: Threads>(
     alloc: Global,
     factors: Factors<'_>,
 ) -> Result<Sums, NoMemory>
-    requires { factors.places ≡ 64 * (factors.a.now.cols / 64 + 1) }
+    requires vector { factors.u.now.cols ≡ 1 }
+    requires places { factors.places ≡ 64 * (factors.a.now.cols / 64 + 1) }
     ensures { IfOk result (AreSumsOf factors.entry 0 factors.entry.a.now.rows) }
 {
     // The sums of each thread are put to the others', place by place, which takes a part of a product's time each.
@@ -93,6 +95,7 @@ fn sum_parts<R: Threads>(
     rows: Range<u64>,
     parts: u64,
 ) -> Result<Sums, NoMemory>
+    requires vector { factors.u.now.cols ≡ 1 }
     requires order { rows.start ≤ rows.end }
     requires places { factors.places ≡ 64 * (factors.a.now.cols / 64 + 1) }
     ensures { IfOk result (AreSumsOf factors.entry rows.start rows.end) }
@@ -102,11 +105,16 @@ fn sum_parts<R: Threads>(
     };
     let (first, past) = (rows.start, rows.end);
     let front = move || -> Result<Sums, NoMemory>
-        requires { (first ≤ cut) × (factors.places ≡ 64 * (factors.a.now.cols / 64 + 1)) }
+        requires vector { factors.u.now.cols ≡ 1 }
+        requires order { first ≤ cut }
+        requires places { factors.places ≡ 64 * (factors.a.now.cols / 64 + 1) }
         ensures { IfOk result (AreSumsOf factors.entry first cut) }
     { Sums::of_rows(alloc, factors, first..cut) };
     let back = move || -> Result<Sums, NoMemory>
-        requires { (cut ≤ past) × ((1 ≤ parts) × (factors.places ≡ 64 * (factors.a.now.cols / 64 + 1))) }
+        requires vector { factors.u.now.cols ≡ 1 }
+        requires order { cut ≤ past }
+        requires parts { 1 ≤ parts }
+        requires places { factors.places ≡ 64 * (factors.a.now.cols / 64 + 1) }
         ensures { IfOk result (AreSumsOf factors.entry cut past) }
     { sum_parts(rt, alloc, factors, cut..past, parts - 1) };
     let (low, high) = thread::join(rt, front, back);
@@ -135,6 +143,7 @@ fn cut_of(a: &Sparse, rows: Range<u64>, parts: u64) -> Option<u64>
 impl Sums {
     /// The sums of the products with the rows in a range.
     fn of_rows(alloc: Global, factors: Factors<'_>, rows: Range<u64>) -> Result<Sums, NoMemory>
+        requires vector { factors.u.now.cols ≡ 1 }
         requires order { rows.start ≤ rows.end }
         requires places { factors.places ≡ 64 * (factors.a.now.cols / 64 + 1) }
         ensures { IfOk result (AreSumsOf factors.entry rows.start rows.end) }

@@ -1,5 +1,6 @@
 //! The sums over LOR of the products of a vector that is a bitmap and some rows of a store, as bits.
-ghost use Rattle.std.specs.Prelude.{◌≡◌, ◌<◌, ◌≤◌, ◌-◌, ◌*◌, ◌/◌, ◌+◌, ◌++◌, ◌||◌, ℕ, List, IfOk, length};
+ghost use Rattle.std.specs.Prelude.{◌≡◌, ◌<◌, ◌≤◌, ◌-◌, ◌*◌, ◌/◌, ◌+◌, ◌++◌, ◌||◌, ℕ, List, IfOk, IfSome, None};
+ghost use Rattle.std.specs.Prelude.{length};
 ghost use Rattle.std.specs.List.{All};
 ghost use Rattle.algebra.specs.declared.kinds.MonoidKind.TheVariants.{Lor};
 ghost use Rattle.bitmap.specs.Bitmaps.{row_part};
@@ -17,10 +18,11 @@ use crate::bitmap_sums::Factors;
 use crate::truths::add_products;
 use algebra::{Semiring, with_semirings};
 use bitmap::Bitmap;
+use lanes::lowest_bits;
 use model::NoMemory;
 use std::alloc::Global;
 use std::ops::Range;
-use store::{Row, Sparse};
+use store::Sparse;
 
 /// Bits of the columns that have products, and of those whose sum is true.
 #[derive(Drop)]
@@ -37,6 +39,7 @@ impl TruthSums {
         rows: Range<u64>,
     ) -> Result<TruthSums, NoMemory>
         requires lor { factors.semiring.add.kind ≡ Lor }
+        requires vector { factors.u.now.cols ≡ 1 }
         requires order { rows.start ≤ rows.end }
         requires places { factors.places ≡ 64 * (factors.a.now.cols / 64 + 1) }
         ensures { IfOk result (AreTruthsOf factors.entry (terms_between factors.entry rows.start rows.end)) }
@@ -94,6 +97,7 @@ fn add_rows(
     requires trues { length trues.old ≡ length bits.old }
     requires inside { a.now.cols ≤ 64 * length bits.old }
     requires order { rows.start ≤ rows.end }
+    requires vector { u.now.cols ≡ 1 }
     requires none { AreClear bits.old }
     requires all_false { AreClear trues.old }
     ensures { AreTruths semiring.add.op (terms_of_row semiring.multiply
@@ -123,39 +127,64 @@ fn add_rows_by(
     requires trues { length trues.old ≡ length bits.old }
     requires inside { a.now.cols ≤ 64 * length bits.old }
     requires order { rows.start ≤ rows.end }
+    requires vector { u.now.cols ≡ 1 }
     requires none { AreClear bits.old }
     requires all_false { AreClear trues.old }
     ensures { AreTruths semiring.add.op (terms_of_row semiring.multiply
         (row_part (transposed_content (word_at u.now.entries)) 0 rows.start (rows.end - rows.start)) a.now)
         bits.new trues.new }
 {
-    let mut rest = a.rows_in(rows);
-    while let Some((line, others)) = rest.split_first() {
-        let word = u.get(line.index, 0);
-        add_row(bits, trues, word, line, semiring);
-        rest = others;
+    let mut last = 0;
+    let mut from = rows.start;
+    while let Some(row) = next_between(u, from, rows.end) {
+        let (cols, words, next) = a.row_near(row, last);
+        last = next;
+        add_row(bits, trues, u.get(row, 0), cols, words, semiring);
+        from = row + 1;
     }
 }
 
-/// Adds what the vector has at a row of `a` times each entry of the row, where it has a word.
+/// The first row from one on, and before another, at which a column has an entry. It goes along bits, 64 rows at a
+/// time: whether a row has an entry can't be foreseen.
+#[inline(always)]
+fn next_between(u: &Bitmap, from: u64, past: u64) -> Option<u64>
+    requires column { u.now.cols ≡ 1 }
+    ensures low { IfSome result (λ row. from ≤ row) }
+    ensures high { IfSome result (λ row. row < past) }
+    ensures gap { IfSome result (λ row. (k : ℕ) → from ≤ k → k < row → word_at u.now.entries k 0 ≡ None) }
+    ensures none { result ≡ None → (k : ℕ) → from ≤ k → k < past → word_at u.now.entries k 0 ≡ None }
+{
+    let mut row = from;
+    while row < past {
+        let left = u.present((row / 64) as usize) & !lowest_bits(row % 64);
+        if left != 0 {
+            let found = row / 64 * 64 + u64::from(left.trailing_zeros());
+            return if found < past { Some(found) } else { None };
+        }
+        row = (row / 64 * 64).saturating_add(64);
+    }
+    None
+}
+
+/// Adds what the vector has at a row of `a`, if anything, times each entry of the row.
 #[inline(always)]
 fn add_row(
     bits: &mut [u64],
     trues: &mut [u64],
     word: Option<u64>,
-    line: Row<'_>,
+    cols: &[u64],
+    words: &[u64],
     semiring: Semiring,
 )
     requires lor { semiring.add.kind ≡ Lor }
     requires trues { length trues.old ≡ length bits.old }
-    requires lengths { length line.words.now ≡ length line.cols.now }
-    requires inside { All (λ col. col < 64 * length bits.old) line.cols.now }
+    requires lengths { length words.now ≡ length cols.now }
+    requires inside { All (λ col. col < 64 * length bits.old) cols.now }
     ensures { (terms : List Term) → AreTruths semiring.add.op terms bits.old trues.old
-        → AreTruths semiring.add.op
-        (terms ++ times_found semiring.multiply word (entries_along 0 line.entry.cols.now line.entry.words.now))
+        → AreTruths semiring.add.op (terms ++ times_found semiring.multiply word (entries_along 0 cols.now words.now))
         bits.new trues.new }
 {
     if let Some(word) = word {
-        add_products(bits, trues, word, line.cols, line.words, semiring);
+        add_products(bits, trues, word, cols, words, semiring);
     }
 }

@@ -1,37 +1,44 @@
-use Rattle.std.proofs.Common.{List, arith}
+-- Each row that the vector has adds its terms, and those between them have none.
+use Rattle.std.proofs.Common.{◌-◌, List, arith, refl, subst, sym}
+use Rattle.bitmap.specs.Bitmaps.{row_part}
 use Rattle.model.specs.Entries.{word_at}
 use Rattle.model.specs.Object.{transposed_content}
-use Rattle.store.proofs.Walks.{rest_shorter}
+use Rattle.spgemm.specs.Terms.{terms_of_row}
 use Rattle.spgemm.specs.Truths.{AreTruths}
 use Rattle.spgemm.specs.declared.term.Term.{Term}
-use Rattle.spgemm.proofs.BitmapWalk.{across_all, across_more, across_next, across_none}
+use Rattle.spgemm.proofs.BitmapWalk.{no_columns, vector_all, vector_more}
 use Rattle.spgemm.proofs.DenseLaws.{cols_below}
 use Rattle.spgemm.proofs.TruthLaws.{no_truths}
 use Rattle.spgemm.proofs.bitmap_truths.add_rows_by.Goals as goal
 
-pub loop-line-init : goal.loop-line-init
-loop-line-init c = record {
-  walked = across_none c.args.semiring.multiply (transposed_content (word_at c.args.u.now.entries)) c.args.a.now c.args.rows.start c.args.rows.end (λ (terms : List Term). AreTruths c.args.semiring.add.op terms c.args.bits.now c.args.trues.now) c.rows_in-rest.result.entries c.requires.order c.rows_in-rest.ensures.entries (no_truths c.args.semiring.add.op c.args.bits.now c.args.trues.now c.requires.none c.requires.all_false);
+pub loop-row-init : goal.loop-row-init
+loop-row-init c = record {
+  low = omega arith;
+  high = c.requires.order;
+  sums = subst (λ (ts : List Term). AreTruths c.args.semiring.add.op ts c.args.bits.now c.args.trues.now)
+      (sym (no_columns c.args.semiring.multiply (transposed_content (word_at c.args.u.now.entries)) c.args.a.now c.args.rows.start))
+      (no_truths c.args.semiring.add.op c.args.bits.now c.args.trues.now c.requires.none c.requires.all_false);
 }
 
 pub add_row-requires-clause-inside : goal.add_row-requires-clause-inside
-add_row-requires-clause-inside c =
-    let line = c.in-Some.line in
-    let is = across_next c.args.semiring.multiply (transposed_content (word_at c.args.u.now.entries)) c.args.a.now c.args.rows.start c.args.rows.end (λ (terms : List Term). AreTruths c.args.semiring.add.op terms c.loop-line.bits c.loop-line.trues) c.loop-line.rest.entries line.index line.cols.now line.words.now c.in-Some.others.entries c.loop-line.invariant.walked c.in-Some.ensures in
-    cols_below c.args.a.now line.index line.cols.now line.words.now _ c.in-Some.ensures.lengths is (omega (arith, c.requires.inside))
+add_row-requires-clause-inside c = cols_below c.args.a.now c.in-Some.row c.row_near-next.result.0.now c.row_near-next.result.1.now _ c.row_near-next.ensures.lengths c.row_near-next.ensures.entries (omega (arith, c.requires.inside, c.loop-row.auto.bits))
 
-pub loop-line-smaller : goal.loop-line-smaller
-loop-line-smaller c =
-    let line = c.in-Some.line in
-    rest_shorter line.index line.cols.now line.words.now c.loop-line.rest.entries c.in-Some.others.entries c.in-Some.ensures
-
-pub loop-line-preserved : goal.loop-line-preserved
-loop-line-preserved c =
-    let line = c.in-Some.line in
+pub loop-row-preserved : goal.loop-row-preserved
+loop-row-preserved c =
+    let s = c.loop-row in
     let put = c.add_row in
+    let vector = transposed_content (word_at c.args.u.now.entries) in
+    let more = vector_more c.args.semiring.multiply vector c.args.a.now c.args.rows.start s.from c.in-Some.row c.row_near-next.result.0.now c.row_near-next.result.1.now s.invariant.low c.in-Some.ensures.low c.in-Some.ensures.gap c.row_near-next.ensures.entries in
     record {
-      walked = across_more c.args.semiring.multiply (transposed_content (word_at c.args.u.now.entries)) c.args.a.now c.args.rows.start c.args.rows.end (λ (terms : List Term). AreTruths c.args.semiring.add.op terms c.loop-line.bits c.loop-line.trues) (λ (terms : List Term). AreTruths c.args.semiring.add.op terms put.new.bits put.new.trues) c.loop-line.rest.entries line.index line.cols.now line.words.now c.in-Some.others.entries c.loop-line.invariant.walked c.in-Some.ensures (rw c.get-word.ensures at put.ensures);
+      low = omega (arith, s.invariant.low, c.in-Some.ensures.low);
+      high = omega (arith, c.in-Some.ensures.high);
+      sums = subst (λ (ts : List Term). AreTruths c.args.semiring.add.op ts put.new.bits put.new.trues) (sym more)
+          (rw c.get.ensures at put.ensures (terms_of_row c.args.semiring.multiply (row_part vector 0 c.args.rows.start (s.from - c.args.rows.start)) c.args.a.now) s.invariant.sums);
     }
 
 pub returns : goal.returns
-returns c = across_all c.args.semiring.multiply (transposed_content (word_at c.args.u.now.entries)) c.args.a.now c.args.rows.start c.args.rows.end (λ (terms : List Term). AreTruths c.args.semiring.add.op terms c.loop-line.bits c.loop-line.trues) c.loop-line.rest.entries c.loop-line.invariant.walked c.in_default.ensures
+returns c =
+    let s = c.loop-row in
+    let vector = transposed_content (word_at c.args.u.now.entries) in
+    subst (λ (ts : List Term). AreTruths c.args.semiring.add.op ts s.bits s.trues)
+    (sym (vector_all c.args.semiring.multiply vector c.args.a.now c.args.rows.start s.from c.args.rows.end s.invariant.low s.invariant.high (c.in_default.ensures.none refl))) s.invariant.sums
