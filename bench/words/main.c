@@ -13,7 +13,7 @@ typedef uint64_t u64;
 typedef int64_t i64;
 typedef void zip_loop(const u64 *a, const u64 *b, u64 *out, size_t n);
 typedef void unite_loop(const u64 *sides, const u64 *a, const u64 *b, u64 *out, size_t n);
-typedef void map_loop(u64 *a, size_t n);
+typedef void map_loop(const u64 *a, u64 *out, size_t n);
 typedef u64 fold_loop(const u64 *a, size_t n);
 
 #define ZIP(name, value)                                             \
@@ -59,11 +59,11 @@ UNITE(unite_eq, a[i] != 0, b[i] != 0, a[i] == b[i])
 UNITE(unite_lor, a[i] != 0, b[i] != 0, (a[i] || b[i]))
 UNITE(unite_first, a[i], b[i], a[i])
 
-#define MAP(name, value)                 \
-    static void name(u64 *a, size_t n)   \
-    {                                    \
-        for (size_t i = 0; i < n; i++)   \
-            a[i] = value;                \
+#define MAP(name, value)                               \
+    static void name(const u64 *a, u64 *out, size_t n) \
+    {                                                  \
+        for (size_t i = 0; i < n; i++)                 \
+            out[i] = value;                            \
     }
 
 MAP(map_ainv, -a[i])
@@ -209,7 +209,7 @@ int main(int count, char **words)
     if (strcmp(name, "map") == 0)
         for (size_t k = 0; k < COUNT(MAPS); k++) {
             make_lists(MAPS[k].is_bool);
-            TIME(MAPS[k].loop(a, WORDS), MAPS[k].name, a);
+            TIME(MAPS[k].loop(a, out, WORDS), MAPS[k].name, out);
         }
     if (strcmp(name, "fold") == 0)
         for (size_t k = 0; k < COUNT(FOLDS); k++) {

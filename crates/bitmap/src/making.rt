@@ -91,10 +91,7 @@ impl<'a> Words<'a> {
         let past = start + part.len();
         match self {
             Words::Copied { a } => part.copy_from_slice(&a[start..past]),
-            Words::Mapped { function, a } => {
-                part.copy_from_slice(&a[start..past]);
-                function.change(part);
-            }
+            Words::Mapped { function, a } => function.write(&a[start..past], part),
             Words::Answers { op, s, cols, a } => {
                 part.copy_from_slice(&a[start..past]);
                 write_answers(op, s, cols, start, part);
@@ -162,10 +159,6 @@ fn append(made: &mut Vec<u64>, words: Words<'_>, past: usize) -> Result<(), NoMe
     let start = made.len();
     match words {
         Words::Copied { a } => made.extend_from_slice(&a[start..past])?,
-        Words::Mapped { function, a } => {
-            made.extend_from_slice(&a[start..past])?;
-            function.change(&mut made[start..]);
-        }
         Words::Answers { op, s, cols, a } => {
             made.extend_from_slice(&a[start..past])?;
             write_answers(op, s, cols, start, &mut made[start..]);

@@ -1,5 +1,5 @@
 //! Words by a function of a word alone.
-ghost use Rattle.std.specs.Prelude.{◌≡◌, map};
+ghost use Rattle.std.specs.Prelude.{◌≡◌, length, map};
 ghost use Rattle.lanes.specs.Functions.{word_made};
 
 use crate::{bind_first, bind_second, map_words};
@@ -17,14 +17,15 @@ pub enum WordFunction {
 }
 
 impl WordFunction {
-    /// Makes each word what the function gives for it.
-    pub fn change(self, words: &mut [u64])
-        ensures { words.new ≡ map (word_made self) words.old }
+    /// Makes each word of `out` what the function gives for the word in its place.
+    pub fn write(self, words: &[u64], out: &mut [u64])
+        requires { length words.now ≡ length out.old }
+        ensures { out.new ≡ map (word_made self) words.now }
     {
         match self {
-            WordFunction::Unary(op) => map_words(op, words),
-            WordFunction::First { op, value } => bind_first(op, value, words),
-            WordFunction::Second { op, value } => bind_second(op, words, value),
+            WordFunction::Unary(op) => map_words(op, words, out),
+            WordFunction::First { op, value } => bind_first(op, value, words, out),
+            WordFunction::Second { op, value } => bind_second(op, words, value, out),
         }
     }
 }
