@@ -5,6 +5,7 @@ pub mod Counts
 pub mod Extracts
 pub mod FewLaws
 pub mod FillLaws
+pub mod FlatWalk
 pub mod Gathering
 pub mod Going
 pub mod ListLaws

@@ -4,7 +4,6 @@
 
 mod assigning;
 mod collecting;
-mod columns;
 mod counting;
 mod extracting;
 mod few;
@@ -19,9 +18,8 @@ mod spans;
 mod transposing;
 
 pub use assigning::assign_rows;
-pub use columns::transpose_range;
 pub use extracting::extract_rows;
 pub use filling::assign_const_rows;
 pub use putting::put_rows;
 pub use resizing::resize;
-pub use transposing::transpose;
+pub use transposing::{transpose, transpose_range};
