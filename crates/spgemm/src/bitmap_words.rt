@@ -64,57 +64,43 @@ impl WordSums {
         ensures words { (at : ℕ) → at < length self.old.words.items → slice_index self.new.words.items at
             ≡ apply semiring.add.op (slice_index self.old.words.items at) (slice_index other.now.words.items at) }
     {
-        let (marks, words) = (&mut self.marks, &mut self.words);
-        put_to(marks, words, &other.marks, &other.words, semiring);
+        put_marks(&mut self.marks, &other.marks);
+        put_words(&mut self.words, &other.words, semiring);
     }
 }
 
-/// What `WordSums::add` does.
-fn put_to(
-    marks: &mut [bool],
-    words: &mut [u64],
-    other_marks: &[bool],
-    other_words: &[u64],
-    semiring: Semiring,
-)
-    requires marks { length other_marks.now ≡ length marks.old }
-    requires words { length other_words.now ≡ length words.old }
-    requires lengths { length marks.old ≡ length words.old }
-    ensures marks_length { length marks.new ≡ length marks.old }
-    ensures words_length { length words.new ≡ length words.old }
-    ensures marks { (at : ℕ) → at < length words.old → slice_index_or marks.new at false
-        ≡ (slice_index_or marks.old at false || slice_index_or other_marks.now at false) }
-    ensures words { (at : ℕ) → at < length words.old → slice_index words.new at
-        ≡ apply semiring.add.op (slice_index words.old at) (slice_index other_words.now at) }
+/// Sets the marks that are set among others.
+fn put_marks(marks: &mut [bool], others: &[bool])
+    requires { length others.now ≡ length marks.old }
+    ensures length { length marks.new ≡ length marks.old }
+    ensures marks { (at : ℕ) → at < length marks.old → slice_index_or marks.new at false
+        ≡ (slice_index_or marks.old at false || slice_index_or others.now at false) }
 {
-    with_semiring!(
-        semiring,
-        |own| put_by(own.add.op, marks, words, other_marks, other_words)
-    )
+    for at in 0..marks.len() {
+        marks[at] = marks[at] | others[at];
+    }
 }
 
-/// What `put_to` does, by one operator of its arms.
-#[inline(always)]
-fn put_by(
-    op: BinaryOp,
-    marks: &mut [bool],
-    words: &mut [u64],
-    other_marks: &[bool],
-    other_words: &[u64],
-)
-    requires marks { length other_marks.now ≡ length marks.old }
-    requires words { length other_words.now ≡ length words.old }
-    requires lengths { length marks.old ≡ length words.old }
-    ensures marks_length { length marks.new ≡ length marks.old }
-    ensures words_length { length words.new ≡ length words.old }
-    ensures marks { (at : ℕ) → at < length words.old → slice_index_or marks.new at false
-        ≡ (slice_index_or marks.old at false || slice_index_or other_marks.now at false) }
+/// Adds other words, place by place.
+fn put_words(words: &mut [u64], others: &[u64], semiring: Semiring)
+    requires { length others.now ≡ length words.old }
+    ensures length { length words.new ≡ length words.old }
     ensures words { (at : ℕ) → at < length words.old → slice_index words.new at
-        ≡ apply op (slice_index words.old at) (slice_index other_words.now at) }
+        ≡ apply semiring.add.op (slice_index words.old at) (slice_index others.now at) }
+{
+    with_semiring!(semiring, |own| put_by(own.add.op, words, others))
+}
+
+/// What `put_words` does, by one operator of its arms.
+#[inline(always)]
+fn put_by(op: BinaryOp, words: &mut [u64], others: &[u64])
+    requires { length others.now ≡ length words.old }
+    ensures length { length words.new ≡ length words.old }
+    ensures words { (at : ℕ) → at < length words.old → slice_index words.new at
+        ≡ apply op (slice_index words.old at) (slice_index others.now at) }
 {
     for at in 0..words.len() {
-        marks[at] = marks[at] | other_marks[at];
-        words[at] = op.eval(words[at], other_words[at]);
+        words[at] = op.eval(words[at], others[at]);
     }
 }
 
