@@ -40,7 +40,7 @@ pub fn makes_lists(recipe: &Recipe) -> bool {
 
 /// Whether what a recipe leaves stays in lists: a product, whose factors are read as lists; but no product with a
 /// vector that has a way of its own with bitmaps, which is without a mask, or of a vector and a matrix where nothing
-/// stays of what was there.
+/// stays of what was there (`GrB_REPLACE`, no accumulator).
 fn stays_listed(recipe: &Recipe) -> bool {
     let Recipe::Computed(computation) = recipe else {
         return false;
@@ -53,7 +53,9 @@ fn stays_listed(recipe: &Recipe) -> bool {
         TwoInputs::Multiply { form, .. } => match form {
             Form::MatrixMatrix => true,
             Form::MatrixVector => out.mask.is_some(),
-            Form::VectorMatrix => out.mask.is_some() && !out.desc.replace,
+            Form::VectorMatrix => {
+                out.mask.is_some() && (!out.desc.replace || out.accum.is_some())
+            }
         },
         TwoInputs::Combine { .. } => false,
     }
