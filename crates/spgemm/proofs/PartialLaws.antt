@@ -30,7 +30,7 @@ use Rattle.spgemm.specs.Terms.{apply, term_at, terms_of_row, times_row, words_at
 use Rattle.spgemm.proofs.BitmapWalk.{terms_append}
 use Rattle.spgemm.specs.Truths.{AreTruths, truth}
 use Rattle.spgemm.proofs.Terms.{reduce-none, words_at-append}
-use Rattle.spgemm.proofs.TruthLaws.{lor_either, on_bool}
+use Rattle.spgemm.proofs.TruthLaws.{lor_truths, on_bool}
 
 -- ---- the words of products
 
@@ -179,7 +179,7 @@ truths_together semiring low high b bits trues others adds bits' trues' lor long
           let p = has_bit trues col in
           let q = has_bit adds col in
           rw (met col, true_ col)
-          (ap (λ w. cond (m || n) (Some w) None) (sym (lor_either add.op p q on.0 on.1))
+          (ap (λ w. cond (m || n) (Some w) None) (sym (lor_truths add.op p q on.0 on.1))
           ∙ place_sum add (words_at col ts) (words_at col us) m n (truth p) (truth q)
           (sums_of_words semiring col low b) (sums_of_words semiring col high b) (front.sums_are col (omega arith)) (back.sums_are col (omega arith))
           (λ none. ap truth (front.others_are col none) ∙ sym zero) (λ none. ap truth (back.others_are col none) ∙ sym zero)

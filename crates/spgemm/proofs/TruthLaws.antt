@@ -1,10 +1,8 @@
 -- Sums over LOR as bits, one term after another.
-use Rattle.std.proofs.Common.{◌≡◌, ℕ, ◌<◌, ◌≤◌, ◌*◌, ◌+◌, ◌/◌, ◌%◌, ◌&&◌, ◌||◌, ◌++◌, ◌∷◌, [], Bool, true, false, cond, List, Some, None, length, eqb, get_or, bit_or, max, set, refl, sym, ◌∙◌, ap, inl, inr, arith}
-use Rattle.std.specs.Int.{bit_at}
-use Rattle.std.proofs.lemmas.Bool.{cases_eq, cases_lt, eq-eqb, ne_eqb}
-use Rattle.std.proofs.lemmas.Bool.Decides.{nat_tests}
-use Rattle.std.proofs.lemmas.List.{get_or-set_other, get_or-set_same, get_or_past}
-use Rattle.std.proofs.lemmas.Nat.Bits.{bit_at-lt, bit_at-zero, bit_at_or}
+use Rattle.std.proofs.Common.{◌≡◌, ℕ, ◌<◌, ◌≤◌, ◌*◌, ◌+◌, ◌/◌, ◌%◌, ◌&&◌, ◌||◌, ◌++◌, ◌∷◌, [], Bool, true, false, cond, List, Some, None, length, eqb, get_or, bit_or, set, refl, sym, ◌∙◌, ap, inl, inr, arith}
+use Rattle.std.proofs.lemmas.Bool.{cases_eq, eq-eqb, ne_eqb}
+use Rattle.std.proofs.lemmas.List.{get_or-set_other, get_or-set_same}
+use Rattle.std.proofs.lemmas.Nat.Bits.{bit_at-zero}
 use Rattle.algebra.proofs.Words.{IsWordOf-eval}
 use Rattle.algebra.specs.declared.binary.BinaryOp.{BinaryOp}
 use Rattle.algebra.specs.declared.domain.Domain.{Domain}
@@ -15,7 +13,9 @@ use Rattle.algebra.specs.declared.monoid.Monoid.{Monoid}
 use Rattle.algebra.specs.declared.semiring.Semiring.{Semiring}
 use Rattle.algebra.specs.Operators.{combines_by}
 use Rattle.algebra.specs.Value.{IsWordOf, is_boolean}
+use Rattle.bitmap.proofs.KernelLaws.{either_bit}
 use Rattle.lanes.specs.Bits.{has_bit}
+use Rattle.lanes.proofs.Lists.{zip_with-from_places}
 use Rattle.spgemm.specs.Dense.{AreClear, AreColumnSums}
 use Rattle.spgemm.specs.Terms.{apply, sum_at, term_at}
 use Rattle.spgemm.specs.Truths.{AreTruths, truth}
@@ -23,20 +23,12 @@ use Rattle.spgemm.specs.declared.term.Term.{Term}
 use Rattle.spgemm.proofs.SlotSums.{sum_away, sum_here}
 
 -- LOR of two truth values
-lor_truths : (op : BinaryOp) (a b : Bool) → op.kind ≡ Lor → op.domain ≡ BOOL
-    → apply op (truth a) (truth b) ≡ truth (b || a)
+pub lor_truths : (op : BinaryOp) (a b : Bool) → op.kind ≡ Lor → op.domain ≡ BOOL
+    → apply op (truth a) (truth b) ≡ truth (a || b)
 lor_truths op true true kind domain = rw (kind, domain) refl
 lor_truths op true false kind domain = rw (kind, domain) refl
 lor_truths op false true kind domain = rw (kind, domain) refl
 lor_truths op false false kind domain = rw (kind, domain) refl
-
--- ..as they come
-pub lor_either : (op : BinaryOp) (a b : Bool) → op.kind ≡ Lor → op.domain ≡ BOOL
-    → apply op (truth a) (truth b) ≡ truth (a || b)
-lor_either op true true kind domain = rw (kind, domain) refl
-lor_either op true false kind domain = rw (kind, domain) refl
-lor_either op false true kind domain = rw (kind, domain) refl
-lor_either op false false kind domain = rw (kind, domain) refl
 
 -- a word of BOOL is a truth value
 pub truth_of : (word : ℕ) → word < 2 → word ≡ truth (eqb word 1)
@@ -58,13 +50,21 @@ or_false : (a : Bool) → (a || false) ≡ a
 or_false true = refl
 or_false false = refl
 
+or_true : (a : Bool) → (a || true) ≡ true
+or_true true = refl
+or_true false = refl
+
+or_exchanged : (a b : Bool) → (a || b) ≡ (b || a)
+or_exchanged true b = sym (or_true b)
+or_exchanged false b = sym (or_false b)
+
 -- at a column that a term is at stands whether its word or what was there is true
 truth_here : (op : BinaryOp) (terms : List Term) (t : Term) (k : ℕ) (met was : Bool) → op.kind ≡ Lor → op.domain ≡ BOOL
     → t.word < 2 → t.col ≡ k → cond met (Some (truth was)) None ≡ sum_at op k terms → (met ≡ false → was ≡ false)
     → Some (truth (eqb t.word 1 || was)) ≡ sum_at op k (terms ++ t ∷ [])
 truth_here op terms t k true was kind domain small at here only =
     let is = truth_of t.word small in
-    sym (sum_here op k terms t at ∙ rw (← here) (ap (λ w. Some (apply op (truth was) w)) is ∙ ap Some (lor_truths op was (eqb t.word 1) kind domain)))
+    sym (sum_here op k terms t at ∙ rw (← here) (ap (λ w. Some (apply op (truth was) w)) is ∙ ap Some (lor_truths op was (eqb t.word 1) kind domain ∙ ap truth (or_exchanged was (eqb t.word 1)))))
 truth_here op terms t k false was kind domain small at here only =
     sym (sum_here op k terms t at ∙ rw (← here, only refl) (ap Some (truth_of t.word small ∙ ap truth (sym (or_false (eqb t.word 1))))))
 
@@ -133,24 +133,13 @@ written_more trues words at within here = record {
 
 -- ---- bits of two lists
 
-max_one : (a b : ℕ) → a < 2 → b < 2 → eqb (max a b) 1 ≡ (eqb a 1 || eqb b 1)
-max_one a b a_small b_small = grind (arith, nat_tests)
-
 -- the bits of words that are those of either list
 pub either_bits : (xs ys zs : List ℕ) → length ys ≡ length xs → length zs ≡ length xs
     → ((k : ℕ) → k < length xs → get_or zs k 0 ≡ bit_or (get_or xs k 0) (get_or ys k 0)) → (at : ℕ)
     → has_bit zs at ≡ (has_bit xs at || has_bit ys at)
 either_bits xs ys zs same long each at =
-    let k = at / 64 in
-    let i = at % 64 in
-    elim (cases_lt k (length xs)) [
-      | inl inside ↦
-          let a = get_or xs k 0 in
-          let b = get_or ys k 0 in
-          ap (λ n. eqb (bit_at n i) 1) (each k inside) ∙ ap (λ n. eqb n 1) (bit_at_or a b i)
-          ∙ max_one (bit_at a i) (bit_at b i) (bit_at-lt a i) (bit_at-lt b i)
-      | inr past ↦ rw (get_or_past zs k 0 (omega arith), get_or_past xs k 0 (omega arith), get_or_past ys k 0 (omega arith), bit_at-zero i) refl
-    ]
+    ap (λ bits. has_bit bits at) (zip_with-from_places bit_or xs ys zs (sym long) (omega arith) (λ k within. each k (omega arith)))
+    ∙ either_bit xs ys at same
 
 -- LOR is on BOOL alone
 boolean : (d : Domain) → is_boolean d ≡ true → d ≡ BOOL
