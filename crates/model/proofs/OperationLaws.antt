@@ -30,7 +30,7 @@ use Rattle.model.specs.declared.call.TwoInputs.TheVariants.{Combine, Multiply}
 use Rattle.model.specs.declared.shape.Signature.{Signature}
 use Rattle.model.specs.ElementWise.{eval_cast, of_both, of_either}
 use Rattle.model.specs.Object.{AreWordsOf, Content, IsObject, Object, cols_of, in_domain, rows_of, signature_of, transposed_content, IsWithin, is_matrix, same_shape, transposed_shape}
-use Rattle.model.specs.Operations.{combined, computed_of_one, computed_of_two, multiplied, operation, computed}
+use Rattle.model.specs.Operations.{combined, computed_of_one, computed_of_two, multiplied, operation}
 use Rattle.model.specs.Product.{sum_domain, product}
 use Rattle.model.specs.Reductions.{row_words, row_sums}
 use Rattle.model.specs.Regions.{cols_in, rows_in}

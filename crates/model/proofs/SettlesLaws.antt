@@ -1,5 +1,5 @@
 -- Objects whose values come to be there, one after the other, and runs of lines that begin from them.
-use Rattle.std.proofs.Common.{◌≡◌, ◌∙◌, ℕ, ◌+◌, Bool, true, false, cond, List, [], ◌∷◌, refl, sym, subst, ap, inl, inr}
+use Rattle.std.proofs.Common.{◌≡◌, ◌∙◌, ℕ, Bool, true, false, cond, List, [], ◌∷◌, refl, sym, subst, ap, inl, inr}
 use Rattle.std.proofs.lemmas.Bool.{cases_Bool}
 use Rattle.model.specs.Grammar.{Name, Reading}
 use Rattle.model.specs.Marks.{Mark, MayBecome, Open, Settles, State, Told, Unmarked, is_told, told, with_mark}
