@@ -1,4 +1,5 @@
 pub mod BetweenLaws
+pub mod BucketLaws
 pub mod ColumnFibers
 pub mod ColumnPlaces
 pub mod Counts

@@ -1,3 +1,4 @@
+pub mod Buckets
 pub mod Collects
 pub mod Columns
 pub mod Lists

@@ -3,6 +3,7 @@
 #![tactic(auto)]
 
 mod assigning;
+mod buckets;
 mod collecting;
 mod counting;
 mod extracting;
@@ -14,6 +15,7 @@ mod places;
 mod putting;
 mod resizing;
 mod rows;
+mod scattering;
 mod spans;
 mod transposing;
 
