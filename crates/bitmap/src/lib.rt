@@ -10,4 +10,4 @@ mod threads;
 
 pub use bitmap::Bitmap;
 pub use making::Words;
-pub use threads::{OneThread, SeveralThreads, WordMaker};
+pub use threads::{OneThread, OneThreadWithSpare, SeveralThreads, WordMaker};

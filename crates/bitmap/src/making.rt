@@ -144,6 +144,19 @@ pub(crate) fn make_alone(alloc: Global, words: Words<'_>) -> Result<Vec<u64>, No
     Ok(made)
 }
 
+/// The words, by the calling thread, in the place of what a list holds. Memory is taken where it has no room for them.
+pub(crate) fn make_over(list: Vec<u64>, words: Words<'_>) -> Result<Vec<u64>, NoMemory>
+    requires { Fits words }
+    ensures length { IfOk result (λ made. length made.items ≡ places_of words.entry) }
+    ensures words { IfOk result (λ made. (k : ℕ) → k < places_of words.entry
+        → IsMade words.entry k (slice_index made.items k)) }
+{
+    let mut made = list;
+    made.resize(words.places(), 0)?;
+    fill_in_turns(words, 0, &mut made);
+    Ok(made)
+}
+
 /// Appends the words up to a place.
 fn append(made: &mut Vec<u64>, words: Words<'_>, past: usize) -> Result<(), NoMemory>
     requires fits { Fits words }

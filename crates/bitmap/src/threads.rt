@@ -2,7 +2,7 @@
 ghost use Rattle.std.specs.Prelude.{◌≡◌, ◌<◌, ℕ, IfOk, length, slice_index};
 ghost use Rattle.bitmap.specs.Words.{Fits, IsMade, places_of};
 
-use crate::making::{Words, fill_beside, make_alone};
+use crate::making::{Words, fill_beside, make_alone, make_over};
 use model::NoMemory;
 use std::alloc::Global;
 use std::cell::Cell;
@@ -31,6 +31,36 @@ impl WordMaker for OneThread {
     }
 }
 
+/// The calling thread alone, with a list that nobody needs any more: the words that are made next lie in its memory,
+/// where it has room for them. What it holds doesn't matter.
+#[derive(Drop)]
+pub struct OneThreadWithSpare {
+    spare: Cell<Option<Vec<u64>>>,
+}
+
+impl OneThreadWithSpare {
+    /// The calling thread, with such a list if there is one.
+    pub fn new(spare: Option<Vec<u64>>) -> OneThreadWithSpare {
+        OneThreadWithSpare {
+            spare: Cell::new(spare),
+        }
+    }
+
+    /// The list that nobody needs, where no words were made in its memory.
+    pub fn into_spare(self) -> Option<Vec<u64>> {
+        self.spare.into_inner()
+    }
+}
+
+impl WordMaker for OneThreadWithSpare {
+    fn make(&self, alloc: Global, words: Words<'_>) -> Result<Vec<u64>, NoMemory> {
+        match take_spare(&self.spare, words.places()) {
+            Some(spare) => make_over(spare, words),
+            None => make_alone(alloc, words),
+        }
+    }
+}
+
 /// The calling thread and others, which are started for the time of a call.
 #[derive(Drop)]
 pub struct SeveralThreads<'a, R> {
@@ -45,8 +75,7 @@ impl<'a, R> SeveralThreads<'a, R> {
         SeveralThreads::with_spare(starter, others, None)
     }
 
-    /// The same, with a list that nobody needs any more: the words that are made next lie in its memory, where it has
-    /// room for them. What it holds doesn't matter.
+    /// The same, with a list that nobody needs any more, as `OneThreadWithSpare` has one.
     pub fn with_spare(
         starter: &'a R,
         others: u64,
@@ -73,19 +102,6 @@ impl<'a, R> SeveralThreads<'a, R> {
     pub fn others(&self) -> u64 {
         self.others
     }
-
-    /// The list that nobody needs, where it has room for so many words and for less than twice as many.
-    fn spare_for(&self, places: usize) -> Option<Vec<u64>> {
-        match self.spare.replace(None) {
-            Some(spare) if spare.capacity() >= places && spare.capacity() / 2 < places => {
-                Some(spare)
-            }
-            other => {
-                self.spare.set(other);
-                None
-            }
-        }
-    }
 }
 
 impl<'a, R: Threads> WordMaker for SeveralThreads<'a, R> {
@@ -93,7 +109,7 @@ impl<'a, R: Threads> WordMaker for SeveralThreads<'a, R> {
         let places = words.places();
         let parts = (words.read() / WORTH_A_THREAD) as u64;
         let parts = parts.min(self.others.saturating_add(1)).max(1) as usize;
-        let spare = self.spare_for(places);
+        let spare = take_spare(&self.spare, places);
         if parts == 1 && spare.is_none() {
             return make_alone(alloc, words);
         }
@@ -109,5 +125,16 @@ impl<'a, R: Threads> WordMaker for SeveralThreads<'a, R> {
             &mut made,
         );
         Ok(made)
+    }
+}
+
+/// The list that nobody needs, where it has room for so many words and for less than twice as many.
+fn take_spare(spare: &Cell<Option<Vec<u64>>>, places: usize) -> Option<Vec<u64>> {
+    match spare.replace(None) {
+        Some(list) if list.capacity() >= places && list.capacity() / 2 < places => Some(list),
+        other => {
+            spare.set(other);
+            None
+        }
     }
 }

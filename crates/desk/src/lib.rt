@@ -2,19 +2,23 @@
 //! done and given up.
 #![tactic(auto)]
 
+mod amounts;
 mod cutting;
 mod dropping;
 mod picker;
 mod places;
 mod placing;
+mod spares;
 mod ticket;
 mod works;
 
+pub use amounts::{work_in, work_of};
 pub use cutting::take_cut;
 pub use dropping::give_up;
 pub use picker::{Order, Picker};
 pub use pieces::{Joining, SpareLists, entries_in, may_stay_apart, united};
 pub use places::{notes_of, slot_of};
 pub use placing::place;
+pub use spares::{Spares, lists_of, needs_spare};
 pub use ticket::Ticket;
-pub use works::{joined_of, look, made_of, part_of, take, work};
+pub use works::{joined_of, look, made_of, part_of, share_of, take, work};

@@ -34,6 +34,9 @@ use std::sync::Arc;
 use std::thread::Threads;
 use store::Store;
 
+/// A store of fewer entries is dropped in less time than its share is taken and given back by another thread.
+const SOON_DROPPED: u64 = 1_024;
+
 /// The store of a slot, or that none will come. None while it is still to come.
 pub fn look<N: Drop>(board: &Board<N>, slot: u64) -> Option<Result<Arc<Store>, Failed>>
     ensures { IfSome result (λ found. IfOk found
@@ -43,6 +46,14 @@ pub fn look<N: Drop>(board: &Board<N>, slot: u64) -> Option<Result<Arc<Store>, F
         Look::Done(store) => Some(Arc::try_clone(store).map_err(|_| Failed)),
         Look::Failed | Look::Gone => Some(Err(Failed)),
         Look::Unfinished => None,
+    }
+}
+
+/// A share of a slot's store, where it is there and takes long to drop, or has lists that are worth to be kept.
+pub fn share_of<N: Drop>(board: &Board<N>, slot: u64) -> Option<Arc<Store>> {
+    match board.look(slot) {
+        Look::Done(store) if store.nvals() >= SOON_DROPPED => Arc::try_clone(store).ok(),
+        _ => None,
     }
 }
 
@@ -115,8 +126,13 @@ pub fn joined_of(
 }
 
 /// Does a piece that was taken and is all of its task, and hands in what it makes; where there is no memory for it, its
-/// slot fails.
-pub fn work<N: Drop>(alloc: Global, board: &mut Board<N>, piece: Piece)
+/// slot fails. Gives back what the work was made of. What goes along bitmaps is made by `products`.
+pub fn work<V: VectorProducts, N: Drop>(
+    products: &V,
+    alloc: Global,
+    board: &mut Board<N>,
+    piece: Piece,
+) -> Piece
     requires piece { IsPieceFor (view_of board.old).tasks piece }
     requires whole { is_whole piece ≡ true }
     requires uncut { AreUncut (cuts_of board.old) }
@@ -128,12 +144,14 @@ pub fn work<N: Drop>(alloc: Global, board: &mut Board<N>, piece: Piece)
 {
     let number = piece.number;
     let mut piece = piece;
-    match made_of(&OneThread, alloc, &mut piece) {
+    match made_of(products, alloc, &mut piece) {
         Ok(store) => {
             let _ = board.hand_in(number, store);
+            piece
         }
         Err(NoMemory) => {
             let _ = board.fail(number);
+            piece
         }
     }
 }

@@ -7,7 +7,7 @@ ghost use Rattle.desk.specs.Works.{AreUncut};
 use crate::work::finish;
 use board::Board;
 use calls::{Recipe, Roles};
-use desk::{Picker, Ticket, give_up, notes_of, place, slot_of};
+use desk::{Picker, Spares, Ticket, give_up, notes_of, place, share_of, slot_of};
 use history::{History, Naming, Note, Noted};
 use model::NoMemory;
 use runner::{Failed, Runner};
@@ -23,6 +23,7 @@ pub struct Inline<J: Naming, P: Picker + Drop> {
     pub epoch: u64,
     history: History,
     board: Board<Note<J>>,
+    spares: Spares,
     ghost named: { history ≡ J.book },
     ghost told: { AreTold told (view_of board) },
     ghost uncut: { AreUncut (cuts_of board) },
@@ -40,6 +41,7 @@ impl<J: Naming, P: Picker + Drop> Inline<J, P> {
             epoch: 0,
             history,
             board: Board::new(alloc),
+            spares: Spares::new(alloc),
         }
     }
 }
@@ -80,7 +82,13 @@ impl<J: Naming, P: Picker + Drop> Runner for Inline<J, P> {
         let Some(slot) = slot_of(&self.board, &self.history, self.epoch, ticket) else {
             return Err(Failed);
         };
-        finish(self.alloc, &mut self.picker, &mut self.board, slot)
+        finish(
+            self.alloc,
+            &mut self.picker,
+            &mut self.spares,
+            &mut self.board,
+            slot,
+        )
     }
 
     fn hold(&mut self, ticket: &Ticket<Note<J>>) -> Result<Ticket<Note<J>>, NoMemory> {
@@ -96,8 +104,10 @@ impl<J: Naming, P: Picker + Drop> Runner for Inline<J, P> {
 
     fn let_go(&mut self, ticket: Ticket<Note<J>>) {
         if let Some(slot) = slot_of(&self.board, &self.history, self.epoch, &ticket) {
+            let share = share_of(&self.board, slot);
             let _ = self.board.let_go(slot);
             give_up(&mut self.board, slot);
+            self.spares.drop_share(share);
         }
     }
 

@@ -9,7 +9,8 @@ ghost use Rattle.desk.specs.Works.{AreUncut};
 ghost use Rattle.runner.specs.Tickets.{IsStoreFor};
 
 use board::Board;
-use desk::{Picker, look, take, work};
+use desk::{Picker, Spares, look, needs_spare, take, work};
+use kernel::OneThreadWithSpare;
 use runner::Failed;
 use std::alloc::Global;
 use std::sync::Arc;
@@ -19,6 +20,7 @@ use store::Store;
 pub(crate) fn finish<P: Picker, N: Drop>(
     alloc: Global,
     picker: &mut P,
+    spares: &mut Spares,
     board: &mut Board<N>,
     slot: u64,
 ) -> Result<Arc<Store>, Failed>
@@ -33,7 +35,7 @@ pub(crate) fn finish<P: Picker, N: Drop>(
         if let Some(found) = look(board, slot) {
             return found;
         }
-        if !work_once(alloc, picker, board) {
+        if !work_once(alloc, picker, spares, board) {
             return Err(Failed);
         }
     }
@@ -43,6 +45,7 @@ pub(crate) fn finish<P: Picker, N: Drop>(
 pub(crate) fn work_once<P: Picker, N: Drop>(
     alloc: Global,
     picker: &mut P,
+    spares: &mut Spares,
     board: &mut Board<N>,
 ) -> bool
     requires { AreUncut (cuts_of board.old) }
@@ -55,6 +58,16 @@ pub(crate) fn work_once<P: Picker, N: Drop>(
     let Some(piece) = take(picker, board) else {
         return false;
     };
-    work(alloc, board, piece);
+    let spare = if needs_spare(&piece) {
+        spares.take()
+    } else {
+        None
+    };
+    let alone = OneThreadWithSpare::new(spare);
+    let spent = work(&alone, alloc, board, piece);
+    if let Some(spare) = alone.into_spare() {
+        spares.put_back(spare);
+    }
+    spares.drop_piece(spent);
     true
 }

@@ -20,7 +20,7 @@ mod reading;
 mod sampling;
 mod task;
 
-pub use bitmap::{OneThread, SeveralThreads};
+pub use bitmap::{OneThread, OneThreadWithSpare, SeveralThreads};
 pub use block::Block;
 pub use cutting::{cuts, is_cut};
 pub use evaluation::evaluate;

@@ -5,6 +5,7 @@ use Rattle.std.proofs.Crossing.{crosses}
 use Rattle.boxcar.proofs.Sent.{slot_send, slot_sync, tag_send, tag_sync}
 use Rattle.board.specs.contracts.board.Board as B
 use Rattle.board.proofs.SendLaws.{board_send}
+use Rattle.desk.specs.contracts.spares.Spares as D
 use Rattle.journal.specs.declared.journal.Naming.{Ghosts}
 use Rattle.journal.specs.contracts.entry.Entry as E
 use Rattle.journal.specs.contracts.journal.Log as L
@@ -14,7 +15,7 @@ use Rattle.journal.proofs.journal.Note.TheSendSync as note
 use Rattle.pool.specs.contracts.crew.Crew as C
 use Rattle.pool.specs.contracts.named.Named as M
 use Rattle.pool.specs.contracts.shared.Shared as S
-use Rattle.pool.specs.contracts.spares.Spares as Q
+use Rattle.pool.specs.contracts.spares.SharedSpares as Q
 use Rattle.pool.specs.contracts.tasks.Tasks as T
 
 entry_send : IsSend E.the_row
@@ -38,11 +39,14 @@ named_sync J g = search (sendable, crosses, log_sync) depth 100 fits 20000
 crew_send : IsSend (C.the_field).row
 crew_send = search (sendable, crosses) depth 100 fits 20000
 
+lists_send : IsSend (D.the_field).row
+lists_send = search (sendable, crosses) depth 100 fits 20000
+
 spares_send : IsSend (Q.the_field).row
-spares_send = search (sendable, crosses) depth 100 fits 20000
+spares_send = search (sendable, crosses, lists_send) depth 100 fits 20000
 
 spares_sync : IsSync (Q.the_field).row
-spares_sync = search (sendable, crosses) depth 100 fits 20000
+spares_sync = search (sendable, crosses, lists_send) depth 100 fits 20000
 
 tasks_send : (J P : RattleType) (g : Ghosts J.Denot) → IsSend P → IsSend (T.the_row J P g)
 tasks_send J P g p =

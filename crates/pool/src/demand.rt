@@ -2,13 +2,7 @@
 //! entries that are read. A task that is cut counts as one, as long as a piece of it can be taken.
 ghost use Rattle.std.specs.Prelude.{◌≡◌};
 
-use board::{Board, Look, Piece};
-use calls::Recipe;
-use std::sync::Arc;
-use store::Store;
-
-/// What any task costs.
-const LEAST: u64 = 64;
+use board::{Board, Look};
 
 /// A task is done by another thread only where it is at least such a part of the work for which a worker is woken: to
 /// hand less over, and to have the store in the cache of another processor, takes longer than to do it.
@@ -61,31 +55,6 @@ impl Demand {
         let most = self.work.saturating_mul(self.tasks.min(PARTS));
         let worth = most.checked_div(share).unwrap_or(0);
         worth.min(self.tasks.saturating_mul(self.threads_each))
-    }
-}
-
-/// The work of what a recipe has of its own.
-pub fn work_of(recipe: &Recipe) -> u64 {
-    match recipe {
-        Recipe::Patch(patch) => LEAST.saturating_add(patch.edits.len() as u64),
-        _ => LEAST,
-    }
-}
-
-/// The work of the task of a piece that was taken.
-pub fn work_in(piece: &Piece) -> u64 {
-    let inputs = &piece.inputs;
-    work_of(piece.recipe.get())
-        .saturating_add(entries(&inputs.old))
-        .saturating_add(entries(&inputs.mask))
-        .saturating_add(entries(&inputs.first))
-        .saturating_add(entries(&inputs.second))
-}
-
-fn entries(store: &Option<Arc<Store>>) -> u64 {
-    match store {
-        Some(store) => store.nvals(),
-        None => 0,
     }
 }
 

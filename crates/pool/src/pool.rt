@@ -8,19 +8,18 @@ ghost use Rattle.runner.specs.Tickets.{made_by};
 
 use crate::crew::{Crew, SHARE};
 use crate::cutting::Cutting;
-use crate::demand::work_of;
 use crate::fetching::{fetch_alone, fetch_beside, hand_over};
 use crate::gate::Gate;
 use crate::named::Named;
 use crate::serving::leave;
 use crate::shared::Shared;
-use crate::spares::Spares;
+use crate::spares::SharedSpares;
 use crate::starting::start_first;
 use crate::tasks::Tasks;
 use crate::uniting::{unite_own, unite_shared};
 use board::Board;
 use calls::{Recipe, Role, Roles};
-use desk::{Picker, Ticket, notes_of};
+use desk::{Picker, Ticket, notes_of, work_of};
 use history::Noted;
 use journal::{Log, Naming, Note};
 use kernel::is_factor;
@@ -102,7 +101,7 @@ where
         let shared = Shared {
             locked: Mutex::new(Tasks::new(alloc, None, crew)),
             gate,
-            spares: Spares::new(alloc),
+            spares: SharedSpares::new(alloc),
             more: Condvar::new(),
             come: Condvar::new(),
             has_blocks: AtomicBool::new(false),

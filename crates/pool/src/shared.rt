@@ -1,5 +1,5 @@
 //! What threads share.
-use crate::spares::Spares;
+use crate::spares::SharedSpares;
 use crate::tasks::Tasks;
 use desk::Picker;
 use journal::Naming;
@@ -11,7 +11,7 @@ use std::sync::{Condvar, Mutex};
 pub struct Shared<J: Naming, G: Drop, P: Picker + Drop> {
     pub locked: Mutex<Tasks<J, P>>,
     pub gate: G,
-    pub spares: Spares,
+    pub spares: SharedSpares,
     pub more: Condvar,
     pub come: Condvar,
     /// Whether a store may be in blocks, which are put together once a task is to read all of it.

@@ -19,12 +19,12 @@ ghost use Rattle.runner.specs.Tickets.{IsStoreFor, made_by};
 
 use crate::crew::Crew;
 use crate::cutting::Cutting;
-use crate::demand::{Demand, entries_for, work_in};
+use crate::demand::{Demand, entries_for};
 use crate::ending::end;
 use crate::work::{Finished, Joint, Left, Reading, Work};
 use board::{Board, Look, Piece};
 use calls::{Recipe, Roles};
-use desk::{Picker, Ticket, give_up, look, place, slot_of, take_cut};
+use desk::{Picker, Ticket, give_up, look, place, share_of, slot_of, take_cut, work_in};
 use history::Noted;
 use journal::{Log, Naming, Note};
 use model::NoMemory;
@@ -33,9 +33,6 @@ use std::alloc::Global;
 use std::mem;
 use std::sync::Arc;
 use store::Store;
-
-/// A store of fewer entries is dropped in less time than its share is taken and given back by another thread.
-const SOON_DROPPED: u64 = 1_024;
 
 /// A board, its epoch, who picks what is done next, and who does tasks beside the calling thread. There is one picker:
 /// it goes where the tasks go, and where there is none the board is empty.
@@ -376,14 +373,6 @@ impl<J: Naming, P: Picker + Drop> Tasks<J, P> {
         }
         self.crew.awaited = None;
         true
-    }
-}
-
-/// A share of a slot's store, where it is there and takes long to drop.
-fn share_of<N: Drop>(board: &Board<N>, slot: u64) -> Option<Arc<Store>> {
-    match board.look(slot) {
-        Look::Done(store) if store.nvals() >= SOON_DROPPED => Arc::try_clone(store).ok(),
-        _ => None,
     }
 }
 

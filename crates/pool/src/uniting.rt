@@ -5,7 +5,7 @@ ghost use Rattle.std.specs.Arc.{arc_value};
 use crate::gate::Gate;
 use crate::named::Named;
 use crate::shared::Shared;
-use crate::spares::Spares;
+use crate::spares::SharedSpares;
 use crate::tasks::Tasks;
 use crate::work::ENOUGH_TO_CUT;
 use calls::{Recipe, Role, Roles};
@@ -30,7 +30,7 @@ pub fn unite_own<J: Naming, R: Wait + Threads, P: Picker + Drop>(
     rt: &R,
     alloc: Global,
     named: &Named<J>,
-    spares: &Spares,
+    spares: &SharedSpares,
     own: &mut Tasks<J, P>,
     recipe: &Recipe,
     inputs: &Roles<&Ticket<Note<J>>>,
@@ -80,7 +80,7 @@ fn unite_one<J: Naming, R: Wait + Threads, P: Picker + Drop>(
     rt: &R,
     alloc: Global,
     named: &Named<J>,
-    spares: &Spares,
+    spares: &SharedSpares,
     own: &mut Tasks<J, P>,
     ticket: &Ticket<Note<J>>,
     recipe: &Recipe,
@@ -131,7 +131,7 @@ fn unite_beside<J: Naming, R: Wait + Threads, G: Gate + Drop, P: Picker + Drop>(
 fn lists_of<R: Wait + Threads>(
     rt: &R,
     alloc: Global,
-    spares: &Spares,
+    spares: &SharedSpares,
     store: &Arc<Store>,
     recipe: &Recipe,
     role: Role,

@@ -16,7 +16,7 @@ use crate::dense::MOST_PLACES;
 use crate::many::set_marked;
 use crate::truths::write_truths;
 use algebra::Semiring;
-use bitmap::{Bitmap, OneThread, SeveralThreads, WordMaker};
+use bitmap::{Bitmap, OneThread, OneThreadWithSpare, SeveralThreads, WordMaker};
 use model::NoMemory;
 use std::alloc::Global;
 use std::thread::Threads;
@@ -60,22 +60,17 @@ pub trait VectorProducts: WordMaker {
         ensures cols { IfOk result (λ b. b.cols ≡ 1) }
         ensures content { IfOk result (λ b. (i j : ℕ) → word_at b.entries i j
             ≡ transposed_content (product (semiring_named semiring) u.now.rows
-            (transposed_content (word_at u.now.entries)) (content_of a.now)) i j) };
-}
-
-impl VectorProducts for OneThread {
-    fn multiply_bitmap(
-        &self,
-        alloc: Global,
-        u: &Bitmap,
-        a: &Sparse,
-        semiring: Semiring,
-    ) -> Result<Bitmap, NoMemory> {
+            (transposed_content (word_at u.now.entries)) (content_of a.now)) i j) }
+    {
         let factors = Factors::of(u, a, semiring);
         let sums = sum_alone(alloc, factors)?;
         product_of(alloc, factors, sums)
     }
 }
+
+impl VectorProducts for OneThread {}
+
+impl VectorProducts for OneThreadWithSpare {}
 
 // Where there are many products, each thread makes those of some rows, and its sums, which take memory for each column.
 impl<'a, R: Threads> VectorProducts for SeveralThreads<'a, R> {

@@ -13,12 +13,12 @@ returns-in-Ok-clause-fewer g c = λ runs.
     (is_none (at_slot (cuts_of c.args.board.now) c.args.piece.number))
     (ap (λ (o : Option Cutting). is_none o) (c.requires.uncut c.args.piece.number)) c.hand_in.ensures.answer c.hand_in.ensures.made
 
-pub returns-clause-fewer : goal.returns-clause-fewer
-returns-clause-fewer g c = λ runs.
+pub returns-in-Err-clause-fewer : goal.returns-in-Err-clause-fewer
+returns-in-Err-clause-fewer g c = λ runs.
     fewer_ended (view_of c.args.board.now) (view_of c.fail.new.self) c.args.piece.number c.fail.result runs c.fail.ensures.answer
     c.fail.ensures.failed
 
-pub returns-clause-uncut : goal.returns-clause-uncut
-returns-clause-uncut g c =
+pub returns-in-Err-clause-uncut : goal.returns-in-Err-clause-uncut
+returns-in-Err-clause-uncut g c =
     uncut_failed (cuts_of c.args.board.now) (cuts_of c.args.board.now) (cuts_of c.fail.new.self) c.args.piece.number c.fail.result
     c.requires.uncut refl c.fail.ensures.cuts c.fail.ensures.refused_cuts
