@@ -16,6 +16,7 @@ use algebra::Domain;
 use board::{Answer, Board, Event, Look, Piece, Stores};
 use calls::{Given, Patch, Recipe, Roles, Shape, Signature, Transpose};
 use desk::{Order, take, work};
+use kernel::OneThread;
 use std::alloc::{AllocError, Global};
 use std::sync::Arc;
 use store::Store;
@@ -66,7 +67,7 @@ fn a_patch_that_is_taken_last_has_the_store_itself(rt: HostRuntime) -> Result<()
     let Some(transpose) = take(&mut Order::Last, &mut board) else {
         return Err(AllocError);
     };
-    work(alloc, &mut board, transpose);
+    work(&OneThread, alloc, &mut board, transpose);
     assert!(rt; matches!(board.look(0), Look::Done(_)));
     let Some(piece) = take(&mut Order::First, &mut board) else {
         return Err(AllocError);
@@ -96,9 +97,9 @@ fn a_patch_that_is_taken_while_another_reads_shares_the_store(
     };
     assert!(rt; patch.number == 1 && transpose.number == 2);
     assert!(rt; matches!(board.look(0), Look::Done(_)));
-    work(alloc, &mut board, patch);
+    work(&OneThread, alloc, &mut board, patch);
     assert!(rt; matches!(board.look(0), Look::Done(_)));
-    work(alloc, &mut board, transpose);
+    work(&OneThread, alloc, &mut board, transpose);
     assert!(rt; matches!(board.look(0), Look::Gone));
     assert!(rt; matches!(board.look(1), Look::Done(_)) && matches!(board.look(2), Look::Done(_)));
     Ok(())
