@@ -1,5 +1,6 @@
 -- Lists of bits, 64 in a word, which say at which places of other lists there is something.
-use Rattle.std.specs.Prelude.{ℕ, ◌+◌, ◌/◌, ◌%◌, ◌==◌, ◌&&◌, if◌then◌else◌, Bool, List, [], ◌∷◌, slice_index}
+use Rattle.std.specs.Prelude.{ℕ, ◌≡◌, ◌<◌, ◌+◌, ◌/◌, ◌%◌, ◌==◌, ◌&&◌, if◌then◌else◌}
+use Rattle.std.specs.Prelude.{Bool, List, [], ◌∷◌, length, slice_index}
 use Rattle.std.specs.Int.{bit_at}
 use Rattle.algebra.specs.declared.domain.Domain.{Domain}
 use Rattle.algebra.specs.declared.kinds.BinaryKind.{BinaryKind}
@@ -28,3 +29,8 @@ united_at kind d left right a b =
     else if left then cast_of d (answer_domain kind d) a
     else if right then cast_of d (answer_domain kind d) b
     else 0
+
+-- each word is what a union has in its place, by whether the left and the right bits of the place are set
+unfoldable pub AreUnited : BinaryKind → Domain → List ℕ → List ℕ → List ℕ → List ℕ → List ℕ → Type 0
+AreUnited kind d left right a b words = (k : ℕ) → k < length words
+    → slice_index words k ≡ united_at kind d (has_bit left k) (has_bit right k) (slice_index a k) (slice_index b k)

@@ -4,7 +4,7 @@ ghost use Rattle.std.specs.Prelude.{slice_index, take};
 ghost use Rattle.std.specs.List.{fold};
 ghost use Rattle.std.specs.Int.{bit_at};
 ghost use Rattle.algebra.specs.Operators.{eval_of};
-ghost use Rattle.lanes.specs.Bits.{has_bit, present_words, united_at};
+ghost use Rattle.lanes.specs.Bits.{AreUnited, has_bit, present_words, united_at};
 ghost use Rattle.lanes.specs.Lists.{fold_of};
 
 use crate::arms::with_binary;
@@ -29,15 +29,14 @@ pub fn unite_present(
     requires right { length out.old ≤ 64 * length right.now }
     requires lefts { length a.now ≡ length out.old }
     requires rights { length b.now ≡ length out.old }
-    ensures { (k : ℕ) → k < length out.new → slice_index out.new k
-        ≡ united_at op.kind op.domain (has_bit left.now k) (has_bit right.now k) (slice_index a.now k)
-        (slice_index b.now k) }
+    ensures { AreUnited op.kind op.domain left.now right.now a.now b.now out.new }
 {
     with_binary!(op, |own| unite_present_by(own, left, right, a, b, out))
 }
 
 /// What `unite_present` makes, by one operator of its arms.
 #[inline(always)]
+#[tactic(auto, unfolding(crate::specs::Bits::AreUnited))]
 fn unite_present_by(
     op: BinaryOp,
     left: &[u64],
@@ -50,9 +49,7 @@ fn unite_present_by(
     requires right { length out.old ≤ 64 * length right.now }
     requires lefts { length a.now ≡ length out.old }
     requires rights { length b.now ≡ length out.old }
-    ensures { (k : ℕ) → k < length out.new → slice_index out.new k
-        ≡ united_at op.kind op.domain (has_bit left.now k) (has_bit right.now k) (slice_index a.now k)
-        (slice_index b.now k) }
+    ensures { AreUnited op.kind op.domain left.now right.now a.now b.now out.new }
 {
     let whole = out.len() / PLACES;
     for at in 0..whole {
@@ -148,10 +145,18 @@ fn unite_some(
         (slice_index a.now k) (slice_index b.now k) }
 {
     for k in base..base + PLACES {
-        let has_left = (left >> (k - base)) & 1 == 1;
-        let has_right = (right >> (k - base)) & 1 == 1;
-        out[k] = unite(op, has_left, has_right, a[k], b[k]);
+        let at = k - base;
+        out[k] = unite(op, is_set(left, at), is_set(right, at), a[k], b[k]);
     }
+}
+
+/// Whether the bit of a word at a place is set.
+#[inline(always)]
+fn is_set(word: u64, at: usize) -> bool
+    requires { at < 64 }
+    ensures { result ≡ (bit_at word at == 1) }
+{
+    (word >> at) & 1 == 1
 }
 
 /// What a union has at a place.
@@ -257,7 +262,7 @@ fn fold_some(monoid: Monoid, bits: &[u64], base: usize, words: &[u64], before: u
     let here = bits[base / PLACES];
     let mut sum = before;
     for k in base..base + PLACES {
-        sum = add_where(monoid, (here >> (k - base)) & 1 == 1, sum, words[k]);
+        sum = add_where(monoid, is_set(here, k - base), sum, words[k]);
     }
     sum
 }

@@ -1,5 +1,6 @@
 use Rattle.std.proofs.Common.{◌+◌, ◌-◌, ◌∙◌, ap, arith, get_or, length}
 use Rattle.algebra.specs.Operators.{eval_of}
+use Rattle.lanes.specs.Bits.{AreUnited}
 use Rattle.bitmap.proofs.PartLaws.{united_part, zipped_part}
 use Rattle.bitmap.proofs.making.Words.fill.Goals as goal
 
@@ -15,6 +16,7 @@ returns-in-Zipped-clause-words c =
     ∙ zipped_part (eval_of made.op.kind made.op.domain) made.a.now made.b.now start n k fits (omega arith) (omega arith))
 
 pub returns-in-United-clause-words : goal.returns-in-United-clause-words
+unfolding AreUnited
 returns-in-United-clause-words c =
     let made = c.in-United in
     let start = c.args.start in
