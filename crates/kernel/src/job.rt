@@ -1,6 +1,7 @@
 //! What of a task decides where it is cut into pieces of rows.
 use crate::bitmaps::makes_column;
 use crate::reading::reads_all_of;
+use bitmap::may_be_bitmap;
 use calls::{Accepted, OneInput, Operation, Recipe, Region, Role, Roles, TwoInputs};
 use model::Form as Factors;
 use store::{Blocks, Form, Sparse, Store};
@@ -116,7 +117,7 @@ fn job_of_one<'a>(
 /// How an operation is cut that writes at a region over what was there: along the entries of this, most of which are
 /// copied. That doesn't pay where the pieces are joined at once, which would copy them again.
 fn job_over<'a>(region: &Region, old: &'a Store) -> Option<Job<'a>> {
-    if old.cols() == 1 || Store::may_be_bitmap(old.rows(), old.cols()) {
+    if old.cols() == 1 || may_be_bitmap(old.rows(), old.cols()) {
         return None;
     }
     Some(Job {

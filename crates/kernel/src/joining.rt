@@ -6,6 +6,7 @@ ghost use Rattle.model.specs.Object.{IsWithin, rows_of};
 ghost use Rattle.store.specs.Stored.{content_of};
 
 use crate::block::Block;
+use bitmap::may_be_bitmap;
 use calls::{Operation, Recipe, TwoInputs};
 use model::Form;
 use std::alloc::Global;
@@ -35,7 +36,7 @@ pub fn join(alloc: Global, recipe: &Recipe, block: Block) -> Store
 /// Whether the store of what a recipe gives is lists, whatever it has.
 pub fn makes_lists(recipe: &Recipe) -> bool {
     let shape = recipe.signature().shape;
-    stays_listed(recipe) || !Store::may_be_bitmap(shape.rows(), shape.cols())
+    stays_listed(recipe) || !may_be_bitmap(shape.rows(), shape.cols())
 }
 
 /// Whether what a recipe leaves stays in lists: a product, whose factors are read as lists; but no product with a

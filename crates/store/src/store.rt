@@ -1,11 +1,12 @@
 //! Stores: what an object holds, in one of three forms.
-ghost use Rattle.std.specs.Prelude.{◌≡◌, ℕ, ◌<◌, ◌≤◌, ◌*◌, ◌^◌, IsTrue, None, length, OnOk, OnErr, IfOk};
+ghost use Rattle.std.specs.Prelude.{◌≡◌, ℕ, ◌<◌, ◌≤◌, None, length, OnOk, OnErr, IfOk};
 ghost use Rattle.std.specs.Option.{option_or};
 ghost use Rattle.model.specs.Entries.{entries_of};
 ghost use Rattle.model.specs.Object.{with_entry, without_entry, IsWithin};
 ghost use Rattle.store.specs.Forms.{of_bitmap};
 
-use crate::forms::{into_bitmap, put_into, sparse_of};
+use crate::forms::{put_into, sparse_of};
+use crate::settling::settled;
 use crate::{Blocks, FiberLists, RowBlock, Sparse};
 use bitmap::Bitmap;
 use model::NoMemory;
@@ -25,7 +26,7 @@ pub struct Store {
 
 /// The forms of a store.
 #[derive(Drop)]
-enum Kept {
+pub(crate) enum Kept {
     Sparse(Sparse),
     Bitmap(Bitmap),
     Blocks(Blocks),
@@ -74,14 +75,6 @@ impl Model for Store {
     ghost view = { λ s. kept_in s.kept };
 }
 
-/// How many columns, or rows of one column, a bitmap has at least, how many positions at most, and at most how many
-/// times as many as entries.
-const LEAST: u64 = 64;
-
-const MOST: u64 = 1 << 24;
-
-const TIMES: u64 = 8;
-
 impl Store {
     ghost use Rattle.store.specs.Forms.{lent_in, of_bitmap, sparse_of};
     ghost use Rattle.store.specs.Stored.{AgreesIn, block_content, content_of};
@@ -120,14 +113,6 @@ impl Store {
         Store {
             kept: Kept::Blocks(blocks),
         }
-    }
-
-    /// Whether lists of so many rows and columns are kept as a bitmap, where many of their positions have an entry.
-    pub fn may_be_bitmap(rows: u64, cols: u64) -> bool
-        ensures { IsTrue result → rows * cols ≤ 2 ^ 24 }
-    {
-        let longest = if cols == 1 { rows } else { cols };
-        longest >= LEAST && rows.saturating_mul(cols) <= MOST
     }
 
     /// The store of `rows` rows with the entries of a block, whose lists it takes over without a copy.
@@ -334,51 +319,8 @@ impl Store {
     {
         // The store that stands in takes no memory.
         let store = mem::replace(self, Store::new(alloc, 0, 0));
-        *self = store.settled(alloc);
+        self.kept = match settled(alloc, store.kept) {
+            Ok(kept) | Err(kept) => kept,
+        };
     }
-
-    /// The store in the form that suits it, where there is memory for that.
-    fn settled(self, alloc: Global) -> Store
-        ensures { result ≡ self }
-    {
-        match self.kept {
-            Kept::Sparse(sparse) => settled_lists(alloc, sparse),
-            Kept::Bitmap(bitmap) => settled_bitmap(alloc, bitmap),
-            Kept::Blocks(blocks) => Store::from_blocks(blocks),
-        }
-    }
-}
-
-/// The store that lists are: a bitmap, where many positions have an entry and there is memory for it.
-fn settled_lists(alloc: Global, sparse: Sparse) -> Store
-    ensures { result ≡ sparse }
-{
-    if !is_bitmap_better(&sparse) {
-        return Store::from_sparse(sparse);
-    }
-    match into_bitmap(alloc, sparse) {
-        Ok(bitmap) => Store::from_bitmap(bitmap),
-        Err(sparse) => Store::from_sparse(sparse),
-    }
-}
-
-/// The store that a bitmap is: lists, where it is a column with few entries and there is memory for them.
-fn settled_bitmap(alloc: Global, bitmap: Bitmap) -> Store
-    ensures { result ≡ of_bitmap bitmap }
-{
-    if bitmap.cols() != 1 || bitmap.rows() / TIMES <= bitmap.nvals() {
-        return Store::from_bitmap(bitmap);
-    }
-    match sparse_of(alloc, &bitmap) {
-        Ok(sparse) => Store::from_sparse(sparse),
-        Err(NoMemory) => Store::from_bitmap(bitmap),
-    }
-}
-
-/// Whether many positions have an entry.
-fn is_bitmap_better(sparse: &Sparse) -> bool
-    ensures { IsTrue result → sparse.now.rows * sparse.now.cols ≤ 2 ^ 24 }
-{
-    let (rows, cols) = (sparse.rows(), sparse.cols());
-    Store::may_be_bitmap(rows, cols) && rows.saturating_mul(cols) / TIMES <= sparse.nvals()
 }

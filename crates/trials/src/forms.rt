@@ -1,4 +1,5 @@
-//! The form in which a store is kept once it is settled. No contract tells it, since it changes no answer.
+//! The form in which a store is kept once it is settled. No contract of a store tells it, since a store is the same in
+//! any form.
 ghost use Rattle.std.specs.Prelude.{◌≤◌};
 
 use std::alloc::{AllocError, Global};
