@@ -1,10 +1,8 @@
 //! Joins of stores: where both have a word what is made of both, and where one has, its word.
-ghost use Rattle.std.specs.Prelude.{◌≡◌, ◌≢◌, ℕ, ◌<◌, ◌≤◌, ◌==◌, ◌++◌, if◌then◌else◌, length, slice_index, take, true};
+ghost use Rattle.std.specs.Prelude.{◌≡◌, ◌≢◌, ℕ, ◌<◌, ◌≤◌, ◌==◌, if◌then◌else◌, length, slice_index, take, true};
 ghost use Rattle.std.specs.Prelude.{IfOk, IfSome, OnOk};
-ghost use Rattle.std.specs.List.{All};
 ghost use Rattle.std.specs.Option.{option_map};
 ghost use Rattle.model.specs.ElementWise.{of_either};
-ghost use Rattle.model.specs.Entries.{Precedes};
 ghost use Rattle.store.specs.Fibers.{AreFlat, entries_in};
 ghost use Rattle.store.specs.Parts.{HasPart, HasRows};
 ghost use Rattle.store.specs.Stored.{AreIn, along, block_content, content_of};
@@ -122,15 +120,8 @@ fn join_whole(
     if are_alike(&lefts, &rights) {
         return Ok(Some(join_alike(alloc, &lefts, &rights, by)?));
     }
-    if keeps_alone(by)
-        && let Some(pair) = pair_of(&lefts, &rights)
-    {
-        if let Some(side) = full_side(pair) {
-            return Ok(Some(join_full(alloc, pair, side, by)?));
-        }
-        if has_few(pair) {
-            return Ok(Some(join_few(alloc, pair, by)?));
-        }
+    if let Some(lists) = join_pair(alloc, &lefts, &rights, by)? {
+        return Ok(Some(lists));
     }
     if lefts.len().max(rights.len()) > PART {
         return Ok(None);
@@ -138,6 +129,32 @@ fn join_whole(
     let mut places = Places::new(alloc);
     let count = join_fibers(&mut places, lefts, rights, by)?;
     Ok(Some(places.into_lists(count)))
+}
+
+/// The join of two sides, one of which has an entry in each place, or few, where a word that one side has alone stays
+/// as it is.
+fn join_pair(
+    alloc: Global,
+    lefts: &Fibers<'_>,
+    rights: &Fibers<'_>,
+    by: Joining,
+) -> Result<Option<FiberLists>, NoMemory>
+    ensures { IfOk result (λ whole. IfSome whole (λ lists. HasJoin by lefts.now.entries rights.now.entries
+        lists.ends.items lists.inner.items lists.words.items)) }
+{
+    if !keeps_alone(by) {
+        return Ok(None);
+    }
+    let Some(pair) = pair_of(lefts, rights) else {
+        return Ok(None);
+    };
+    if let Some(side) = full_side(pair) {
+        return Ok(Some(join_full(alloc, pair, side, by)?));
+    }
+    if has_few(pair) {
+        return Ok(Some(join_few(alloc, pair, by)?));
+    }
+    Ok(None)
 }
 
 /// Whether the word of an entry that one side has alone stays as it is.
