@@ -1,5 +1,5 @@
 //! The checks of operations.
-ghost use Rattle.std.specs.Prelude.{◌≡◌, ◌&&◌, None, Some, IfOk, nat_le};
+ghost use Rattle.std.specs.Prelude.{◌≡◌, ◌&&◌, Some, IfOk, nat_le};
 ghost use Rattle.calls.specs.Checks.{Decides};
 ghost use Rattle.calls.specs.Recipes.{IsAcceptedOf};
 ghost use Rattle.model.specs.declared.call.Call.TheVariants.{Operate};

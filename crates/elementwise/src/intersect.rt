@@ -1,10 +1,7 @@
 //! Intersections of stores.
 ghost use Rattle.std.specs.Prelude.{◌≡◌, ℕ, ◌<◌, ◌≤◌, length, take, IfOk, OnOk};
-ghost use Rattle.std.specs.List.{All};
 ghost use Rattle.algebra.specs.Operators.{eval_of};
-ghost use Rattle.lanes.specs.Lists.{zip_with};
 ghost use Rattle.model.specs.ElementWise.{of_both};
-ghost use Rattle.model.specs.Entries.{Precedes};
 ghost use Rattle.store.specs.Fibers.{AreFlat, entries_in};
 ghost use Rattle.store.specs.Parts.{HasPart, HasRows};
 ghost use Rattle.store.specs.Stored.{AreIn, along, block_content, content_of};

@@ -1,8 +1,6 @@
 //! Positions that two sides have both, with the words of each side by side.
-ghost use Rattle.std.specs.Prelude.{◌≡◌, ℕ, ◌<◌, ◌≤◌, ◌*◌, ◌^◌, length, take, [], IfOk, OnOk};
+ghost use Rattle.std.specs.Prelude.{◌≡◌, ◌<◌, ◌≤◌, ◌*◌, ◌^◌, length, take, [], IfOk, OnOk};
 ghost use Rattle.std.specs.List.{AllPairs};
-ghost use Rattle.lanes.specs.Lists.{zip_with};
-ghost use Rattle.store.specs.Fibers.{entries_along};
 ghost use Rattle.elementwise.specs.Meets.{AreFiberPairs, AreMet};
 
 use model::NoMemory;

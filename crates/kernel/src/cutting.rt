@@ -1,5 +1,5 @@
 //! Where tasks are cut into pieces of rows.
-ghost use Rattle.std.specs.Prelude.{◌≡◌, ◌<◌, ◌≤◌, IfOk, IfSome, IsTrue};
+ghost use Rattle.std.specs.Prelude.{◌<◌, IfOk, IfSome, IsTrue};
 ghost use Rattle.std.specs.List.{AllPairs};
 
 use crate::job::{Along, Job, MOST_PIECES};

@@ -1,5 +1,5 @@
 //! Operations that take over what their output had.
-ghost use Rattle.std.specs.Prelude.{◌≡◌, ◌<◌, ◌≤◌, ℕ, IfOk, IfSome, None, true};
+ghost use Rattle.std.specs.Prelude.{◌≡◌, ◌<◌, ℕ, IfOk, IfSome, None};
 ghost use Rattle.std.specs.Option.{option_map};
 ghost use Rattle.algebra.specs.OperatorNames.{op_named};
 ghost use Rattle.calls.specs.Recipes.{known_by_role, meaning, operation_with, out_with};

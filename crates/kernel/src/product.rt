@@ -1,5 +1,5 @@
 //! Rows of products, by their form.
-ghost use Rattle.std.specs.Prelude.{◌≡◌, ◌≤◌, IfOk};
+ghost use Rattle.std.specs.Prelude.{◌≤◌, IfOk};
 ghost use Rattle.algebra.specs.OperatorNames.{semiring_named};
 ghost use Rattle.kernel.specs.Blocks.{HasRows, HasShape};
 ghost use Rattle.kernel.specs.Factors.{AreFactors, cols_of_product, inner_of, rows_of_product};

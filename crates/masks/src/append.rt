@@ -2,7 +2,7 @@
 ghost use Rattle.std.specs.Prelude.{◌≡◌, ◌++◌, ◌∷◌, ◌-◌, ◌+◌, ◌<◌, ◌≤◌, ◌^◌, List, length, map, OnOk};
 ghost use Rattle.std.specs.List.{All};
 ghost use Rattle.model.specs.Entries.{Precedes};
-ghost use Rattle.store.specs.Fibers.{AreFlat, AreOthers, end_back, end_on, entries_from, entries_in, outer_at};
+ghost use Rattle.store.specs.Fibers.{AreFlat, AreOthers, end_back, end_on, entries_in, outer_at};
 ghost use Rattle.store.specs.Parts.{HasPart};
 ghost use Rattle.store.specs.Stored.{AreIn, along, content_of};
 ghost use Rattle.store.specs.declared.lists.FiberEnd.{FiberEnd as End};

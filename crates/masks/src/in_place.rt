@@ -1,5 +1,5 @@
 //! The write-back into the output's store itself.
-ghost use Rattle.std.specs.Prelude.{◌≡◌, ℕ, ◌<◌, ◌≤◌, IsSome, IsTrue, None, OnErr, OnOk, length, false};
+ghost use Rattle.std.specs.Prelude.{◌≡◌, ℕ, ◌<◌, IsSome, IsTrue, None, OnErr, OnOk, length, false};
 ghost use Rattle.std.specs.Option.{option_map};
 ghost use Rattle.algebra.specs.OperatorNames.{op_named};
 ghost use Rattle.model.specs.Entries.{word_at};

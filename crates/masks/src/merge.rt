@@ -1,8 +1,7 @@
 //! Fibers merged: at each place of two sides the inner index, the word of each side, and which sides are
 //! there.
-ghost use Rattle.std.specs.Prelude.{◌≡◌, ℕ, ◌<◌, ◌≤◌, ◌+◌, ◌*◌, ◌^◌, length, take, replicate, [], IfOk, OnOk};
-ghost use Rattle.std.specs.List.{All, AllPairs};
-ghost use Rattle.store.specs.Fibers.{entries_along};
+ghost use Rattle.std.specs.Prelude.{◌≡◌, ◌<◌, ◌≤◌, ◌+◌, ◌*◌, ◌^◌, length, take, [], IfOk, OnOk};
+ghost use Rattle.std.specs.List.{AllPairs};
 ghost use Rattle.masks.specs.Merges.{AreMerged, IsFiberMerge};
 
 use model::NoMemory;

@@ -2,7 +2,7 @@
 ghost use Rattle.std.specs.Prelude.{◌≡◌, ◌%◌, ◌<◌, ◌≤◌, ◌^◌, ◌++◌, ◌∷◌, ℕ, IfNone, IfSome, IsTrue, List, MatchOption};
 ghost use Rattle.std.specs.Prelude.{false, is_some, length, slice_index, take, true};
 ghost use Rattle.std.specs.List.{list_all};
-ghost use Rattle.model.specs.Grammar.{digits_value, is_blank, is_digit, nth_word, words_of};
+ghost use Rattle.model.specs.Grammar.{digits_value, is_digit, nth_word, words_of};
 ghost use Rattle.model.specs.MatrixMarket.{are_digits};
 ghost use Rattle.mmio.specs.Fronts.{LeadsWithNumber, behind_front, front_of, in_64_bits};
 ghost use Rattle.mmio.specs.Usual.{IsNumberBefore};

@@ -1,6 +1,6 @@
 //! Matrices that are loaded of files.
-ghost use Rattle.std.specs.Prelude.{◌≡◌, ◌==◌, ◌&&◌, IfOk, MatchResult, None, Ok, OnErr, OnOk, Some};
-ghost use Rattle.std.specs.Prelude.{false, if◌then◌else◌, is_some, nat_le, true};
+ghost use Rattle.std.specs.Prelude.{◌≡◌, IfOk, MatchResult, None, Ok, OnErr, OnOk, Some};
+ghost use Rattle.std.specs.Prelude.{false, is_some, nat_le, true};
 ghost use Rattle.std.specs.Option.{option_map};
 ghost use Rattle.std.specs.String.{string_bytes};
 ghost use Rattle.algebra.specs.Value.{is_built_in};

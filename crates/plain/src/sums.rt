@@ -1,5 +1,5 @@
 //! Sums, one value after the other.
-ghost use Rattle.std.specs.Prelude.{◌≡◌, ◌==◌, IfOk, if◌then◌else◌, true};
+ghost use Rattle.std.specs.Prelude.{◌≡◌, IfOk, true};
 ghost use Rattle.algebra.specs.Monoids.{sum_of};
 ghost use Rattle.algebra.specs.OperatorNames.{monoid_named};
 ghost use Rattle.algebra.specs.Operators.{combines_by, eval_of, offers};

@@ -1,5 +1,4 @@
 //! Runners that are borrowed.
-ghost use Rattle.std.specs.Prelude.{◌≡◌};
 
 use crate::runner::{Failed, Runner};
 use calls::{Recipe, Roles};

@@ -1,5 +1,5 @@
 //! Rows of stores, and rows that are put behind others into lists.
-ghost use Rattle.std.specs.Prelude.{◌≡◌, OnOk};
+ghost use Rattle.std.specs.Prelude.{OnOk};
 ghost use Rattle.store.specs.Stored.{content_of};
 ghost use Rattle.shapes.specs.Rows.{HasRow, IsRowOf, IsWalk};
 

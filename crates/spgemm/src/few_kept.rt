@@ -1,11 +1,10 @@
 //! The sums of a row of a product of which a bitmap as a mask keeps few columns: each product asks for its column
 //! before it is added.
-ghost use Rattle.std.specs.Prelude.{◌≡◌, ◌<◌, ◌≤◌, ◌*◌, ◌++◌, ◌∷◌, ◌^◌, ℕ, [], List, OnOk, length};
+ghost use Rattle.std.specs.Prelude.{◌≡◌, ◌<◌, ◌≤◌, ◌*◌, ◌++◌, ◌∷◌, ◌^◌, [], List, OnOk, length};
 ghost use Rattle.std.specs.List.{All};
 ghost use Rattle.lanes.specs.Bits.{has_bit};
 ghost use Rattle.store.specs.Fibers.{entries_along};
 ghost use Rattle.spgemm.specs.Dense.{AreClear, AreColumnSums, HaveRoom};
-ghost use Rattle.spgemm.specs.Keeping.{keeps_marked};
 ghost use Rattle.spgemm.specs.Products.{HasOpenRow};
 ghost use Rattle.spgemm.specs.Terms.{apply, kept_terms, term_at, terms_of_row, times_row};
 ghost use Rattle.spgemm.specs.declared.term.Term.{Term};

@@ -1,5 +1,5 @@
 //! Which rows of products are summed in a place for each column, and which of the places are looked through.
-ghost use Rattle.std.specs.Prelude.{◌≡◌, ◌<◌, ◌≤◌, ◌+◌, ◌*◌, ◌/◌, ◌^◌, ◌⊎◌, ℕ, length, true};
+ghost use Rattle.std.specs.Prelude.{◌≡◌, ◌<◌, ◌≤◌, ◌+◌, ◌/◌, ◌^◌, ◌⊎◌, ℕ, true};
 ghost use Rattle.std.specs.List.{All, AllPairs};
 
 use crate::dense::MOST_PLACES;

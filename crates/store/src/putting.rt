@@ -1,7 +1,7 @@
 //! Entries put into a column, in place.
-ghost use Rattle.std.specs.Prelude.{◌≡◌, ◌<◌, ◌≤◌, ◌+◌, ◌++◌, ◌∷◌, [], true, false, if◌then◌else◌};
+ghost use Rattle.std.specs.Prelude.{◌≡◌, ◌<◌, ◌≤◌, ◌+◌, ◌++◌, ◌∷◌, [], false, if◌then◌else◌};
 ghost use Rattle.std.specs.Prelude.{drop, length, replicate, take};
-ghost use Rattle.std.specs.Prelude.{ℕ, IfErr, IfOk, OnErr, OnOk, slice_index, vec_capacity, vec_len};
+ghost use Rattle.std.specs.Prelude.{ℕ, IfErr, IfOk, OnErr, OnOk, slice_index, vec_capacity};
 ghost use Rattle.std.specs.List.{All, AllPairs};
 ghost use Rattle.std.specs.List.Sorted.{IsSearchInRange};
 ghost use Rattle.model.specs.Entries.{InOrder, entry_at};
