@@ -39,9 +39,8 @@ impl<N: Drop> Board<N> {
     ghost use Rattle.std.specs.Prelude.{◌≡◌, ◌≢◌, ◌+◌, ◌-◌, ◌<◌, ◌≤◌, ◌&&◌, ◌↔◌, [], IfErr, IfOk, IfSome, None};
     ghost use Rattle.std.specs.Bool.{OnTrue};
     ghost use Rattle.std.specs.Prelude.{List, MatchResult, OnErr, OnOk, Some, if◌then◌else◌, is_none, is_some, length};
-    ghost use Rattle.std.specs.Prelude.{nat_lt, not, slice_get, slice_index, ℕ, false, true};
+    ghost use Rattle.std.specs.Prelude.{nat_lt, slice_get, slice_index, ℕ, false, true};
     ghost use Rattle.std.specs.Arc.{arc_value};
-    ghost use Rattle.std.specs.List.{All};
     ghost use Rattle.std.specs.Option.{option_copied, option_map};
     ghost use Rattle.board.specs.Boards.{cuts_of, view_of};
     ghost use Rattle.board.specs.Cuts.{AreBlocksFor, AreSame, GoesOut, IsFound, IsLeftBy, IsPut, IsTakenFrom, at_slot};

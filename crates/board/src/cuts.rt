@@ -8,7 +8,6 @@ ghost use Rattle.kernel.specs.Covers.{Covers};
 ghost use Rattle.board.specs.Cuts.{IfSeveral, IsOf, KeepsTask, after_cut, at_slot, cutting_of, has_more, is_open};
 ghost use Rattle.board.specs.Cuts.{one_more, task_at, task_of_cut, told_blocks, told_cut};
 ghost use Rattle.board.specs.Numbers.{numbers};
-ghost use Rattle.board.specs.declared.cut.Cut.{Cut as AnyCut};
 ghost use Rattle.pieces.specs.Parts.{blocks_in};
 ghost use Rattle.pieces.specs.declared.part.Part.TheVariants as AnyPart;
 

@@ -46,8 +46,8 @@ pub(crate) struct Slots<N: Drop> {
 }
 
 impl<N: Drop> Slots<N> {
-    ghost use Rattle.std.specs.Prelude.{◌≡◌, ◌≢◌, ◌+◌, ◌-◌, ◌<◌, ◌&&◌, ◌↔◌, [], IfErr, IfOk, IfSome, None, OnErr};
-    ghost use Rattle.std.specs.Prelude.{OnOk, Some, if◌then◌else◌, length, nat_lt, not, slice_get, slice_index};
+    ghost use Rattle.std.specs.Prelude.{◌≡◌, ◌≢◌, ◌+◌, ◌-◌, ◌<◌, ◌&&◌, [], IfOk, IfSome, None, OnErr};
+    ghost use Rattle.std.specs.Prelude.{OnOk, Some, if◌then◌else◌, length, nat_lt, slice_get, slice_index};
     ghost use Rattle.std.specs.Prelude.{ℕ, false, true};
     ghost use Rattle.std.specs.Arc.{arc_value};
     ghost use Rattle.std.specs.Option.{option_copied, option_map};

@@ -1,5 +1,4 @@
 //! The words of the command line.
-ghost use Rattle.std.specs.Prelude.{◌≡◌};
 
 use std::alloc::{AllocError, Global};
 use std::env::{Env, FillError};

@@ -1,5 +1,5 @@
 //! The calling thread, which does tasks while it waits for a store.
-ghost use Rattle.std.specs.Prelude.{◌≡◌, IfOk};
+ghost use Rattle.std.specs.Prelude.{IfOk};
 ghost use Rattle.std.specs.Arc.{arc_value};
 ghost use Rattle.desk.specs.Desks.{object_in, told};
 ghost use Rattle.runner.specs.Tickets.{IsStoreFor};

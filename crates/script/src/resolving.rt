@@ -1,5 +1,4 @@
 //! Names to the objects that they stand for.
-ghost use Rattle.std.specs.Prelude.{◌≡◌};
 
 use crate::environment::Environment;
 use model::Lookup;

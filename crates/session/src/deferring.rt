@@ -4,7 +4,7 @@ ghost use Rattle.std.specs.Prelude.{[]};
 ghost use Rattle.calls.specs.Stores.{object_with};
 ghost use Rattle.calls.specs.declared.obj.Obj.{Obj as AnyObj};
 ghost use Rattle.model.specs.Marks.{told};
-ghost use Rattle.model.specs.Object.{cols_of, rows_of, signature_of};
+ghost use Rattle.model.specs.Object.{signature_of};
 ghost use Rattle.model.specs.Run.{object_at};
 ghost use Rattle.objects.specs.Tables.{Reads, with_kept};
 ghost use Rattle.objects.specs.Values.{IsValueOf, map_with, mark_with};

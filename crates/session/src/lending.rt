@@ -19,7 +19,7 @@ impl<R: Runner + Drop> Session<R> {
     ghost use Rattle.session.specs.contracts.sessions.Session.{the_row};
     ghost use Rattle.session.specs.Lending.{IsStoreOf};
     ghost use Rattle.session.specs.Listed.{tuples_of};
-    ghost use Rattle.session.specs.Performed.{IsPerformed, early_in, environment_of, is_finished_in, state_of};
+    ghost use Rattle.session.specs.Performed.{IsPerformed, early_in, environment_of, is_finished_in};
 
     /// The store of an object, once its value is there (`GrB_Matrix_wait`, `GrB_Vector_wait`). It is lent, and nothing
     /// is copied; where the value is there it takes no memory.
