@@ -2,6 +2,7 @@ mod Answered
 mod BitmapLaws
 mod FiberPairs
 mod Filled
+mod FoldLaws
 mod KeptFibers
 mod MappedLaws
 mod Meets

@@ -5,6 +5,7 @@
 
 mod apply;
 mod bitmaps;
+mod folding;
 mod indexed;
 mod intersect;
 mod mapping;
@@ -16,7 +17,8 @@ mod union;
 
 pub use apply::apply_rows;
 pub use bitmaps::{apply_bitmap, select_bitmap};
+pub use folding::WordFolder;
 pub use intersect::intersect_rows;
-pub use reduce::{reduce_all, reduce_rows};
+pub use reduce::{reduce_all, reduce_all_by, reduce_rows};
 pub use select::select_rows;
 pub use union::union_rows;

@@ -10,9 +10,11 @@ ghost use Rattle.store.specs.Fibers.{AreFlat, entries_in};
 ghost use Rattle.store.specs.Stored.{AreIn, block_content, content_of, transposed};
 ghost use Rattle.store.specs.Walks.{AreLeft};
 
+use crate::folding::WordFolder;
 use crate::mapping::map_fibers;
 use algebra::Monoid;
-use lanes::{WordFunction, fold_words, with_monoid};
+use bitmap::OneThread;
+use lanes::{WordFunction, with_monoid};
 use model::NoMemory;
 use std::alloc::Global;
 use std::ops::Range;
@@ -129,30 +131,38 @@ pub fn reduce_all(a: &Store, monoid: Monoid) -> u64
     ensures { result ≡ fold_of monoid.kind monoid.op.domain
         (all_words a.now.rows a.now.cols (content_of a.now)) }
 {
+    reduce_all_by(&OneThread, a, monoid)
+}
+
+/// The same, where `folder` sums the words of lists.
+pub fn reduce_all_by<F: WordFolder>(folder: &F, a: &Store, monoid: Monoid) -> u64
+    ensures { result ≡ fold_of monoid.kind monoid.op.domain
+        (all_words a.now.rows a.now.cols (content_of a.now)) }
+{
     match a.form() {
-        Form::Sparse(lists) => fold_words(monoid, lists.words()),
+        Form::Sparse(lists) => folder.fold(monoid, lists.words()),
         Form::Bitmap(bitmap) => {
             prove_eq!(bitmap.rows(), a.rows());
             bitmap.fold(monoid)
         }
-        Form::Blocks(blocks) => reduce_parts(blocks.parts(), monoid),
+        Form::Blocks(blocks) => reduce_parts(folder, blocks.parts(), monoid),
     }
 }
 
 /// The words of stores, one behind the other, combined in order from the monoid's identity.
-fn reduce_parts(parts: &[Sparse], monoid: Monoid) -> u64
+fn reduce_parts<F: WordFolder>(folder: &F, parts: &[Sparse], monoid: Monoid) -> u64
     ensures { result ≡ fold_of monoid.kind monoid.op.domain
         (flat_map (λ s. all_words s.rows s.cols (content_of s)) parts.now) }
 {
     let mut sum = monoid.identity();
     for k in 0..parts.len() {
-        sum = fold_behind(monoid, sum, parts[k].words());
+        sum = fold_behind(folder, monoid, sum, parts[k].words());
     }
     sum
 }
 
 /// What words are combined to in order behind others, of which the sum is given.
-fn fold_behind(monoid: Monoid, sum: u64, words: &[u64]) -> u64
+fn fold_behind<F: WordFolder>(folder: &F, monoid: Monoid, sum: u64, words: &[u64]) -> u64
     ensures { (others : List ℕ) → sum ≡ fold_of monoid.kind monoid.op.domain others
         → result ≡ fold_of monoid.kind monoid.op.domain (others ++ words.now) }
 {
@@ -160,7 +170,7 @@ fn fold_behind(monoid: Monoid, sum: u64, words: &[u64]) -> u64
     if monoid.op.domain.is_boolean() {
         with_monoid!(monoid, |own| fold_on(own, sum, words))
     } else {
-        monoid.op.eval(sum, fold_words(monoid, words))
+        monoid.op.eval(sum, folder.fold(monoid, words))
     }
 }
 

@@ -1,5 +1,5 @@
 //! The run of a script.
-ghost use Rattle.std.specs.Prelude.{◌≡◌, ℕ, [], List, None, Option, IfSome};
+ghost use Rattle.std.specs.Prelude.{◌≡◌, ℕ, List, None, Option, IfSome};
 ghost use Rattle.std.specs.Option.{option_map};
 ghost use Rattle.gbrun.specs.Runs.{AnswersRun, IsMade, Made};
 ghost use Rattle.gbrun.specs.declared.options.Options.{Options as Chosen};
@@ -7,7 +7,7 @@ ghost use Rattle.gbrun.specs.declared.options.Options.{Options as Chosen};
 use crate::options::Options;
 use model::NoMemory;
 use runner::Runner;
-use script::{EntrySummer, FileReader, FileWriter, Sources};
+use script::{EntrySummer, FileReader, FileWriter, Sources, WordFolder};
 use std::alloc::Global;
 
 /// What makes the run of a script. A program that is given one of any kind can't make up what the run appends or how
@@ -18,9 +18,9 @@ pub trait Evaluation {
     // Whether a run of a script with these files and options may be this one.
     ghost admits: { (List ℕ → Option (List ℕ)) → List ℕ → Chosen → Made → Type 0 };
 
-    /// Runs a script with these sources of files, which `files` reads and writes, over a runner that was chosen by the
-    /// options, and appends its answers to none.
-    fn run<F: FileReader + FileWriter + EntrySummer, S: Sources, R: Runner>(
+    /// Runs a script with these sources of files, where `files` reads and writes these and sums the values of an
+    /// object, over a runner that was chosen by the options, and appends its answers to none.
+    fn run<F: FileReader + FileWriter + EntrySummer + WordFolder, S: Sources, R: Runner>(
         &mut self,
         files: &F,
         alloc: Global,
@@ -63,7 +63,7 @@ impl Evaluation for Answers {
 
     ghost admits = { AnswersRun };
 
-    fn run<F: FileReader + FileWriter + EntrySummer, S: Sources, R: Runner>(
+    fn run<F: FileReader + FileWriter + EntrySummer + WordFolder, S: Sources, R: Runner>(
         &mut self,
         files: &F,
         alloc: Global,

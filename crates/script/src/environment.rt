@@ -1,5 +1,5 @@
 //! The objects of a run by their names.
-ghost use Rattle.std.specs.Prelude.{◌≡◌, ◌<◌, ◌≤◌, ◌+◌, ◌-◌, ◌^◌, ◌++◌, ℕ, List, IfErr, OnErr, OnOk};
+ghost use Rattle.std.specs.Prelude.{◌≡◌, ◌<◌, ◌+◌, ◌-◌, ◌^◌, ℕ, List, IfErr, OnErr, OnOk};
 ghost use Rattle.std.specs.Prelude.{Some, false, if◌then◌else◌, is_some, true};
 ghost use Rattle.std.specs.BTreeMap.{get_by_text};
 ghost use Rattle.std.specs.Str.{bytes_eq};
@@ -18,7 +18,7 @@ use algebra::Domain;
 use mmio::FileWriter;
 use model::{Act, Call, Lookup, Out, Shape, Status, TwoInputs};
 use runner::Runner;
-use session::{Obj, Reply, Session};
+use session::{Obj, Reply, Session, WordFolder};
 use std::alloc::Global;
 use std::collections::BTreeMap;
 
@@ -50,10 +50,15 @@ impl<R: Runner + Drop> Environment<R> {
         }
     }
 
-    /// Does a call that asks for no text, and writes the data lines of its answer. An error leaves the objects as they
-    /// were; what it leaves at the text's end is no answer.
+    /// Does a call that asks for no text, and writes the data lines of its answer; `folder` sums values. An error
+    /// leaves the objects as they were; what it leaves at the text's end is no answer.
     #[tactic(auto, unfolding(model::specs::Run::data_lines_of))]
-    pub fn perform(&mut self, call: Call<&str, &str>, text: &mut Vec<u8>) -> Result<(), Status>
+    pub fn perform<F: WordFolder>(
+        &mut self,
+        folder: &F,
+        call: Call<&str, &str>,
+        text: &mut Vec<u8>,
+    ) -> Result<(), Status>
         requires made { made_in self.old.session < 2 ^ 64 - 1 }
         requires textless { asks_text call ≡ false }
         ensures { IsAnswered self.old self.new (renamed (λ name. name.now) (λ name. name.now) call.entry)
@@ -66,38 +71,49 @@ impl<R: Runner + Drop> Environment<R> {
                 shape,
             } => self.create(name, domain, shape),
             Call::Dup { name, object } => self.dup(name, object),
-            Call::On { object, act } => self.act(object, act, text),
-            call => self.perform_known(call, text),
+            Call::On { object, act } => self.act(folder, object, act, text),
+            call => self.perform_known(folder, call, text),
         }
     }
 
     /// Does something to the object of a name, which asks for no text, or writes what it answers.
-    fn act(&mut self, object: &str, act: Act, text: &mut Vec<u8>) -> Result<(), Status>
+    fn act<F: WordFolder>(
+        &mut self,
+        folder: &F,
+        object: &str,
+        act: Act,
+        text: &mut Vec<u8>,
+    ) -> Result<(), Status>
         requires made { made_in self.old.session < 2 ^ 64 - 1 }
         requires textless { is_print act ≡ false }
         ensures { IsAnswered self.old self.new (Call.On object.now act) text.old.items text.new.items result }
     {
         match act {
             Act::Free => self.free(object),
-            act => self.perform_known(Call::On { object, act }, text),
+            act => self.perform_known(folder, Call::On { object, act }, text),
         }
     }
 
     /// Does a call on objects that are there, which asks for no text, and writes the data lines of its answer.
-    fn perform_known(&mut self, call: Call<&str, &str>, text: &mut Vec<u8>) -> Result<(), Status>
+    fn perform_known<F: WordFolder>(
+        &mut self,
+        folder: &F,
+        call: Call<&str, &str>,
+        text: &mut Vec<u8>,
+    ) -> Result<(), Status>
         requires made { made_in self.old.session < 2 ^ 64 - 1 }
         requires known { changes_names call ≡ false }
         requires textless { asks_text call ≡ false }
         ensures { IsAnswered self.old self.new (renamed (λ name. name.now) (λ name. name.now) call.entry)
             text.old.items text.new.items result }
     {
-        let reply = self.reply(call)?;
+        let reply = self.reply(folder, call)?;
         write_reply(reply, text)?;
         Ok(())
     }
 
     /// Does a call on objects that are there, which asks for no text, and gives what it answers.
-    fn reply(&mut self, call: Call<&str, &str>) -> Result<Reply, Status>
+    fn reply<F: WordFolder>(&mut self, folder: &F, call: Call<&str, &str>) -> Result<Reply, Status>
         requires made { made_in self.old.session < 2 ^ 64 - 1 }
         requires known { changes_names call ≡ false }
         requires textless { asks_text call ≡ false }
@@ -106,7 +122,7 @@ impl<R: Runner + Drop> Environment<R> {
         let Some(call) = call.found(self) else {
             return Err(Status::UninitializedObject);
         };
-        self.session.perform(call)
+        self.session.perform_by(folder, call)
     }
 
     /// Does an operation of two inputs on the objects of names, which answers no lines: what `perform` does with it. It

@@ -14,4 +14,5 @@ pub use lines::{Line, LineFault, Load, loaded_file, parse_line};
 pub use mmio::{FileReader, FileWriter, OneThread, threads_of};
 pub use patch::EntrySummer;
 pub use running::{run, run_by};
+pub use session::WordFolder;
 pub use sources::Sources;

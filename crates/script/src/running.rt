@@ -1,7 +1,6 @@
 //! Runs of scripts, line by line.
-ghost use Rattle.std.specs.Prelude.{ℕ, ◌≡◌, ◌<◌, ◌≤◌, ◌+◌, ◌-◌, ◌^◌, ◌++◌, List, [], ◌∷◌};
+ghost use Rattle.std.specs.Prelude.{ℕ, ◌≡◌, ◌<◌, ◌≤◌, ◌+◌, ◌-◌, ◌^◌, ◌++◌, List, []};
 ghost use Rattle.std.specs.Prelude.{MatchOption, OnErr, OnOk, false, length, take};
-ghost use Rattle.std.specs.Str.Lines.{strip_carriage_return};
 ghost use Rattle.mmio.specs.Written.{Grows};
 ghost use Rattle.model.specs.declared.call.Act.TheVariants.{Print};
 ghost use Rattle.model.specs.declared.call.Call.TheVariants.{On};
@@ -23,6 +22,7 @@ use mmio::{FileReader, FileWriter, OneThread};
 use model::{Act, Call, NoMemory, Operation, Status};
 use patch::EntrySummer;
 use runner::Runner;
+use session::WordFolder;
 use std::alloc::{AllocError, Global};
 
 /// Room for the longest answer of one line: a number of 20 digits and the name of a status.
@@ -53,8 +53,8 @@ pub fn run<S: Sources, R: Runner>(
     run_by(&OneThread, alloc, script, sources, runner, out)
 }
 
-/// The same where `files` reads and writes files.
-pub fn run_by<F: FileReader + FileWriter + EntrySummer, S: Sources, R: Runner>(
+/// The same where `files` reads and writes files, and sums the values of an object.
+pub fn run_by<F: FileReader + FileWriter + EntrySummer + WordFolder, S: Sources, R: Runner>(
     files: &F,
     alloc: Global,
     script: &[u8],
@@ -72,7 +72,11 @@ pub fn run_by<F: FileReader + FileWriter + EntrySummer, S: Sources, R: Runner>(
 }
 
 /// Appends the answers of a script's lines, over a runner that goes with the objects.
-fn answer_lines<F: FileReader + FileWriter + EntrySummer, S: Sources, R: Runner + Drop>(
+fn answer_lines<
+    F: FileReader + FileWriter + EntrySummer + WordFolder,
+    S: Sources,
+    R: Runner + Drop,
+>(
     files: &F,
     alloc: Global,
     script: &[u8],
@@ -107,7 +111,11 @@ fn answer_lines<F: FileReader + FileWriter + EntrySummer, S: Sources, R: Runner 
 }
 
 /// Appends the answer to one line, if it has one, whole, with `text` as room for it. An error appends nothing.
-fn append_answer<F: FileReader + FileWriter + EntrySummer, S: Sources, R: Runner + Drop>(
+fn append_answer<
+    F: FileReader + FileWriter + EntrySummer + WordFolder,
+    S: Sources,
+    R: Runner + Drop,
+>(
     files: &F,
     alloc: Global,
     sources: &S,
@@ -139,7 +147,7 @@ fn append_answer<F: FileReader + FileWriter + EntrySummer, S: Sources, R: Runner
 
 /// Writes the answer to one line, if it has one: what it prints of an object, which may be long, behind `out`, and the
 /// rest as `text`, which follows that.
-fn answer_line<F: FileReader + FileWriter + EntrySummer, S: Sources, R: Runner + Drop>(
+fn answer_line<F: FileReader + FileWriter + EntrySummer + WordFolder, S: Sources, R: Runner + Drop>(
     files: &F,
     alloc: Global,
     sources: &S,
@@ -178,7 +186,7 @@ fn answer_line<F: FileReader + FileWriter + EntrySummer, S: Sources, R: Runner +
         Ok(Line::Silent) => Ok(()),
         Ok(Line::Call(call)) => match printed(&call) {
             Some(object) => answer_print(files, environment, number, object, text, out),
-            None => answer_call(environment, number, call, text),
+            None => answer_call(files, environment, number, call, text),
         },
         Ok(Line::Load(load)) => match environment.load(files, sources, load) {
             Ok(()) => text::write_status(text, number, Status::Ok),
@@ -203,7 +211,8 @@ fn printed<'a>(call: &Call<&'a str, &'a str>) -> Option<&'a str>
 }
 
 /// Writes the answer to a call that is no print.
-fn answer_call<R: Runner + Drop>(
+fn answer_call<F: WordFolder, R: Runner + Drop>(
+    folder: &F,
     environment: &mut Environment<R>,
     number: u64,
     call: Call<&str, &str>,
@@ -218,7 +227,7 @@ fn answer_call<R: Runner + Drop>(
     ensures made { made_in environment.new.session ≤ made_in environment.old.session + 1 }
 {
     text::write_status(text, number, Status::Ok)?;
-    match environment.perform(call, text) {
+    match environment.perform(folder, call, text) {
         Ok(()) => Ok(()),
         Err(status) => {
             text.clear();

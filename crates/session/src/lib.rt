@@ -14,6 +14,7 @@ mod sessions;
 pub use calls::{
     Act, Call, Desc, Obj, OneInput, Operation, Out, Place, Positions, Shape, TwoInputs,
 };
+pub use elementwise::WordFolder;
 pub use model::WaitMode;
 pub use reply::Reply;
 pub use sessions::Session;

@@ -3,7 +3,9 @@ ghost use Rattle.std.specs.Prelude.{◌≡◌, Err, IfOk, MatchResult, Ok};
 
 use crate::reply::Reply;
 use crate::sessions::Session;
+use bitmap::OneThread;
 use calls::{Act, Call, Obj};
+use elementwise::WordFolder;
 use model::Status;
 use runner::Runner;
 
@@ -15,16 +17,28 @@ impl<R: Runner + Drop> Session<R> {
         ensures performed { IsPerformed self.old self.new (numbered self.old call) result }
         ensures answer { IfOk result (Answers (environment_of self.old) (numbered self.old call)) }
     {
+        self.perform_by(&OneThread, call)
+    }
+
+    /// The same, where `folder` sums the values of an object.
+    pub fn perform_by<F: WordFolder, N: Drop>(
+        &mut self,
+        folder: &F,
+        call: Call<Obj, N>,
+    ) -> Result<Reply, Status>
+        ensures performed { IsPerformed self.old self.new (numbered self.old call) result }
+        ensures answer { IfOk result (Answers (environment_of self.old) (numbered self.old call)) }
+    {
         match call {
             Call::Create { domain, shape, .. } => Ok(Reply::Made(self.create(domain, shape)?)),
             Call::Dup { object, .. } => Ok(Reply::Made(self.dup(object)?)),
-            Call::On { object, act } => self.act(object, act),
+            Call::On { object, act } => self.act(folder, object, act),
             Call::Operate { out, operation } => done(self.operate(&out, operation)),
         }
     }
 
     /// Does something to an object, or answers what is asked of it.
-    fn act(&mut self, object: Obj, act: Act) -> Result<Reply, Status>
+    fn act<F: WordFolder>(&mut self, folder: &F, object: Obj, act: Act) -> Result<Reply, Status>
         ensures performed { IsPerformed self.old self.new (Call.On object act) result }
         ensures answer { IfOk result (Answers (environment_of self.old) (Call.On object act)) }
     {
@@ -38,7 +52,7 @@ impl<R: Runner + Drop> Session<R> {
             Act::Get(place) => Ok(Reply::Value(self.get(object, place)?)),
             Act::Nvals => Ok(Reply::Count(self.nvals(object)?)),
             Act::Print => done(self.complete(object)),
-            Act::Reduce(monoid) => Ok(Reply::Value(self.reduce(object, monoid)?)),
+            Act::Reduce(monoid) => Ok(Reply::Value(self.reduce_by(folder, object, monoid)?)),
             Act::Wait(mode) => done(self.wait(object, mode)),
         }
     }

@@ -1,11 +1,12 @@
 //! Calls that ask for the value of an object.
-ghost use Rattle.std.specs.Prelude.{◌≡◌, IfOk};
+ghost use Rattle.std.specs.Prelude.{IfOk};
 
 use crate::reply::Reply;
 use crate::sessions::Session;
 use algebra::MonoidName;
+use bitmap::OneThread;
 use calls::{Act, Call, Obj, Place, check_place, check_reduce, check_there, check_wait};
-use elementwise::reduce_all;
+use elementwise::{WordFolder, reduce_all_by};
 use model::{Status, WaitMode};
 use objects::store;
 use runner::Runner;
@@ -45,9 +46,23 @@ impl<R: Runner + Drop> Session<R> {
         ensures value { IfOk result (λ value. Answers (environment_of self.old) (Call.On object (Act.Reduce monoid))
             (Reply.Value value)) }
     {
+        self.reduce_by(&OneThread, object, monoid)
+    }
+
+    /// The same, where `folder` sums the values.
+    pub fn reduce_by<F: WordFolder>(
+        &mut self,
+        folder: &F,
+        object: Obj,
+        monoid: MonoidName,
+    ) -> Result<i128, Status>
+        ensures performed { IsPerformed self.old self.new (Call.On object (Act.Reduce monoid)) result }
+        ensures value { IfOk result (λ value. Answers (environment_of self.old) (Call.On object (Act.Reduce monoid))
+            (Reply.Value value)) }
+    {
         let monoid = check_reduce(self, object, monoid)?;
         self.finish(object)?;
-        let sum = reduce_all(store(&self.table, object), monoid);
+        let sum = reduce_all_by(folder, store(&self.table, object), monoid);
         Ok(monoid.op.domain.value_of(sum))
     }
 

@@ -11,10 +11,10 @@ abbrev words_of : Stored → List ℕ
 words_of s = all_words s.rows s.cols (content_of s)
 
 pub loop-k-init : goal.loop-k-init
-loop-k-init c = c.identity-sum.ensures
+loop-k-init g c = c.identity-sum.ensures
 
 pub loop-k-preserved : goal.loop-k-preserved
-loop-k-preserved c =
+loop-k-preserved g c =
     let m = c.args.monoid in
     let parts = c.args.parts.now in
     let k = c.loop-k.k in
@@ -27,7 +27,7 @@ loop-k-preserved c =
     ∙ ap (fold_of m.kind m.op.domain) (sym more)
 
 pub returns : goal.returns
-returns c =
+returns g c =
     let m = c.args.monoid in
     let parts = c.args.parts.now in
     let end = c.loop-k-test.false in

@@ -16,12 +16,12 @@ invariant_of-self g c =
     let is = found_some (renamed (λ name. number_in names name.now) (λ name. name) c.args.call) c.in-Some.call c.in-Some.ensures in
     record {
       distinct = names.distinct;
-      there = stays_there (number_in names) names.session c.perform.new.self (numbered names.session c.in-Some.call) c.perform.result
-          (known_named (λ name. name.now) (number_in names) names.session c.args.call c.in-Some.call c.requires.known is) names.there c.perform.ensures.performed;
+      there = stays_there (number_in names) names.session c.perform_by.new.self (numbered names.session c.in-Some.call) c.perform_by.result
+          (known_named (λ name. name.now) (number_in names) names.session c.args.call c.in-Some.call c.requires.known is) names.there c.perform_by.ensures.performed;
     }
 
 pub returns : goal.returns
 returns g c =
     let is = found_some (renamed (λ name. number_in c.args.self.now name.now) (λ name. name) c.args.call) c.in-Some.call c.in-Some.ensures in
-    replied_named (λ name. name.now) c.args.self.now _ c.args.call c.in-Some.call c.perform.result c.requires.made c.requires.known c.requires.textless c.args.self.now.distinct refl is
-    c.perform.ensures.performed c.perform.ensures.answer
+    replied_named (λ name. name.now) c.args.self.now _ c.args.call c.in-Some.call c.perform_by.result c.requires.made c.requires.known c.requires.textless c.args.self.now.distinct refl is
+    c.perform_by.ensures.performed c.perform_by.ensures.answer

@@ -4,7 +4,7 @@ use Rattle.calls.specs.declared.obj.Obj.{Obj}
 use Rattle.model.specs.declared.call.Call.{Call}
 use Rattle.session.specs.Performed.{IsPerformed, numbered}
 use Rattle.session.proofs.PerformedLaws.{numbered-operate, performed-done}
-use Rattle.session.proofs.sessions.Session.perform.Goals as goal
+use Rattle.session.proofs.sessions.Session.perform_by.Goals as goal
 
 pub returns-clause-performed : goal.returns-clause-performed
 returns-clause-performed g c =

@@ -14,7 +14,7 @@ use Rattle.session.specs.Performed.{count_in, environment_of}
 use Rattle.session.proofs.AcceptedLaws.{act-there, reduce-accepted}
 use Rattle.session.proofs.PerformedLaws.{late-none, performed-read, read-kept}
 use Rattle.session.proofs.ResultLaws.{sum-stored}
-use Rattle.session.proofs.sessions.Session.reduce.Goals as goal
+use Rattle.session.proofs.sessions.Session.reduce_by.Goals as goal
 
 pub finish-requires : goal.finish-requires
 finish-requires g c = record { there = act-there (count_in c.args.self.now) ((environment_of c.args.self.now).find_object c.args.object) (Reduce c.args.monoid) c.in_ok-monoid.ensures.fault }
@@ -40,6 +40,6 @@ returns-clause-value g c =
     let compatible = rw (read, sym named) at accepted.2 in
     let sum = sum-stored (monoid_named monoid) o c.store.result.now offered compatible c.store.ensures.object c.store.ensures.store in
     to_z-of_z w128 c.value_of.result fits ∙ c.value_of.ensures
-    ∙ ap (value_of monoid.op.domain) (c.reduce_all-sum.ensures ∙ sum)
+    ∙ ap (value_of monoid.op.domain) (c.reduce_all_by-sum.ensures ∙ sum)
     ∙ ap (λ (name : MonoidName). value_of name.domain (sum_in name o)) named
     ∙ ap (λ (p : Object). value_of c.args.monoid.domain (sum_in c.args.monoid p)) (sym read)
