@@ -25,8 +25,9 @@ pub fn list_beside<'a, R: Threads>(
     requires { 0 < each }
     ensures { IfOk result (λ listed. Lists domain heading text.entry.now listed.entries listed.lines) }
 {
-    // Each part ends with a line, so that what is left in front may be a little longer: no thread is started for that.
-    if text.len() / 2 < each {
+    // Each part ends with a line, so that what is left in front is a little longer or shorter than some parts are: no
+    // thread is started for less than half of one.
+    if text.len().saturating_sub(each) < each / 2 {
         return list_lines(alloc, domain, heading, whole, text);
     }
     let (front, back) = cut(text, text.len().saturating_sub(each));
