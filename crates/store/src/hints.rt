@@ -1,5 +1,5 @@
 //! Hints where the rows of a store lie.
-use crate::{Fibers, Sparse};
+use crate::{Fibers, FlatFibers, Sparse};
 use model::NoMemory;
 use std::alloc::Global;
 
@@ -56,13 +56,26 @@ fn pays(store: &Sparse, fibers: &Fibers<'_>, lookups: u64, walks: u64) -> bool {
 /// Makes for each of so many rows the number of rows before it that have entries.
 fn count_before(before: &mut Vec<u32>, fibers: &Fibers<'_>, rows: u64) -> Result<(), NoMemory> {
     let flat = fibers.flat();
-    before.reserve(rows as usize)?;
-    let mut count = 0;
-    for row in 0..rows {
-        before.push(u32::try_from(count).unwrap_or(0))?;
-        if count <= flat.others.len() && flat.fiber(count).outer == row {
-            count += 1;
+    before.resize(rows as usize, 0)?;
+    let mut count = 0u32;
+    // The next row that has entries, which is read once for all rows up to it.
+    let mut filled = row_at(&flat, 0);
+    for (row, place) in before.iter_mut().enumerate() {
+        *place = count;
+        if row as u64 == filled {
+            count = count.wrapping_add(1);
+            filled = row_at(&flat, count as usize);
         }
     }
     Ok(())
+}
+
+/// The row of the fiber at a place, or one behind all rows.
+#[inline(always)]
+fn row_at(flat: &FlatFibers<'_>, at: usize) -> u64 {
+    if at <= flat.others.len() {
+        flat.fiber(at).outer
+    } else {
+        u64::MAX
+    }
 }
