@@ -182,8 +182,10 @@ fn some_columns(alloc: Global, by: &Sparse) -> Result<Vec<u64>, NoMemory> {
     let all = by.fibers_in(0..by.rows()).flat().inner;
     let step = all.len() / SAMPLE + 1;
     let mut some = Vec::new(alloc);
-    for column in all.iter().step_by(step) {
-        some.push(*column)?;
+    for part in all.chunks(step) {
+        if let [column, ..] = part {
+            some.push(*column)?;
+        }
     }
     some.sort_unstable();
     Ok(some)

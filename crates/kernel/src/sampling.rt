@@ -11,9 +11,6 @@ use store::{Form, Sparse, Store};
 /// How many entries are looked at, and up to twice as many: with more, pieces would hardly be more even.
 const SAMPLE: usize = 1_024;
 
-/// So many eighths of a thread's share the first piece has.
-const FRONT: u64 = 5;
-
 /// Of how many entries one is looked at, at least, so that it takes no time beside their products.
 const LEAST_STEP: usize = 64;
 
@@ -39,7 +36,11 @@ impl Sample {
         let most = usual.saturating_add(1).saturating_mul(MOST_TIMES);
         let mut sums = Vec::new(alloc);
         let mut sum = 0u64;
-        for column in columns.iter().step_by(step) {
+        // Parts are passed over at once, where `step_by` would go from entry to entry.
+        for part in columns.chunks(step) {
+            let [column, ..] = part else {
+                continue;
+            };
             // One column lies as one fiber, whose inner indices are rows.
             let row = if a.cols() == 1 { 0 } else { *column };
             // An entry itself takes time, too: its row is looked up.
@@ -76,10 +77,9 @@ fn entries_in_row(store: &Store, row: u64) -> u64 {
     }
 }
 
-/// The rows at which the product of two factors is cut, each piece but the last of at least so many rows. The first
-/// piece stays where it is when the others are joined to it, and so is long; but it has less than a thread's share,
-/// since its products may take longer than others. The pieces behind it get smaller and smaller, so that all threads
-/// end at about one time.
+/// The rows at which the product of two factors is cut, each piece but the last of at least so many rows. Each has half
+/// of an even share of what is left, since its products may take longer than others: pieces get smaller and smaller, so
+/// that all threads end at about one time.
 pub(crate) fn cut_products(
     alloc: Global,
     a: &Sparse,
@@ -112,12 +112,7 @@ fn next_row(sample: &Sample, a: &Sparse, row: u64, least: u64, threads: u64) -> 
     let left = sample.total().saturating_sub(before);
     let share = sample.total() / threads;
     let small = LEAST_WORK.max(share / PRODUCT_PIECES);
-    let part = if row == 0 {
-        share / 8 * FRONT
-    } else {
-        left / 2 / threads
-    };
-    let size = part.max(small);
+    let size = small.max(left / 2 / threads);
     if left < size.saturating_add(small) {
         return None;
     }
