@@ -99,6 +99,14 @@ truth_more op terms col word bits trues bits' trues' kind domain small long met 
           ];
     }
 
+-- a true term more where all were true
+pub true_more : (op : BinaryOp) (terms : List Term) (col word : ℕ) (bits bits' : List ℕ)
+    → op.kind ≡ Lor → op.domain ≡ BOOL → word ≡ 1 → length bits' ≡ length bits
+    → ((k : ℕ) → has_bit bits' k ≡ (eqb k col || has_bit bits k))
+    → AreTruths op terms bits bits → AreTruths op (terms ++ term_at col word ∷ []) bits' bits'
+true_more op terms col word bits bits' kind domain one long met here =
+    truth_more op terms col word bits bits bits' bits' kind domain (omega (arith, one)) long met (λ k. met k ∙ rw one refl) here
+
 -- nothing is true yet
 pub no_truths : (op : BinaryOp) (bits trues : List ℕ) → AreClear bits → AreClear trues → AreTruths op [] bits trues
 no_truths op bits trues clear all_false = record {

@@ -1,6 +1,6 @@
 //! The sums over LOR of the products of a vector that is a bitmap and some rows of a store, as bits.
 ghost use Rattle.std.specs.Prelude.{◌≡◌, ◌<◌, ◌≤◌, ◌-◌, ◌*◌, ◌/◌, ◌+◌, ◌++◌, ◌||◌, ℕ, List, IfOk, IfSome, None};
-ghost use Rattle.std.specs.Prelude.{length};
+ghost use Rattle.std.specs.Prelude.{if◌then◌else◌, length};
 ghost use Rattle.std.specs.List.{All};
 ghost use Rattle.algebra.specs.declared.kinds.MonoidKind.TheVariants.{Lor};
 ghost use Rattle.bitmap.specs.Bitmaps.{row_part};
@@ -15,7 +15,7 @@ ghost use Rattle.spgemm.specs.Truths.{AreTruths};
 ghost use Rattle.spgemm.specs.declared.term.Term.{Term};
 
 use crate::bitmap_sums::Factors;
-use crate::truths::add_products;
+use crate::truths::{add_products, add_true_products};
 use algebra::{Semiring, with_semirings};
 use bitmap::Bitmap;
 use lanes::lowest_bits;
@@ -136,11 +136,15 @@ fn add_rows_by(
 {
     let mut last = 0;
     let mut from = rows.start;
+    let mut all_true = true;
     while let Some(row) = next_between(u, from, rows.end) {
         let (cols, words, next) = a.row_near(row, last);
         last = next;
-        add_row(bits, trues, u.get(row, 0), cols, words, semiring);
+        all_true = add_row(bits, trues, all_true, u.get(row, 0), cols, words, semiring);
         from = row + 1;
+    }
+    if all_true {
+        trues.copy_from_slice(bits);
     }
 }
 
@@ -166,25 +170,37 @@ fn next_between(u: &Bitmap, from: u64, past: u64) -> Option<u64>
     None
 }
 
-/// Adds what the vector has at a row of `a`, if anything, times each entry of the row.
+/// Adds what the vector has at a row of `a`, if anything, times each entry of the row, and says whether all products
+/// were true so far. As long as they are, `trues` isn't written: the bits of the true sums are those of all. That is
+/// the usual case, and half of the work.
 #[inline(always)]
 fn add_row(
     bits: &mut [u64],
     trues: &mut [u64],
+    all_true: bool,
     word: Option<u64>,
     cols: &[u64],
     words: &[u64],
     semiring: Semiring,
-)
+) -> bool
     requires lor { semiring.add.kind ≡ Lor }
     requires trues { length trues.old ≡ length bits.old }
     requires lengths { length words.now ≡ length cols.now }
     requires inside { All (λ col. col < 64 * length bits.old) cols.now }
-    ensures { (terms : List Term) → AreTruths semiring.add.op terms bits.old trues.old
+    ensures { (terms : List Term)
+        → AreTruths semiring.add.op terms bits.old (if all_true then bits.old else trues.old)
         → AreTruths semiring.add.op (terms ++ times_found semiring.multiply word (entries_along 0 cols.now words.now))
-        bits.new trues.new }
+        bits.new (if result then bits.new else trues.new) }
 {
-    if let Some(word) = word {
-        add_products(bits, trues, word, cols, words, semiring);
+    let Some(word) = word else {
+        return all_true;
+    };
+    if all_true {
+        if add_true_products(bits, word, cols, words, semiring) {
+            return true;
+        }
+        trues.copy_from_slice(bits);
     }
+    add_products(bits, trues, word, cols, words, semiring);
+    false
 }

@@ -10,7 +10,7 @@ ghost use Rattle.spgemm.specs.Terms.{apply, term_at, terms_of_row, times_row};
 ghost use Rattle.spgemm.specs.Truths.{AreTruths, truth};
 ghost use Rattle.spgemm.specs.declared.term.Term.{Term};
 
-use algebra::{MonoidKind, Semiring, with_semirings};
+use algebra::{BinaryOp, MonoidKind, Semiring, with_semirings};
 use lanes::{has_bit, set_bit, set_bit_by};
 use model::NoMemory;
 use store::{Row, RowHints, Sparse};
@@ -67,6 +67,46 @@ pub(crate) fn add_products(
     for k in 0..cols.len() {
         add_product(bits, trues, cols[k] as usize, word, words[k], semiring);
     }
+}
+
+/// Whether a word times each of some others is true.
+#[inline(always)]
+fn are_true(word: u64, others: &[u64], multiply: BinaryOp) -> bool
+    ensures { result ≡ true → (k : ℕ) → k < length others.now → apply multiply word (slice_index others.now k) ≢ 0 }
+{
+    for k in 0..others.len() {
+        if multiply.eval(word, others[k]) == 0 {
+            return false;
+        }
+    }
+    true
+}
+
+/// Adds a word times each entry of a row to the sum at its column, where all these products are true, and says whether
+/// they are. As long as all products are, the same bits say where a sum is and which are true.
+#[inline(always)]
+pub(crate) fn add_true_products(
+    bits: &mut [u64],
+    word: u64,
+    cols: &[u64],
+    words: &[u64],
+    semiring: Semiring,
+) -> bool
+    requires lor { semiring.add.kind ≡ Lor }
+    requires lengths { length words.now ≡ length cols.now }
+    requires inside { All (λ col. col < 64 * length bits.old) cols.now }
+    ensures yes { result ≡ true → (terms : List Term) → AreTruths semiring.add.op terms bits.old bits.old
+        → AreTruths semiring.add.op
+        (terms ++ times_row semiring.multiply word (entries_along 0 cols.now words.now)) bits.new bits.new }
+    ensures no { result ≡ false → bits.new ≡ bits.old }
+{
+    if !are_true(word, words, semiring.multiply) {
+        return false;
+    }
+    for k in 0..cols.len() {
+        set_bit(bits, cols[k] as usize);
+    }
+    true
 }
 
 /// Adds the products of a row of A with B, each entry times the row of B that its column names, where no bit is set.
