@@ -134,7 +134,7 @@ pub fn reduce_all(a: &Store, monoid: Monoid) -> u64
     reduce_all_by(&OneThread, a, monoid)
 }
 
-/// The same, where `folder` sums the words of lists.
+/// The same sum, where `folder` sums the words of lists: several threads take stacks of their own.
 pub fn reduce_all_by<F: WordFolder>(folder: &F, a: &Store, monoid: Monoid) -> u64
     ensures { result ≡ fold_of monoid.kind monoid.op.domain
         (all_words a.now.rows a.now.cols (content_of a.now)) }

@@ -1,5 +1,5 @@
 //! Lines, and what their words ask for.
-ghost use Rattle.std.specs.Prelude.{◌≡◌, ◌<◌, ◌==◌, ◌||◌, None, codes, drop, false, find, length, map, not, true};
+ghost use Rattle.std.specs.Prelude.{◌≡◌, ◌<◌, ◌==◌, None, codes, drop, false, find, length, map, not, true};
 ghost use Rattle.lines.specs.Joining.{joining_word, joins};
 ghost use Rattle.lines.specs.Meaning.{IsRead, Reads, reading_in};
 ghost use Rattle.model.specs.Grammar.{calls, command_of, is_blank, is_called, is_silent, nth_word, reading_of};
