@@ -15,8 +15,8 @@ use std::thread;
 use std::thread::Threads;
 use store::Sparse;
 
-/// How many products a thread is started for: to start it takes about a tenth of the time of these.
-const WORTH_A_THREAD: u64 = 1 << 16;
+/// How many products a thread is started for: to start it takes about a fifth of the time of these.
+const WORTH_A_THREAD: u64 = 1 << 15;
 
 /// The factors of a product, and how many places there are for its sums: one for each column, or more.
 #[derive(Clone, Copy)]
