@@ -10,6 +10,7 @@ mod indexed;
 mod intersect;
 mod mapping;
 mod pairs;
+mod parts;
 mod passing;
 mod reduce;
 mod select;

@@ -1,11 +1,10 @@
 //! Sums of rows and of all entries.
-ghost use Rattle.std.specs.Prelude.{◌≡◌, ℕ, ◌<◌, ◌≤◌, ◌+◌, ◌++◌, ◌∷◌, ◌==◌, if◌then◌else◌, IfOk, List, None, length};
-ghost use Rattle.std.specs.Prelude.{map};
+ghost use Rattle.std.specs.Prelude.{◌≡◌, ℕ, ◌<◌, ◌≤◌, ◌+◌, ◌∷◌, ◌==◌, if◌then◌else◌, IfOk, None, length, map};
 ghost use Rattle.model.specs.Entries.{word_at};
 ghost use Rattle.elementwise.specs.Sums.{folded, row_sum, sums_of};
 ghost use Rattle.lanes.specs.Lists.{fold_of};
 ghost use Rattle.model.specs.Reductions.{all_words, row_words};
-ghost use Rattle.std.specs.List.{All, flat_map};
+ghost use Rattle.std.specs.List.{All};
 ghost use Rattle.store.specs.Fibers.{AreFlat, entries_in};
 ghost use Rattle.store.specs.Stored.{AreIn, block_content, content_of, transposed};
 ghost use Rattle.store.specs.Walks.{AreLeft};
@@ -145,44 +144,6 @@ pub fn reduce_all_by<F: WordFolder>(folder: &F, a: &Store, monoid: Monoid) -> u6
             prove_eq!(bitmap.rows(), a.rows());
             bitmap.fold(monoid)
         }
-        Form::Blocks(blocks) => reduce_parts(folder, blocks.parts(), monoid),
+        Form::Blocks(blocks) => folder.fold_parts(monoid, blocks.parts()),
     }
-}
-
-/// The words of stores, one behind the other, combined in order from the monoid's identity.
-fn reduce_parts<F: WordFolder>(folder: &F, parts: &[Sparse], monoid: Monoid) -> u64
-    ensures { result ≡ fold_of monoid.kind monoid.op.domain
-        (flat_map (λ s. all_words s.rows s.cols (content_of s)) parts.now) }
-{
-    let mut sum = monoid.identity();
-    for k in 0..parts.len() {
-        sum = fold_behind(folder, monoid, sum, parts[k].words());
-    }
-    sum
-}
-
-/// What words are combined to in order behind others, of which the sum is given.
-fn fold_behind<F: WordFolder>(folder: &F, monoid: Monoid, sum: u64, words: &[u64]) -> u64
-    ensures { (others : List ℕ) → sum ≡ fold_of monoid.kind monoid.op.domain others
-        → result ≡ fold_of monoid.kind monoid.op.domain (others ++ words.now) }
-{
-    // The laws of a monoid on BOOL are of truths alone, and a word may be any number.
-    if monoid.op.domain.is_boolean() {
-        with_monoid!(monoid, |own| fold_on(own, sum, words))
-    } else {
-        monoid.op.eval(sum, folder.fold(monoid, words))
-    }
-}
-
-/// What words are combined to in order behind others, word by word.
-#[inline(always)]
-fn fold_on(monoid: Monoid, sum: u64, words: &[u64]) -> u64
-    ensures { (others : List ℕ) → sum ≡ fold_of monoid.kind monoid.op.domain others
-        → result ≡ fold_of monoid.kind monoid.op.domain (others ++ words.now) }
-{
-    let mut all = sum;
-    for k in 0..words.len() {
-        all = monoid.op.eval(all, words[k]);
-    }
-    all
 }

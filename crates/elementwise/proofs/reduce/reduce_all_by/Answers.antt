@@ -19,4 +19,4 @@ pub returns-in-Blocks : goal.returns-in-Blocks
 returns-in-Blocks g c =
     let lent = rw c.in-Blocks.is at c.form.ensures in
     let monoid = c.args.monoid in
-    rw (← lent) (c.reduce_parts.ensures ∙ ap (fold_of monoid.kind monoid.op.domain) c.parts.ensures.words)
+    rw (← lent) (c.fold_parts.ensures ∙ ap (fold_of monoid.kind monoid.op.domain) c.parts.ensures.words)

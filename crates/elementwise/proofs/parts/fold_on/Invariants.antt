@@ -1,6 +1,6 @@
 use Rattle.std.proofs.Common.{◌≡◌, ◌++◌, ℕ, List, take}
 use Rattle.lanes.specs.Lists.{fold_of}
-use Rattle.elementwise.proofs.reduce.fold_on.Given as goal
+use Rattle.elementwise.proofs.parts.fold_on.Given as goal
 
 abbrev pub invariant-loop-k : goal.invariant-loop-k
 invariant-loop-k l = (others : List ℕ) → l.initial.sum ≡ fold_of l.monoid.kind l.monoid.op.domain others

@@ -4,7 +4,7 @@ use Rattle.std.proofs.lemmas.List.Sums.{fold-append}
 use Rattle.algebra.specs.Monoids.{identity_of}
 use Rattle.algebra.specs.Operators.{combines_by, eval_of}
 use Rattle.lanes.specs.Lists.{fold_of}
-use Rattle.elementwise.proofs.reduce.fold_on.Goals as goal
+use Rattle.elementwise.proofs.parts.fold_on.Goals as goal
 
 pub loop-k-init : goal.loop-k-init
 loop-k-init c = λ others is. is ∙ ap (fold_of c.args.monoid.kind c.args.monoid.op.domain) (sym (append-nil others))
