@@ -8,11 +8,11 @@ use store::{Blocks, Form, Sparse, Store};
 
 /// How much work each piece has at least, in entries: less takes about as long as to wake a thread for it, and to join
 /// it.
-pub(crate) const LEAST_WORK: u64 = 131_072;
+const LEAST_WORK: u64 = 131_072;
 
 /// How many pieces each thread gets, at the most, of a product of matrices of lists: its rows may take very different
 /// times, and no thread is to work on a long piece while the others have nothing left.
-pub(crate) const PRODUCT_PIECES: u64 = 8;
+pub(crate) const PRODUCT_PIECES: u64 = 32;
 
 /// How many pieces each thread gets of other operations, of which each entry, or each row, takes about the same time.
 const EVEN_PIECES: u64 = 2;

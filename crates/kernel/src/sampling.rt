@@ -3,13 +3,16 @@ ghost use Rattle.std.specs.Prelude.{◌<◌, IfOk, IfSome};
 ghost use Rattle.std.specs.List.{AllPairs};
 
 use crate::cutting::piece_end;
-use crate::job::{LEAST_WORK, MOST_PIECES, PRODUCT_PIECES};
+use crate::job::{MOST_PIECES, PRODUCT_PIECES};
 use model::NoMemory;
 use std::alloc::Global;
 use store::{Form, Sparse, Store};
 
 /// How many entries are looked at, and up to twice as many: with more, pieces would hardly be more even.
 const SAMPLE: usize = 1_024;
+
+/// How many products each piece has at least: one takes as long as several entries of other operations.
+const LEAST_PRODUCTS: u64 = 16_384;
 
 /// Of how many entries one is looked at, at least, so that it takes no time beside their products.
 const LEAST_STEP: usize = 64;
@@ -111,7 +114,7 @@ fn next_row(sample: &Sample, a: &Sparse, row: u64, least: u64, threads: u64) -> 
     let before = sample.before(done);
     let left = sample.total().saturating_sub(before);
     let share = sample.total() / threads;
-    let small = LEAST_WORK.max(share / PRODUCT_PIECES);
+    let small = LEAST_PRODUCTS.max(share / PRODUCT_PIECES);
     let size = small.max(left / 2 / threads);
     if left < size.saturating_add(small) {
         return None;
