@@ -12,18 +12,21 @@ use std::ops::Range;
 use store::{FiberEnd, FiberLists, Fibers, FlatFibers, Sparse};
 
 /// Puts the rows of a store in a range behind those in the lists, as they lie. The range may be empty or reach
-/// beyond the rows.
+/// beyond the rows. The hint is for `Sparse::fibers_near`, and becomes that for a range behind this one.
 pub fn append_rows(
     lists: &mut FiberLists,
     store: &Sparse,
     range: Range<u64>,
+    hint: &mut usize,
 ) -> Result<(), NoMemory>
     requires flat { AreFlat lists.old.ends.items lists.old.inner.items lists.old.words.items }
     requires front { AreIn 0 range.start store.now.cols (along store.now.cols (entries_in lists.old)) }
     ensures { OnOk result
         (HasPart (content_of store.now) range.start range.end store.now.cols lists.old lists.new) }
 {
-    append_walk(lists, &store.fibers_in(range))
+    let (fibers, next) = store.fibers_near(range, *hint);
+    *hint = next;
+    append_walk(lists, &fibers)
 }
 
 /// Puts the fibers that are left on a walk behind those in the lists. What lies side by side is copied at once, so

@@ -13,7 +13,7 @@ use crate::few::{has_few, join_few};
 use crate::full::{Side, full_side, join_full};
 use crate::merge::{Places, merge_fibers, most_places};
 use crate::pair::pair_of;
-use crate::sparse::{copy_between, few_side};
+use crate::sparse::{Hints, copy_between, few_side};
 use algebra::BinaryOp;
 use lanes::{unite_words, zip_words};
 use model::NoMemory;
@@ -184,12 +184,14 @@ fn join_parts(
 {
     let mut lists = FiberLists::with_capacity(alloc, room)?;
     let mut places = Places::new(alloc);
+    let mut hints = Hints { left: 0, right: 0 };
     let (mut row, past) = (range.start, range.end);
     while row < past {
         let next = left
             .part_end(row..past, PART)
             .min(right.part_end(row..past, PART));
-        join_part(&mut lists, &mut places, left, right, by, row..next)?;
+        let part = row..next;
+        join_part(&mut lists, &mut places, left, right, by, part, &mut hints)?;
         row = next;
     }
     lists.shrink_to_fit();
@@ -216,11 +218,13 @@ fn join_between(
 {
     let mut lists = FiberLists::with_capacity(alloc, room)?;
     let mut places = Places::new(alloc);
+    let mut hints = Hints { left: 0, right: 0 };
     let (mut row, past) = (range.start, range.end);
     while row < past {
-        let next = copy_between(&mut lists, left, right, by, few, row..past)?;
+        let next = copy_between(&mut lists, left, right, by, few, row..past, &mut hints)?;
         row = next.saturating_add(1).min(past);
-        join_part(&mut lists, &mut places, left, right, by, next..row)?;
+        let part = next..row;
+        join_part(&mut lists, &mut places, left, right, by, part, &mut hints)?;
     }
     lists.shrink_to_fit();
     Ok(lists)
@@ -234,6 +238,7 @@ fn join_part(
     right: &Sparse,
     by: Joining,
     range: Range<u64>,
+    hints: &mut Hints,
 ) -> Result<(), NoMemory>
     requires cols { left.now.cols ≡ right.now.cols }
     requires flat { AreFlat lists.old.ends.items lists.old.inner.items lists.old.words.items }
@@ -242,7 +247,12 @@ fn join_part(
         range.start range.end left.now.cols lists.old lists.new) }
 {
     let (first, past) = (range.start, range.end);
-    let (lefts, rights) = (left.fibers_in(first..past), right.fibers_in(first..past));
+    let (lefts, near_left) = left.fibers_near(first..past, hints.left);
+    let (rights, near_right) = right.fibers_near(first..past, hints.right);
+    *hints = Hints {
+        left: near_left,
+        right: near_right,
+    };
     let count = join_fibers(places, lefts, rights, by)?;
     let FiberLists { ends, inner, words } = &places.lists;
     lists.append(ends, &inner[..count], words)

@@ -12,9 +12,17 @@ use model::NoMemory;
 use std::ops::Range;
 use store::{FiberLists, Fibers, Sparse};
 
-// A row that both may have takes eight binary searches, by estimate as long as to merge some hundred entries. With so
-// many rows of the other side for each of them, as many are copied and not merged, even where rows are short.
+// A row that both may have takes a binary search among the rows between it and the one before, by estimate as long as
+// to merge some ten entries. With so many rows of the other side for each of them, as many are copied and not merged,
+// even where rows are short.
 const MANY_MORE: usize = 16;
+
+/// Hints for `Sparse::fibers_near`, of the two stores of a join.
+#[derive(Clone, Copy)]
+pub(crate) struct Hints {
+    pub(crate) left: usize,
+    pub(crate) right: usize,
+}
 
 /// The side that has so few rows beside the other that it pays to copy those between them; of stores with rows of
 /// more than one column, where the words of one side alone stay as they are.
@@ -54,6 +62,7 @@ pub(crate) fn copy_between(
     by: Joining,
     few: Side,
     range: Range<u64>,
+    hints: &mut Hints,
 ) -> Result<u64, NoMemory>
     requires cols { left.now.cols ≡ right.now.cols }
     requires rows { left.now.cols ≢ 1 }
@@ -66,9 +75,13 @@ pub(crate) fn copy_between(
     ensures part { IfOk result (λ next. HasPart (joined by (content_of left.now) (content_of right.now))
         range.start next left.now.cols lists.old lists.new) }
 {
+    let Hints {
+        left: near_left,
+        right: near_right,
+    } = hints;
     match few {
-        Side::Left => copy_up_to(lists, right, left, range),
-        Side::Right => copy_up_to(lists, left, right, range),
+        Side::Left => copy_up_to(lists, right, near_right, left, *near_left, range),
+        Side::Right => copy_up_to(lists, left, near_left, right, *near_right, range),
     }
 }
 
@@ -77,7 +90,9 @@ pub(crate) fn copy_between(
 fn copy_up_to(
     lists: &mut FiberLists,
     many: &Sparse,
+    near_many: &mut usize,
     few: &Sparse,
+    near_few: usize,
     range: Range<u64>,
 ) -> Result<u64, NoMemory>
     requires rows { few.now.cols ≢ 1 }
@@ -92,13 +107,13 @@ fn copy_up_to(
         HasPart (content_of many.now) range.start next many.now.cols lists.old lists.new) }
 {
     let (first, past) = (range.start, range.end);
-    let next = next_row(few, first, past);
-    append_rows(lists, many, first..next)?;
+    let next = next_row(few, first, past, near_few);
+    append_rows(lists, many, first..next, near_many)?;
     Ok(next)
 }
 
 /// The first row from a row on, up to before another, in which a store has entries, or that other.
-fn next_row(store: &Sparse, first: u64, past: u64) -> u64
+fn next_row(store: &Sparse, first: u64, past: u64, hint: usize) -> u64
     requires rows { store.now.cols ≢ 1 }
     requires range { first ≤ past }
     ensures low { first ≤ result }
@@ -106,5 +121,7 @@ fn next_row(store: &Sparse, first: u64, past: u64) -> u64
     ensures none { (i j : ℕ) → first ≤ i → i < result → content_of store.now i j ≡ None }
     ensures there { result < past → ((j : ℕ) → content_of store.now result j ≡ None) → ⊥ }
 {
-    store.fibers_in(first..past).outer().min(past)
+    // The end of such a range takes no search.
+    let (fibers, _) = store.fibers_near(first..u64::MAX, hint);
+    fibers.outer().min(past)
 }

@@ -127,16 +127,17 @@ fn replace_rows(
     let (first, past) = (range.start, range.end);
     let count = old.fibers_in(first..past).len() + new.fibers_in(range).len();
     let mut lists = FiberLists::with_capacity(alloc, count)?;
+    let (mut near_old, mut near_new) = (0, 0);
     let mut row = first;
     for index in listed {
         let index = *index;
         // An index that is listed once more has its row.
         if row <= index {
-            append_rows(&mut lists, old, row..index)?;
-            append_rows(&mut lists, new, index..index + 1)?;
+            append_rows(&mut lists, old, row..index, &mut near_old)?;
+            append_rows(&mut lists, new, index..index + 1, &mut near_new)?;
             row = index + 1;
         }
     }
-    append_rows(&mut lists, old, row..past)?;
+    append_rows(&mut lists, old, row..past, &mut near_old)?;
     Ok(RowBlock::of_fibers(first, past, old.cols(), lists))
 }

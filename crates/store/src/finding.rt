@@ -52,7 +52,7 @@ pub(crate) fn fiber_near(ends: &[FiberEnd], outer: u64, hint: usize) -> Spot
 /// How many fibers are before an outer index. Where that is the hint it takes no search, nor where each index between
 /// the fiber before the hint and this one has a fiber.
 #[inline(always)]
-fn first_near(ends: &[FiberEnd], outer: u64, hint: usize) -> usize
+pub(crate) fn first_near(ends: &[FiberEnd], outer: u64, hint: usize) -> usize
     requires { AreApart ends.now }
     ensures bound { result ≤ length ends.now }
     ensures before { All (λ r. r.outer < outer) (take result ends.now) }
@@ -126,6 +126,41 @@ fn window(ends: &[FiberEnd], outer: u64) -> (usize, usize)
     let high = outer.min(ends.len() as u64);
     let low = high.min(outer.saturating_sub(passed_over));
     (low as usize, high as usize)
+}
+
+/// How many fibers are before the outer index `past`, where as many as `low` are before `first`, or `low` where `past`
+/// isn't behind `first`. By a binary search among no more fibers than indices are between the two, where not all of
+/// these fibers are before `past`.
+#[inline(always)]
+pub(crate) fn past_from(ends: &[FiberEnd], low: usize, first: u64, past: u64) -> usize
+    requires apart { AreApart ends.now }
+    requires bound { low ≤ length ends.now }
+    requires behind { All (λ r. first ≤ r.outer) (drop low ends.now) }
+    ensures low { low ≤ result }
+    ensures high { result ≤ length ends.now }
+    ensures between { All (λ r. (first ≤ r.outer) × (r.outer < past)) (slice_range ends.now low result) }
+    ensures behind { All (λ r. past ≤ r.outer) (drop result ends.now) }
+{
+    let indices = past.saturating_sub(first) as usize;
+    let most = ends.len().min(low.saturating_add(indices));
+    low + count_within(&ends[low..most], past)
+}
+
+/// How many fibers of a part are before an outer index; without a search where all are.
+#[inline(always)]
+fn count_within(ends: &[FiberEnd], outer: u64) -> usize
+    requires { AreApart ends.now }
+    ensures bound { result ≤ length ends.now }
+    ensures before { All (λ r. r.outer < outer) (take result ends.now) }
+    ensures behind { All (λ r. outer ≤ r.outer) (drop result ends.now) }
+{
+    if ends.is_empty() {
+        return 0;
+    }
+    if ends[ends.len() - 1].outer < outer {
+        return ends.len();
+    }
+    count_before(ends, outer)
 }
 
 /// How many fibers of a part are before an outer index.

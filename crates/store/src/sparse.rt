@@ -209,24 +209,28 @@ impl Sparse {
             let FiberLists { ends, inner, words } = &self.lists;
             return Fibers::of_lists(ends, inner, words);
         }
-        self.fibers_found(range)
+        let (fibers, _) = self.fibers_near(range, NO_HINT);
+        fibers
     }
 
-    /// What `fibers_in` gives, found by binary searches.
-    fn fibers_found(&self, range: Range<u64>) -> Fibers<'_>
-        ensures entries { along self.now.cols result.entries
+    /// The fibers of the rows in a range as `fibers_in` gives them, and a hint for a range behind it. Whoever goes
+    /// along ranges that rise hands on the hint that the range before gave, at first 0: where no row between the two
+    /// has entries, the first row takes no search. The end takes one among as many fibers as the range has rows, and
+    /// none where that is one row, or where the range reaches beyond the last. Any hint serves.
+    pub fn fibers_near(&self, range: Range<u64>, hint: usize) -> (Fibers<'_>, usize)
+        ensures entries { along self.now.cols result.0.entries
             ≡ entries_between range.start range.end self.now.cols (content_of self.now) }
-        ensures order { InOrder (along self.now.cols result.entries) }
-        ensures inside { IsInside self.now.rows self.now.cols (along self.now.cols result.entries) }
+        ensures order { InOrder (along self.now.cols result.0.entries) }
+        ensures inside { IsInside self.now.rows self.now.cols (along self.now.cols result.0.entries) }
         ensures words { (i j : ℕ) → range.start ≤ i → i < range.end
-            → word_at (along self.now.cols result.entries) i j ≡ content_of self.now i j }
+            → word_at (along self.now.cols result.0.entries) i j ≡ content_of self.now i j }
     {
         let FiberLists { ends, inner, words } = &self.lists;
         if self.cols == 1 {
             let (inner, words) = column_between(inner, words, range.start, range.end);
-            Fibers::of_column(inner, words)
+            (Fibers::of_column(inner, words), hint)
         } else {
-            fibers_between(ends, inner, words, range.start, range.end)
+            fibers_between(ends, inner, words, range.start, range.end, hint)
         }
     }
 

@@ -29,9 +29,9 @@ are_rows c =
     let first = c.args.range.start in
     let past = c.args.range.end in
     let cols = c.args.left.now.cols in
-    let a = c.fibers_in-lefts in
-    let b = c.fibers_in-rights in
-    rows_joined c.args.by left right first past cols a.result.entries b.result.entries (made c) c.in_ok-count.ensures.joined.joined
+    let a = c.fibers_near-lefts in
+    let b = c.fibers_near-rights in
+    rows_joined c.args.by left right first past cols a.result.0.entries b.result.0.entries (made c) c.in_ok-count.ensures.joined.joined
     (rw a.ensures.entries (entries_between-inside first past cols left))
     (rw c.requires.cols (rw b.ensures.entries (entries_between-inside first past c.args.right.now.cols right)))
     a.ensures.words (rw c.requires.cols b.ensures.words)
