@@ -14,6 +14,10 @@ use std::thread::{Threads, join_mut};
 /// gained nothing where all lists lie in the second cache.
 const PART: usize = 4096;
 
+/// From how many words on the calling thread starts one more for the last part, and only waits. The first thread that
+/// it starts may be put on its own processor, and would begin when the last part is made.
+const WORTH_WAITING: usize = 1 << 17;
+
 /// What words are made of.
 #[derive(Clone, Copy)]
 pub enum Words<'a> {
@@ -217,7 +221,7 @@ pub(crate) fn fill_beside<R: Threads>(
     ensures words { (k : ℕ) → k < length part.old → IsMade words.entry (start + k) (slice_index part.new k) }
 {
     if part.len() <= each {
-        fill_in_turns(words, start, part);
+        fill_last(rt, words, start, part);
         return;
     }
     let (low, high) = part.split_at_mut(each);
@@ -233,5 +237,26 @@ pub(crate) fn fill_beside<R: Threads>(
         ensures { (length high.exit.now ≡ length high.entry.now) × ((k : ℕ) → k < length high.entry.now
             → IsMade words.entry (next + k) (slice_index high.exit.now k)) }
     { fill_beside(rt, words, next, each, high) };
+    join_mut(rt, &mut front, &mut back);
+}
+
+/// Makes the words of the last part. Where it is long, and not the only one, it is a started thread that does so.
+fn fill_last<R: Threads>(rt: &R, words: Words<'_>, start: usize, part: &mut [u64])
+    requires fits { Fits words }
+    requires bits { start % 64 ≡ 0 }
+    requires inside { start + length part.old ≤ places_of words }
+    ensures length { length part.new ≡ length part.old }
+    ensures words { (k : ℕ) → k < length part.old → IsMade words.entry (start + k) (slice_index part.new k) }
+{
+    if start == 0 || part.len() < WORTH_WAITING {
+        fill_in_turns(words, start, part);
+        return;
+    }
+    let mut front = ||
+        requires { (Fits words) × (start + length part.now ≤ places_of words) × (start % 64 ≡ 0) }
+        ensures { (length part.exit.now ≡ length part.entry.now) × ((k : ℕ) → k < length part.entry.now
+            → IsMade words.entry (start + k) (slice_index part.exit.now k)) }
+    { fill_in_turns(words, start, part) };
+    let mut back = || {};
     join_mut(rt, &mut front, &mut back);
 }
