@@ -6,8 +6,9 @@ use calls::{Accepted, OneInput, Operation, Recipe, Region, Role, Roles, TwoInput
 use model::Form as Factors;
 use store::{Blocks, Form, Sparse, Store};
 
-/// How much work a task has for each piece that it is cut into, in entries: less takes about as long as to wake a thread
-/// for it, and to join it. It says whether a product is cut, but not into how many pieces, of which some may have less.
+/// How much work a task has for each piece that it is cut into, in entries: less takes about as long as to wake a
+/// thread for it, and to join it. It says whether a product is cut, but not into how many pieces, of which some may
+/// have less.
 const LEAST_WORK: u64 = 131_072;
 
 /// How many pieces each thread gets, at the most, of a product of matrices of lists: its rows may take very different
