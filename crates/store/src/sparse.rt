@@ -216,7 +216,8 @@ impl Sparse {
     /// The fibers of the rows in a range as `fibers_in` gives them, and a hint for a range behind it. Whoever goes
     /// along ranges that rise hands on the hint that the range before gave, at first 0: where no row between the two
     /// has entries, the first row takes no search. The end takes one among as many fibers as the range has rows, and
-    /// none where that is one row, or where the range reaches beyond the last. Any hint serves.
+    /// none where that is one row, or where the range reaches beyond the last. In one column both take a search. Any
+    /// hint serves.
     pub fn fibers_near(&self, range: Range<u64>, hint: usize) -> (Fibers<'_>, usize)
         ensures entries { along self.now.cols result.0.entries
             ≡ entries_between range.start range.end self.now.cols (content_of self.now) }
