@@ -14,8 +14,8 @@ use std::thread::{Threads, join_mut};
 /// gained nothing where all lists lie in the second cache.
 const PART: usize = 4096;
 
-/// From how many words on the calling thread starts one more for the last part, and only waits. The first thread that
-/// it starts may be put on its own processor, and would begin when the last part is made.
+/// How many words make the last part long: the calling thread starts a thread for it too then, and only waits. The
+/// first thread that it starts may be put on its own processor, and would begin when the last part is made.
 const WORTH_WAITING: usize = 1 << 17;
 
 /// What words are made of.

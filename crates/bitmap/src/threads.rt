@@ -61,7 +61,8 @@ impl WordMaker for OneThreadWithSpare {
     }
 }
 
-/// The calling thread and others, which are started for the time of a call.
+/// The calling thread and others, which are started for the time of a call. Where their parts are long, the calling one
+/// has its own made by one thread more, and waits.
 #[derive(Drop)]
 pub struct SeveralThreads<'a, R> {
     starter: &'a R,
