@@ -133,7 +133,7 @@ pub(crate) fn piece_end(by: &Sparse, row: u64, least: u64, entries: usize) -> Op
 
 /// The columns at which lists are cut into so many parts of about as many entries, as far as some of these tell, and of
 /// at least so many columns.
-fn cut_columns(alloc: Global, by: &Sparse, least: u64, pieces: u64) -> Result<Vec<u64>, NoMemory>
+fn cut_columns(alloc: Global, by: &Store, least: u64, pieces: u64) -> Result<Vec<u64>, NoMemory>
     ensures { IfOk result (λ columns. AllPairs (λ column later. column < later) columns.items) }
 {
     let some = some_columns(alloc, by)?;
@@ -177,16 +177,28 @@ fn may_cut(count: u64, last: u64, next: u64, least: u64) -> bool
     last < next && next - last >= least && next < count && count - next >= least
 }
 
-/// The columns of some entries, in order.
-fn some_columns(alloc: Global, by: &Sparse) -> Result<Vec<u64>, NoMemory> {
-    let all = by.fibers_in(0..by.rows()).flat().inner;
-    let step = all.len() / SAMPLE + 1;
+/// The columns of some entries of lists, in order.
+fn some_columns(alloc: Global, by: &Store) -> Result<Vec<u64>, NoMemory> {
     let mut some = Vec::new(alloc);
+    if let Some(parts) = by.parts() {
+        let step = parts.nvals() as usize / SAMPLE + 1;
+        for part in parts.stores() {
+            push_some(&mut some, part, step)?;
+        }
+    }
+    some.sort_unstable();
+    Ok(some)
+}
+
+/// Adds the columns of some entries of lists, one of so many.
+fn push_some(some: &mut Vec<u64>, lists: &Sparse, step: usize) -> Result<(), NoMemory>
+    requires { 0 < step }
+{
+    let all = lists.fibers_in(0..lists.rows()).flat().inner;
     for part in all.chunks(step) {
         if let [column, ..] = part {
             some.push(*column)?;
         }
     }
-    some.sort_unstable();
-    Ok(some)
+    Ok(())
 }

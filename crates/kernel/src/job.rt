@@ -48,8 +48,8 @@ pub(crate) enum Along<'a> {
     Blocks(&'a Blocks),
     /// The products of these entries with the rows of another store.
     Products(&'a Sparse, &'a Store),
-    /// The entries in an input's columns, which are the output's rows.
-    Columns(&'a Sparse),
+    /// The entries in the columns of an input of lists, which are the output's rows.
+    Columns(&'a Store),
     /// The output's rows, of which there are so many.
     Evenly(u64),
 }
@@ -130,13 +130,13 @@ fn job_over<'a>(region: &Region, old: &'a Store) -> Option<Job<'a>> {
 /// How a transpose is cut: each piece takes some columns out of all rows. That pays where columns have an entry each,
 /// or more.
 fn job_of_transpose(a: &Store) -> Option<Job<'_>> {
-    let lists = lists_of(a)?;
-    if lists.cols() > lists.nvals() {
+    let nvals = a.parts()?.nvals();
+    if a.cols() > nvals {
         return None;
     }
     Some(Job {
-        along: Along::Columns(lists),
-        work: lists.nvals(),
+        along: Along::Columns(a),
+        work: nvals,
         again: 0,
         pieces_a_thread: LONG_PIECES,
     })

@@ -11,7 +11,7 @@ use model::NoMemory;
 use shapes::{assign_const_rows, assign_rows, extract_rows, resize, transpose, transpose_range};
 use std::alloc::Global;
 use std::ops::Range;
-use store::{RowBlock, Store};
+use store::{Parts, RowBlock, Store};
 
 /// A store in another shape.
 pub(crate) fn resized(alloc: Global, old: &Store, rows: u64, cols: u64) -> Result<Store, NoMemory>
@@ -24,15 +24,18 @@ pub(crate) fn resized(alloc: Global, old: &Store, rows: u64, cols: u64) -> Resul
     Ok(Store::from_sparse(resize(alloc, old.get(), rows, cols)?))
 }
 
-/// The transpose of a store.
+/// The transpose of a store. Blocks are read as they lie.
 pub(crate) fn transposed(alloc: Global, a: &Store) -> Result<Store, NoMemory>
     ensures rows { IfOk result (λ store. store.rows ≡ a.now.cols) }
     ensures cols { IfOk result (λ store. store.cols ≡ a.now.rows) }
     ensures content { IfOk result (λ store. (i j : ℕ) → content_of store i j
         ≡ transposed_content (content_of a.now) i j) }
 {
+    if let Some(parts) = a.parts() {
+        return Ok(Store::from_sparse(transpose(alloc, &parts)?));
+    }
     let a = a.as_sparse(alloc)?;
-    Ok(Store::from_sparse(transpose(alloc, a.get())?))
+    Ok(Store::from_sparse(transpose(alloc, &Parts::of_lists(a.get()))?))
 }
 
 /// The rows in a range of the transpose of a store.
@@ -45,8 +48,19 @@ pub(crate) fn transposed_rows(
     requires rows { range.end ≤ a.now.cols }
     ensures { IfOk result (HasRows range.start range.end a.now.rows (transposed_content (content_of a.now))) }
 {
+    if let Some(parts) = a.parts() {
+        return rows_of_transpose(alloc, &parts, range);
+    }
     let a = a.as_sparse(alloc)?;
-    let a = a.get();
+    rows_of_transpose(alloc, &Parts::of_lists(a.get()), range)
+}
+
+/// The rows in a range of the transpose of lists.
+fn rows_of_transpose(alloc: Global, a: &Parts<'_>, range: Range<u64>) -> Result<RowBlock, NoMemory>
+    requires range { range.start ≤ range.end }
+    requires rows { range.end ≤ a.now.cols }
+    ensures { IfOk result (HasRows range.start range.end a.now.rows (transposed_content (content_of a.now))) }
+{
     if range.start == 0 && range.end == a.cols() {
         return Ok(transpose(alloc, a)?.into_block());
     }

@@ -2,12 +2,13 @@
 use calls::{OneInput, Operation, Recipe, Role, TwoInputs};
 use model::Form;
 
-/// Whether a piece of what a recipe gives reads all of the input in a role, or the one piece does that it is made in:
-/// not where each row of the output rests on the same row of the input, so that nobody needs its lists in one.
+/// Whether a piece of what a recipe gives reads all of the input in a role, or the one piece does that it is made in,
+/// and needs its lists in one: not where each row of the output rests on the same row of the input, nor for a
+/// transpose, which goes along blocks, too.
 pub fn reads_all_of(recipe: &Recipe, role: Role) -> bool {
     match recipe {
-        Recipe::New(_) | Recipe::Given(_) => false,
-        Recipe::Patch(_) | Recipe::Resized(_) | Recipe::Transposed(_) => true,
+        Recipe::New(_) | Recipe::Given(_) | Recipe::Transposed(_) => false,
+        Recipe::Patch(_) | Recipe::Resized(_) => true,
         Recipe::Computed(computation) => match role {
             Role::Old => false,
             Role::Mask => true,
@@ -43,10 +44,9 @@ pub fn is_factor(recipe: &Recipe, role: Role) -> bool {
 fn reads_all_of_first<K: Copy>(operation: &Operation<K>) -> bool {
     match operation {
         Operation::Fill { .. } => false,
-        Operation::OfOne { computes, .. } => matches!(
-            computes,
-            OneInput::Transpose | OneInput::Extract(_) | OneInput::Assign(_)
-        ),
+        Operation::OfOne { computes, .. } => {
+            matches!(computes, OneInput::Extract(_) | OneInput::Assign(_))
+        }
         Operation::OfTwo { computes, .. } => matches!(
             computes,
             TwoInputs::Multiply {

@@ -17,4 +17,5 @@ pub mod RowWords
 pub mod Scatters
 pub mod SideLaws
 pub mod SpanLaws
+pub mod StoreLaws
 pub mod Walked

@@ -8,11 +8,11 @@ use Rattle.std.proofs.lemmas.List.Concat.{flat_map-append}
 use Rattle.std.proofs.lemmas.List.Elements.{All-append, All-cons, All-head, All-nil, All-push, All-set, All-tail, All-take, All-weaker}
 use Rattle.model.specs.declared.entry.Entry.{Entry}
 use Rattle.model.specs.declared.memory.NoMemory.{NoMemory}
-use Rattle.model.specs.Entries.{InOrder, Precedes, below, entries_of, entry_at, row_entries, word_at}
+use Rattle.model.specs.Entries.{InOrder, Precedes, below, entries_between, entries_of, entry_at, row_entries, word_at}
 use Rattle.model.specs.Object.{Content}
 use Rattle.model.specs.Reductions.{all_words}
 use Rattle.model.proofs.EntryLaws.{all_words-entries}
-use Rattle.store.specs.Blocks.{AreParts, IsAbove, IsPart, entries_in_parts}
+use Rattle.store.specs.Blocks.{AreParts, AreStored, IsAbove, IsPart, entries_in_parts}
 use Rattle.store.specs.declared.lists.FiberLists.{FiberLists}
 use Rattle.store.specs.Fibers.{AreFlat, entries_in}
 use Rattle.store.specs.Stored.{AreHeld, AreIn, IsBlock, IsStored, Stored, along, content_of}
@@ -22,6 +22,7 @@ use Rattle.store.proofs.FormLaws.{or_none}
 use Rattle.store.proofs.Order.{all_append_left, all_append_right, all_pairs_across, all_pairs_append, all_pairs_cons, all_pairs_head, all_pairs_nil, all_pairs_tail}
 use Rattle.store.proofs.PartLaws.{none_there}
 use Rattle.store.proofs.Positions.{word_at-found}
+use Rattle.store.proofs.RowEntries.{entries_between-all}
 use Rattle.store.proofs.StoreLaws.{rows_in}
 
 abbrev pub stored_as : ℕ → ℕ → List Entry → Stored
@@ -87,6 +88,41 @@ count_stored rows cols es stored = ap length (entries_of-words rows cols es stor
 pub count_part : (rows cols : ℕ) (s : Stored) → IsPart rows cols s
     → length (entries_of s.rows s.cols (content_of s)) ≡ length s.entries
 count_part rows cols s part = rw (part.rows_are, part.cols_are) (count_stored rows cols s.entries part.stored)
+
+-- ..and row by row
+pub entries_stored : (rows cols : ℕ) (es : List Entry) → IsStored rows cols es
+    → entries_between 0 rows cols (word_at es) ≡ es
+entries_stored rows cols es stored =
+    entries_between-all rows cols (word_at es) ∙ entries_of-words rows cols es stored.order stored.inside
+
+each_stored : (rows cols : ℕ) (parts : List Stored) → All (IsPart rows cols) parts
+    → flat_map (λ s. entries_between 0 s.rows s.cols (content_of s)) parts ≡ entries_in_parts parts
+each_stored rows cols [] each = refl
+each_stored rows cols (p ∷ ps) each =
+    let part = All-head (IsPart rows cols) p ps each in
+    let rest = each_stored rows cols ps (All-tail (IsPart rows cols) p ps each) in
+    let first : entries_between 0 p.rows p.cols (content_of p) ≡ p.entries = rw (part.rows_are, part.cols_are) (entries_stored rows cols p.entries part.stored) in
+    rw (first, rest) refl
+
+pub parts_each : (rows cols : ℕ) (parts : List Stored) → AreStored rows cols parts
+    → flat_map (λ s. entries_between 0 s.rows s.cols (content_of s)) parts
+    ≡ entries_between 0 rows cols (word_at (entries_in_parts parts))
+parts_each rows cols parts are =
+    each_stored rows cols parts are.each ∙ sym (entries_stored rows cols (entries_in_parts parts) are.stored)
+
+-- a store is its only part
+pub only_entries : (s : Stored) → entries_in_parts (s ∷ []) ≡ s.entries
+only_entries s = append-nil s.entries
+
+pub only_part : (rows cols : ℕ) (s : Stored) → IsPart rows cols s → length s.entries < 2 ^ 64
+    → AreStored rows cols (s ∷ [])
+only_part rows cols s part fits =
+    let alone = sym (only_entries s) in
+    record {
+      each = All-cons (IsPart rows cols) s [] part (All-nil (IsPart rows cols));
+      stored = subst (IsStored rows cols) alone part.stored;
+      fits = subst (λ (es : List Entry). length es < 2 ^ 64) alone fits;
+    }
 
 words_stored : (rows cols : ℕ) (es : List Entry) → IsStored rows cols es
     → all_words rows cols (word_at es) ≡ map (λ (e : Entry). e.word) es

@@ -26,6 +26,12 @@ pub record AreParts (rows cols : ℕ) (parts : List Stored) : Type 0 where
   pub apart : AllPairs IsAbove parts
   pub fits : length (entries_in_parts parts) < 2 ^ 64
 
+-- the parts are a store, one behind the other, and their entries can be counted
+pub record AreStored (rows cols : ℕ) (parts : List Stored) : Type 0 where
+  pub each : All (IsPart rows cols) parts
+  pub stored : IsStored rows cols (entries_in_parts parts)
+  pub fits : length (entries_in_parts parts) < 2 ^ 64
+
 -- each entry of a part stands in a row of its span
 abbrev pub IsInSpan : RowSpan → Stored → Type 0
 IsInSpan span part = (i j : ℕ) → content_of part i j ≢ None → (span.first ≤ i) × (i < span.past)

@@ -2,7 +2,7 @@
 ghost use Rattle.std.specs.Prelude.{◌<◌, IfSome, IsTrue};
 ghost use Rattle.store.specs.Blocks.{IsAlone, IsPartWith, Misses};
 
-use crate::{FiberLists, RowBlock, Sparse};
+use crate::{FiberLists, Parts, RowBlock, Sparse};
 use model::NoMemory;
 use std::alloc::Global;
 use std::marker::Model;
@@ -109,11 +109,18 @@ impl Blocks {
     pub fn nvals(&self) -> u64
         ensures { result ≡ length (entries_of self.now.rows self.now.cols (content_of self.now)) }
     {
-        let mut count = 0;
-        for k in 0..self.parts.len() {
-            count += self.parts[k].nvals();
+        self.as_parts().nvals()
+    }
+
+    /// The blocks' lists, for whoever goes along all entries.
+    pub fn as_parts(&self) -> Parts<'_>
+        ensures { result ≡ self.now }
+    {
+        Parts {
+            rows: self.rows,
+            cols: self.cols,
+            stores: &self.parts,
         }
-        count
     }
 
     /// The blocks, each as a store of all rows, so that their words follow one another.

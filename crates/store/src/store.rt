@@ -1,5 +1,5 @@
 //! Stores: what an object holds, in one of three forms.
-ghost use Rattle.std.specs.Prelude.{◌≡◌, ℕ, ◌<◌, ◌≤◌, None, length, OnOk, OnErr, IfOk};
+ghost use Rattle.std.specs.Prelude.{◌≡◌, ℕ, ◌<◌, ◌≤◌, None, length, OnOk, OnErr, IfOk, IfSome};
 ghost use Rattle.std.specs.Option.{option_or};
 ghost use Rattle.model.specs.Entries.{entries_of};
 ghost use Rattle.model.specs.Object.{with_entry, without_entry, IsWithin};
@@ -7,7 +7,7 @@ ghost use Rattle.store.specs.Forms.{of_bitmap};
 
 use crate::forms::{put_into, sparse_of};
 use crate::settling::settled;
-use crate::{Blocks, FiberLists, RowBlock, Sparse};
+use crate::{Blocks, FiberLists, Parts, RowBlock, Sparse};
 use bitmap::Bitmap;
 use model::NoMemory;
 use std::alloc::Global;
@@ -160,6 +160,17 @@ impl Store {
             Kept::Sparse(sparse) => Form::Sparse(sparse),
             Kept::Bitmap(bitmap) => Form::Bitmap(bitmap),
             Kept::Blocks(blocks) => Form::Blocks(blocks),
+        }
+    }
+
+    /// Its entries as lists, in one part or in several; None where they are a bitmap.
+    pub fn parts(&self) -> Option<Parts<'_>>
+        ensures { IfSome result (λ parts. parts ≡ self.now) }
+    {
+        match &self.kept {
+            Kept::Sparse(sparse) => Some(Parts::of_lists(sparse)),
+            Kept::Bitmap(_) => None,
+            Kept::Blocks(blocks) => Some(blocks.as_parts()),
         }
     }
 

@@ -1,25 +1,28 @@
-use Rattle.std.proofs.Common.{◌∙◌, ◌++◌, ap, append_assoc, sym}
+use Rattle.std.proofs.Common.{◌∙◌, ◌++◌, ◌+◌, ap, append_assoc, arith, drop, sym}
 use Rattle.std.proofs.lemmas.List.{append-nil, map-append}
 use Rattle.model.specs.declared.entry.Entry.{Entry}
 use Rattle.model.specs.Entries.{entry_at}
-use Rattle.store.specs.Fibers.{entries_along}
 use Rattle.store.specs.Stored.{transposed}
-use Rattle.store.proofs.Walks.{rest_shorter}
+use Rattle.shapes.specs.Columns.{entries_of_stores}
+use Rattle.shapes.proofs.StoreLaws.{all_of, first_store, no_store}
 use Rattle.shapes.proofs.transposing.transpose_entries.Goals as goal
 
-pub loop-row-smaller : goal.loop-row-smaller
-loop-row-smaller c =
-    let row = c.in-Some.row in
-    rest_shorter row.index row.cols.now row.words.now c.loop-row.rest.entries c.in-Some.others.entries c.in-Some.ensures
+pub loop-k-init : goal.loop-k-init
+loop-k-init c =
+    ap (λ v. v ++ transposed (entries_of_stores c.stores-stores.result.now)) c.new-entries.ensures.items ∙ ap transposed c.stores-stores.ensures.entries
 
-pub loop-row-preserved : goal.loop-row-preserved
-loop-row-preserved c =
-    let row = c.in-Some.row in
-    let es = entries_along row.index row.cols.now row.words.now in
-    let others = c.in-Some.others.entries in
-    let split = map-append (λ (e : Entry). entry_at e.col e.row e.word) es others in
-    let whole = c.in-Some.ensures.whole in
-    rw c.in_ok-append_transposed.ensures (append_assoc c.loop-row.entries.items (transposed es) (transposed others) ∙ ap (λ ts. c.loop-row.entries.items ++ ts) (sym split ∙ ap transposed (sym whole)) ∙ c.loop-row.invariant)
+pub loop-k-preserved : goal.loop-k-preserved
+loop-k-preserved c =
+    let stores = c.stores-stores.result.now in
+    let k = c.loop-k.k in
+    let s = c.index-stores-k.result in
+    let others = entries_of_stores (drop (k + 1) stores) in
+    let old = c.loop-k.entries.items in
+    let split = map-append (λ (e : Entry). entry_at e.col e.row e.word) (all_of s) others in
+    let whole = first_store stores k s c.loop-k-test.true c.index-stores-k.is in
+    rw c.in_ok-append_store.ensures (append_assoc old (transposed (all_of s)) (transposed others) ∙ ap (λ ts. old ++ ts) (sym split ∙ ap transposed (sym whole)) ∙ c.loop-k.invariant)
 
 pub returns-clause-entries : goal.returns-clause-entries
-returns-clause-entries c = sym (append-nil c.loop-row.entries.items) ∙ ap (λ es. c.loop-row.entries.items ++ transposed es) (sym c.in_default.ensures) ∙ c.loop-row.invariant
+returns-clause-entries c =
+    let none = no_store c.stores-stores.result.now c.loop-k.k (omega (arith, c.loop-k-test.false)) in
+    sym (append-nil c.loop-k.entries.items) ∙ ap (λ es. c.loop-k.entries.items ++ transposed es) (sym none) ∙ c.loop-k.invariant

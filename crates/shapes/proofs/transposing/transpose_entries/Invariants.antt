@@ -1,10 +1,9 @@
-use Rattle.std.proofs.Common.{◌≡◌, ◌++◌, length}
+use Rattle.std.proofs.Common.{◌≡◌, ◌++◌, drop}
 use Rattle.model.specs.Entries.{entries_between}
 use Rattle.store.specs.Stored.{content_of, transposed}
+use Rattle.shapes.specs.Columns.{entries_of_stores}
 use Rattle.shapes.proofs.transposing.transpose_entries.Given as goal
 
-abbrev pub invariant-loop-row : goal.invariant-loop-row
-invariant-loop-row l = l.entries.items ++ transposed l.rest.entries ≡ transposed (entries_between 0 l.a.rows l.a.cols (content_of l.a))
-
-abbrev pub decreases-loop-row : goal.decreases-loop-row
-decreases-loop-row l = length l.rest.entries
+abbrev pub invariant-loop-k : goal.invariant-loop-k
+invariant-loop-k l = l.entries.items ++ transposed (entries_of_stores (drop l.k l.stores))
+    ≡ transposed (entries_between 0 l.a.rows l.a.cols (content_of l.a))
