@@ -2,16 +2,22 @@
 use Rattle.std.proofs.Common.{◌≡◌, ◌∙◌, ℕ, ◌<◌, ◌≤◌, Bool, true, false, cond, if◌then◌else◌, is_none, Option, refl, Some, None, Result, Ok, Err, sym, ap, inl, inr}
 use Rattle.std.specs.Prelude.{IfOk}
 use Rattle.std.specs.Option.{option_map}
-use Rattle.std.proofs.lemmas.Bool.{cases_Bool}
+use Rattle.std.proofs.lemmas.Bool.{cases_Bool, false≢true}
+use Rattle.std.proofs.lemmas.Option.{none-some}
 use Rattle.algebra.specs.declared.domain.Domain.{Domain}
 use Rattle.algebra.specs.declared.operator_names.OpName.{OpName}
 use Rattle.algebra.specs.Value.{IsWordOf, cast_of}
-use Rattle.kernel.specs.Blocks.{AgreesUnder, HasRows}
+use Rattle.kernel.specs.Blocks.{AgreesUnder, HasRows, IsUnder}
+use Rattle.kernel.specs.Products.{is_product}
 use Rattle.masks.specs.declared.view.Mask.{Mask}
 use Rattle.masks.specs.Masks.{lets_through}
 use Rattle.masks.specs.Writes.{inside_of, written_at, written_by}
+use Rattle.model.specs.declared.call.Operation.{Operation}
+use Rattle.model.specs.declared.call.Operation.TheVariants.{Fill, OfOne, OfTwo}
 use Rattle.model.specs.declared.call.Out.{Out}
+use Rattle.model.specs.declared.call.Region.{Region}
 use Rattle.model.specs.Object.{AreWordsOf, Content, Object, cast_content}
+use Rattle.model.specs.Operations.{region_written}
 use Rattle.model.specs.WriteBack.{accumulated, accumulated_by, landed, mask_set, masked}
 use Rattle.store.specs.Stored.{Block, block_content}
 
@@ -25,6 +31,22 @@ agrees-masked mask first past cols cols' c d block same_cols same has = record {
   cols_are = has.cols_are ∙ same_cols;
   words = λ i j low high inside. has.words i j low high ∙ ap (λ test. cond test (c i j) None) inside ∙ same i j;
 }
+
+-- ..have nothing elsewhere
+pub rows-under : (mask : Mask) (first past cols : ℕ) (c : Content) (block : Block)
+    → HasRows first past cols (inside_of mask c) block → IsUnder mask first past block
+rows-under mask first past cols c block has i j low high outside =
+    has.words i j low high ∙ ap (λ test. cond test (c i j) None) outside
+
+-- what has nothing outside the mask set is left as it is, where what was there goes
+pub left-alone : (mask : Mask) (accum : Option OpName) (replace : Bool) (old t : Content) (i j : ℕ) → accum ≡ None
+    → replace ≡ true → (lets_through mask i j ≡ false → t i j ≡ None)
+    → t i j ≡ written_by mask accum replace old t i j
+left-alone mask accum replace old t i j alone goes under =
+    rw (alone, goes) (elim (cases_Bool (lets_through mask i j)) [
+      | inl inside ↦ rw inside refl
+      | inr outside ↦ rw outside (under outside)
+    ])
 
 written-same : (mask : Mask) (out : Out Object) (t all : Content) (i j : ℕ)
     → (lets_through mask i j ≡ true → t i j ≡ all i j)
@@ -89,6 +111,29 @@ agrees-cast mask first past cols from to c block result words agrees is_first is
       let here = agrees.words i j low high inside in
       content i j (λ word stored. words i j word (sym here ∙ stored)) ∙ ap (option_map (cast_of from to)) here;
 }
+
+-- ..and have nothing outside the mask set where they had nothing
+pub under-cast : (mask : Mask) (first past : ℕ) (from to : Domain) (block result : Block)
+    → IsUnder mask first past block
+    → ((i j : ℕ) → ((word : ℕ) → block_content block i j ≡ Some word → IsWordOf from word)
+    → block_content result i j ≡ cast_content from to (block_content block) i j)
+    → IsUnder mask first past result
+under-cast mask first past from to block result under content i j low high outside =
+    let none = under i j low high outside in
+    content i j (λ word stored. absurd (none-some word (sym none ∙ stored))) ∙ ap (option_map (cast_of from to)) none
+
+-- what is no product promises nothing
+pub no-product : {E : Type 0} (result : Result Block E) (P : Block → Type 0)
+    → IfOk result (λ block. false ≡ true → P block)
+no-product (Ok block) P = λ is. absurd (false≢true is)
+no-product (Err e) P = tt
+
+-- a product writes no region
+pub no-region : {K : Type 0} (op : Operation K) (region : Region) → Some region ≡ region_written op → is_product op ≡ false
+unfolding is_product
+no-region (Fill value at) region is = refl
+no-region (OfOne computes a) region is = refl
+no-region (OfTwo computes a b) region is = absurd (none-some region (sym is))
 
 -- ---- outside a region
 

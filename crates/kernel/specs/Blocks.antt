@@ -1,5 +1,5 @@
 -- Blocks of rows of what operations compute.
-use Rattle.std.specs.Prelude.{ℕ, ◌≡◌, ◌<◌, ◌≤◌, true}
+use Rattle.std.specs.Prelude.{ℕ, ◌≡◌, ◌<◌, ◌≤◌, None, false, true}
 use Rattle.masks.specs.declared.view.Mask.{Mask}
 use Rattle.masks.specs.Masks.{IfStored, lets_through}
 use Rattle.model.specs.Object.{Content}
@@ -22,3 +22,8 @@ pub record AgreesUnder (mask : Mask) (first past cols : ℕ) (c : Content) (bloc
   pub past_is : block.past ≡ past
   pub cols_are : block.cols ≡ cols
   pub words : (i j : ℕ) → first ≤ i → i < past → lets_through mask i j ≡ true → block_content block i j ≡ c i j
+
+-- the block has nothing in the rows from first up to before past where a mask lets nothing through
+abbrev pub IsUnder : Mask → ℕ → ℕ → Block → Type 0
+IsUnder mask first past block = (i j : ℕ) → first ≤ i → i < past → lets_through mask i j ≡ false
+    → block_content block i j ≡ None

@@ -6,6 +6,7 @@ pub mod Factors
 pub mod Inputs
 pub mod Overs
 pub mod Pieces
+pub mod Products
 pub mod Spread
 pub mod Takes
 pub mod Tasks

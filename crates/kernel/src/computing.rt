@@ -1,9 +1,10 @@
 //! What a task's operation computes, before it is written back.
 ghost use Rattle.std.specs.Prelude.{◌≡◌, ℕ, ◌<◌, ◌≤◌, IfOk, Some, if◌then◌else◌, true};
 ghost use Rattle.algebra.specs.Value.{IsWordOf};
-ghost use Rattle.kernel.specs.Blocks.{AgreesUnder, HasShape};
+ghost use Rattle.kernel.specs.Blocks.{AgreesUnder, HasShape, IsUnder};
 ghost use Rattle.kernel.specs.Inputs.{known_of};
 ghost use Rattle.kernel.specs.Spread.{computed_in, spread};
+ghost use Rattle.kernel.specs.Products.{is_product};
 ghost use Rattle.kernel.specs.Tasks.{operation_of, out_of};
 ghost use Rattle.model.specs.Indices.{are_below};
 ghost use Rattle.model.specs.Lent.{operation_lent};
@@ -37,8 +38,10 @@ pub(crate) fn computed_rows(
     requires range { range.start ≤ range.end }
     requires rows { range.end ≤ rows_of task.now.out.c.signature.shape }
     requires mask { HasShape (rows_of task.now.out.c.signature.shape) (cols_of task.now.out.c.signature.shape) mask }
-    ensures { IfOk result (AgreesUnder mask.entry range.start range.end (cols_of task.now.out.c.signature.shape)
+    ensures rows { IfOk result (AgreesUnder mask.entry range.start range.end (cols_of task.now.out.c.signature.shape)
         (spread (out_of task.now) (operation_of task.now))) }
+    ensures under { IfOk result (λ block. is_product (operation_lent task.now.operation) ≡ true
+        → IsUnder mask.entry range.start range.end block) }
 {
     let block = cast_rows(alloc, task, mask, range)?;
     if task.out.accum.is_some() {
@@ -60,8 +63,10 @@ fn cast_rows(
     requires range { range.start ≤ range.end }
     requires rows { range.end ≤ rows_of task.now.out.c.signature.shape }
     requires mask { HasShape (rows_of task.now.out.c.signature.shape) (cols_of task.now.out.c.signature.shape) mask }
-    ensures { IfOk result (AgreesUnder mask.entry range.start range.end (cols_of task.now.out.c.signature.shape)
+    ensures rows { IfOk result (AgreesUnder mask.entry range.start range.end (cols_of task.now.out.c.signature.shape)
         (computed_in (out_of task.now) (operation_of task.now))) }
+    ensures under { IfOk result (λ block. is_product (operation_lent task.now.operation) ≡ true
+        → IsUnder mask.entry range.start range.end block) }
 {
     let c = task.out.c.signature;
     let block = operation_rows(alloc, c, task.operation, mask, range)?;

@@ -1,7 +1,8 @@
 //! What operations compute of lent objects, by the number of these.
 ghost use Rattle.std.specs.Prelude.{◌≡◌, ◌≤◌, IfOk, true};
 ghost use Rattle.kernel.specs.Accepts.{Accepts};
-ghost use Rattle.kernel.specs.Blocks.{AgreesUnder, HasRows, HasShape};
+ghost use Rattle.kernel.specs.Blocks.{AgreesUnder, HasRows, HasShape, IsUnder};
+ghost use Rattle.kernel.specs.Products.{is_product, is_product_of};
 ghost use Rattle.kernel.specs.Inputs.{known_of, object_of};
 ghost use Rattle.model.specs.Lent.{operation_lent};
 ghost use Rattle.model.specs.Object.{cols_of, rows_of};
@@ -35,8 +36,10 @@ pub(crate) fn operation_rows(
     requires mask { HasShape (rows_of c.shape) (cols_of c.shape) mask }
     requires range { range.start ≤ range.end }
     requires rows { range.end ≤ rows_of c.shape }
-    ensures { IfOk result (AgreesUnder mask.entry range.start range.end (cols_of c.shape)
+    ensures rows { IfOk result (AgreesUnder mask.entry range.start range.end (cols_of c.shape)
         (computed c (renamed_operation object_of (operation_lent operation.entry)))) }
+    ensures under { IfOk result (λ block. is_product (operation_lent operation.entry) ≡ true
+        → IsUnder mask.entry range.start range.end block) }
 {
     match operation {
         Lent::Fill { value, region } => {
@@ -87,8 +90,10 @@ fn two_rows(
     requires mask { HasShape (rows_of c.shape) (cols_of c.shape) mask }
     requires range { range.start ≤ range.end }
     requires rows { range.end ≤ rows_of c.shape }
-    ensures { IfOk result (AgreesUnder mask.entry range.start range.end (cols_of c.shape)
+    ensures rows { IfOk result (AgreesUnder mask.entry range.start range.end (cols_of c.shape)
         (computed_of_two computes (object_of a.entry) (object_of b.entry))) }
+    ensures under { IfOk result (λ block. is_product_of computes ≡ true
+        → IsUnder mask.entry range.start range.end block) }
 {
     match computes {
         TwoInputs::Multiply { form, semiring } => {

@@ -2,6 +2,7 @@
 ghost use Rattle.std.specs.Prelude.{◌≡◌, ◌<◌, ◌≤◌, ℕ, IfOk, None};
 ghost use Rattle.kernel.specs.Inputs.{known_of, object_of};
 ghost use Rattle.calls.specs.Straight.{IsStraight};
+ghost use Rattle.kernel.specs.Products.{is_product};
 ghost use Rattle.model.specs.Fault.{operation_fault};
 ghost use Rattle.model.specs.Lent.{operation_lent};
 ghost use Rattle.model.specs.Object.{cols_of, rows_of};
@@ -12,7 +13,7 @@ ghost use Rattle.store.specs.Stored.{block_content};
 use crate::computing::computed_rows;
 use crate::input::Input;
 use crate::output::{accumulator_of, mask_of};
-use calls::Out;
+use calls::{Out, TwoInputs};
 use masks::write_back;
 use model::{Lent, NoMemory};
 use std::alloc::Global;
@@ -47,7 +48,11 @@ pub(crate) fn task_rows(
 {
     let mask = mask_of(task);
     let t = computed_rows(alloc, task, mask, range)?;
-    let Out { c, desc, .. } = task.out;
+    let Out { c, accum, desc, .. } = task.out;
+    if desc.replace && accum.is_none() && is_product(task.operation) {
+        // It has nothing outside the mask, and what was there goes.
+        return Ok(t);
+    }
     let old = c.store.lists_in(alloc, &(t.first()..t.past()))?;
     write_back(
         alloc,
@@ -57,4 +62,15 @@ pub(crate) fn task_rows(
         accumulator_of(task),
         desc.replace,
     )
+}
+
+/// Whether an operation is a product.
+#[tactic(auto, unfolding(crate::specs::Products::is_product, crate::specs::Products::is_product_of))]
+fn is_product(operation: Lent<'_, Input<'_>>) -> bool
+    ensures { result ≡ is_product (operation_lent operation.entry) }
+{
+    match operation {
+        Lent::OfTwo { computes, .. } => matches!(computes, TwoInputs::Multiply { .. }),
+        Lent::Fill { .. } | Lent::OfOne { .. } => false,
+    }
 }

@@ -1,11 +1,12 @@
 -- Outside the region of what is computed, what is there stays.
 use Rattle.std.proofs.Common.{◌≡◌, ◌∙◌, true, Option, Some, None, rules, sym}
 use Rattle.kernel.specs.declared.task.Task.{Task}
+use Rattle.kernel.specs.Blocks.{IsUnder}
 use Rattle.kernel.specs.Inputs.{known_of, object_of}
 use Rattle.kernel.specs.Spread.{computed_in, spread}
 use Rattle.kernel.specs.Tasks.{operation_of, out_of}
 use Rattle.kernel.proofs.Accepted.{task-accepts}
-use Rattle.kernel.proofs.MaskLaws.{agrees-same, if_over}
+use Rattle.kernel.proofs.MaskLaws.{agrees-same, if_over, no-product, no-region}
 use Rattle.kernel.proofs.Spread.{spread-accumulated, spread-everywhere, spread-over, written-low}
 use Rattle.model.specs.declared.call.Region.{Region}
 use Rattle.model.specs.Indices.{are_below}
@@ -37,20 +38,20 @@ over_old-requires-clause-rows c = (low_in c.args.task.now c.in-Some.region.now c
 pub over_old-requires-clause-cols : goal.over_old-requires-clause-cols
 over_old-requires-clause-cols c = (low_in c.args.task.now c.in-Some.region.now c.in-Some.ensures).1
 
-pub returns-then-is_some : goal.returns-then-is_some
-returns-then-is_some c =
+pub returns-then-is_some-clause-rows : goal.returns-then-is_some-clause-rows
+returns-then-is_some-clause-rows c =
     let task = c.args.task.now in
     agrees-same c.args.mask c.args.range.start c.args.range.end _ _ _ c.in_ok-block.block
-    (spread-accumulated (out_of task) (operation_of task) (search rules)) c.in_ok-block.ensures
+    (spread-accumulated (out_of task) (operation_of task) (search rules)) c.in_ok-block.ensures.rows
 
-pub returns-in-None : goal.returns-in-None
-returns-in-None c =
+pub returns-in-None-clause-rows : goal.returns-in-None-clause-rows
+returns-in-None-clause-rows c =
     let task = c.args.task.now in
     agrees-same c.args.mask c.args.range.start c.args.range.end _ _ _ c.in_ok-block.block
-    (spread-everywhere (out_of task) (operation_of task) (region_in task None c.in-None.ensures)) c.in_ok-block.ensures
+    (spread-everywhere (out_of task) (operation_of task) (region_in task None c.in-None.ensures)) c.in_ok-block.ensures.rows
 
-pub returns-in-Some : goal.returns-in-Some
-returns-in-Some c =
+pub returns-in-Some-clause-rows : goal.returns-in-Some-clause-rows
+returns-in-Some-clause-rows c =
     let task = c.args.task.now in
     let out = out_of task in
     let op = operation_of task in
@@ -58,5 +59,11 @@ returns-in-Some c =
     let over = rw (task.out.c.rows, task.out.c.cols) at c.over_old.ensures in
     if_over c.over_old.result c.args.mask c.args.range.start c.args.range.end _
     (is_listed (rows_of out.c.shape) (cols_of out.c.shape) (rows_in region) (cols_in region)) out.c.content (computed_in out op) (spread out op) c.in_ok-block.block
-    c.in_ok-block.ensures over.first over.past over.cols over.words
+    c.in_ok-block.ensures.rows over.first over.past over.cols over.words
     (spread-over out op region (region_in task (Some region) c.in-Some.ensures) (search rules))
+
+-- a product writes no region
+pub returns-in-Some-clause-under : goal.returns-in-Some-clause-under
+returns-in-Some-clause-under c =
+    rw (no-region (operation_lent c.args.task.now.operation) c.in-Some.region.now c.in-Some.ensures)
+    (no-product c.over_old.result (IsUnder c.args.mask c.args.range.start c.args.range.end))

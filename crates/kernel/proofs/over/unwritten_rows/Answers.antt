@@ -24,4 +24,4 @@ returns c =
     (c.taken-task.ensures.out ∙ (λ x. out_with accepted.out (same x)))
     (c.taken-task.ensures.operation ∙ (λ x. operation_with accepted.operation (same x)))
     c.mask_of-mask.ensures.set agrees)
-    (rw c.rows-2.ensures at c.computed_rows.ensures)
+    (rw c.rows-2.ensures at c.computed_rows.ensures.rows)
