@@ -49,8 +49,8 @@ pub(crate) fn fiber_near(ends: &[FiberEnd], outer: u64, hint: usize) -> Spot
     }
 }
 
-/// How many fibers are before an outer index. Where that is the hint it takes no search, nor where each index between
-/// the fiber before the hint and this one has a fiber.
+/// How many fibers are before an outer index. Where that is the hint it takes no search, nor where each index below the
+/// last fiber's has one, or each between the fiber before the hint and this one.
 #[inline(always)]
 pub(crate) fn first_near(ends: &[FiberEnd], outer: u64, hint: usize) -> usize
     requires { AreApart ends.now }
@@ -58,6 +58,9 @@ pub(crate) fn first_near(ends: &[FiberEnd], outer: u64, hint: usize) -> usize
     ensures before { All (λ r. r.outer < outer) (take result ends.now) }
     ensures behind { All (λ r. outer ≤ r.outer) (drop result ends.now) }
 {
+    if let Some(count) = count_without_gaps(ends, outer) {
+        return count;
+    }
     if let Some(count) = count_at(ends, outer, hint) {
         return count;
     }
@@ -65,6 +68,21 @@ pub(crate) fn first_near(ends: &[FiberEnd], outer: u64, hint: usize) -> usize
         Some(count) => count,
         None => first_from(ends, outer),
     }
+}
+
+/// How many fibers are before an outer index, where each index up to the last fiber's has one: as many as indices are.
+#[inline(always)]
+fn count_without_gaps(ends: &[FiberEnd], outer: u64) -> Option<usize>
+    requires { AreApart ends.now }
+    ensures bound { IfSome result (λ count. count ≤ length ends.now) }
+    ensures before { IfSome result (λ count. All (λ r. r.outer < outer) (take count ends.now)) }
+    ensures behind { IfSome result (λ count. All (λ r. outer ≤ r.outer) (drop count ends.now)) }
+{
+    let count = ends.len();
+    if count == 0 || ends[count - 1].outer != count as u64 - 1 {
+        return None;
+    }
+    Some(outer.min(count as u64) as usize)
 }
 
 /// The place where it is seen there that so many fibers are before an outer index.
