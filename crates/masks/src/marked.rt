@@ -36,6 +36,19 @@ impl MarkedMask<'_> {
         }
     }
 
+    /// The same for a column. Where the mask goes by the structure alone, the row's bit is all that is asked for.
+    #[inline(always)]
+    pub fn lets_row(self, row: u64) -> bool
+        requires { self.bitmap.now.cols ≡ 1 }
+        ensures { result ≡ lets_word self.entry.test (word_at self.entry.bitmap.now.entries row 0) }
+    {
+        if self.test.valued {
+            return self.lets(row);
+        }
+        let present = self.bitmap.present(row as usize / 64);
+        ((present >> (row % 64)) & 1 == 1) != self.test.complement
+    }
+
     /// A bit for each of the 64 rows from `64 * at` on, which says whether the row is let through. Where the mask goes
     /// by the structure alone, it reads one word of bits.
     pub fn let_bits(self, at: usize) -> u64

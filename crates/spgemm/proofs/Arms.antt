@@ -10,16 +10,16 @@ use Rattle.spgemm.specs.Dense.{AreColumnSums, AreMarkedSums}
 use Rattle.spgemm.specs.Slots.{AreSlotSums}
 use Rattle.spgemm.specs.Products.{HasSums}
 use Rattle.spgemm.specs.declared.term.Term.{Term}
-use Rattle.spgemm.specs.Terms.{AreFirstTerms, kept_terms, terms_of_row}
+use Rattle.spgemm.specs.Terms.{AreFirstKept, kept_terms, terms_of_row}
 use Rattle.spgemm.specs.Truths.{AreTruths}
 
 -- an operator computes by its kind and its domain alone
-pub same_terms : (r : Result ℕ NoMemory) (own semiring : Semiring) (row : List Entry) (b : Stored) (terms : List Term)
-    → IfOk r (AreFirstTerms own.multiply row b terms) → own.multiply.kind ≡ semiring.multiply.kind
-    → own.multiply.domain ≡ semiring.multiply.domain
-    → IfOk r (AreFirstTerms semiring.multiply row b terms)
-same_terms (Err e) own semiring row b terms here kind domain = tt
-same_terms (Ok done) own semiring row b terms here kind domain = record { are_those = here.are_those ∙ rw (kind, domain) refl }
+pub same_terms : (r : Result ℕ NoMemory) (own semiring : Semiring) (keeps : ℕ → Bool) (row : List Entry) (b : Stored)
+    (terms : List Term) → IfOk r (AreFirstKept keeps own.multiply row b terms)
+    → own.multiply.kind ≡ semiring.multiply.kind → own.multiply.domain ≡ semiring.multiply.domain
+    → IfOk r (AreFirstKept keeps semiring.multiply row b terms)
+same_terms (Err e) own semiring keeps row b terms here kind domain = tt
+same_terms (Ok done) own semiring keeps row b terms here kind domain = record { are_those = here.are_those ∙ rw (kind, domain) refl }
 
 pub same_runs : (r : Result (Unit {0}) NoMemory) (own semiring : Semiring) (terms : List Term) (old new : FiberLists)
     → OnOk r (HasSums own.add.op terms old new) → own.add.op.kind ≡ semiring.add.op.kind

@@ -5,12 +5,11 @@ ghost use Rattle.store.specs.Fibers.{entries_along};
 ghost use Rattle.spgemm.specs.Dense.{AreClear, HaveRoom};
 ghost use Rattle.spgemm.specs.Keeping.{keeps_marked};
 ghost use Rattle.spgemm.specs.Products.{HasOpenRow, HasRow};
-ghost use Rattle.spgemm.specs.Terms.{AreFirstTerms, kept_terms, terms_of_row};
+ghost use Rattle.spgemm.specs.Terms.{kept_terms, terms_of_row};
 
 use crate::dense::fit;
 use crate::few_kept::{keeps_few, sum_few};
 use crate::row::{Scratch, collect_terms, sum_in_places, sum_terms};
-use crate::term::Term;
 use algebra::Semiring;
 use masks::MarkedMask;
 use model::NoMemory;
@@ -41,7 +40,7 @@ pub(crate) fn multiply_marked_row(
 }
 
 /// Puts the sums of the row of the product with B that a row of A gives, at the columns that the mask lets through,
-/// behind the inner indices and words. Of products that are listed, those at other columns are dropped before the rest
+/// behind the inner indices and words. Of products that are listed, those at other columns are left out before the rest
 /// is sorted or added.
 fn sum_marked(
     lists: &mut FiberLists,
@@ -61,22 +60,19 @@ fn sum_marked(
         (entries_along row.entry.index row.entry.cols.now row.entry.words.now) b.now))
         lists.old lists.new) }
 {
-    let done = collect_terms(scratch, row, b, semiring)?;
+    let done = collect_terms(scratch, row, b, Some(mask), semiring)?;
     if done < row.cols.len() {
-        return sum_marked_places(lists, scratch, row, done, b, mask, semiring);
+        return sum_marked_places(lists, scratch, row, b, mask, semiring);
     }
-    keep_marked_terms(&mut scratch.terms, mask);
     sum_terms(lists, scratch, b.cols(), semiring)
 }
 
-/// What `sum_marked` does in a place for each column, where the terms are the products of the first `done` entries of
-/// the row. Where the mask keeps few columns, products at others are never added; else their sums are dropped before
-/// they are gathered.
+/// What `sum_marked` does in a place for each column. Where the mask keeps few columns, products at others are never
+/// added; else their sums are dropped before they are gathered.
 fn sum_marked_places(
     lists: &mut FiberLists,
     scratch: &mut Scratch,
     row: Row<'_>,
-    done: usize,
     b: &Sparse,
     mask: MarkedMask<'_>,
     semiring: Semiring,
@@ -87,15 +83,13 @@ fn sum_marked_places(
     requires most { b.now.cols ≤ 2 ^ 24 }
     requires room { HaveRoom scratch.old.bits.items scratch.old.sums.items }
     requires none { AreClear scratch.old.bits.items }
-    requires done { done ≤ length row.cols.now }
-    requires terms { AreFirstTerms semiring.multiply (entries_along row.index row.cols.now row.words.now) b.now
-        scratch.old.terms.items done }
     ensures { OnOk result (HasOpenRow semiring.add.op row.entry.index
         (kept_terms (keeps_marked mask.entry) (terms_of_row semiring.multiply
         (entries_along row.entry.index row.entry.cols.now row.entry.words.now) b.now))
         lists.old lists.new) }
 {
     let Scratch {
+        terms,
         bits,
         sums,
         kept,
@@ -108,12 +102,7 @@ fn sum_marked_places(
     if keeps_few(kept, b.cols()) {
         return sum_few(lists, bits, sums, kept, row, b, hints, semiring);
     }
-    sum_in_places(lists, scratch, row, done, b, Some(mask), semiring)
-}
-
-/// Of terms it keeps those at columns that the mask lets through, in order.
-fn keep_marked_terms(terms: &mut Vec<Term>, mask: MarkedMask<'_>)
-    ensures { terms.new.items ≡ kept_terms (keeps_marked mask.entry) terms.old.items }
-{
-    terms.retain(|term| mask.lets(term.col));
+    // The terms are those that are let through; a sum needs all, and begins anew.
+    terms.clear();
+    sum_in_places(lists, scratch, row, 0, b, Some(mask), semiring)
 }

@@ -5,7 +5,7 @@ ghost use Rattle.store.specs.Fibers.{entries_along};
 ghost use Rattle.spgemm.specs.Dense.{AreClear, AreColumnSums, HaveRoom};
 ghost use Rattle.spgemm.specs.Keeping.{lets_marked};
 ghost use Rattle.spgemm.specs.Products.{HasOpenRow, HasRow};
-ghost use Rattle.spgemm.specs.Terms.{AreFirstTerms, kept_terms, terms_of_row};
+ghost use Rattle.spgemm.specs.Terms.{AreFirstKept, AreFirstTerms, kept_terms, terms_of_row};
 
 use crate::dense::{MOST_PLACES, fit, gather, sum_at_once, sum_densely, sum_in_span};
 use crate::expand::expand;
@@ -157,23 +157,26 @@ fn sum_collected(
     ensures room { OnOk result (HaveRoom scratch.new.bits.items scratch.new.sums.items) }
     ensures none { OnOk result (AreClear scratch.new.bits.items) }
 {
-    let done = collect_terms(scratch, row, b, semiring)?;
+    let done = collect_terms(scratch, row, b, None, semiring)?;
     if done < row.cols.len() {
         return sum_in_places(lists, scratch, row, done, b, None, semiring);
     }
     sum_terms(lists, scratch, b.cols(), semiring)
 }
 
-/// Makes the terms the products of the first entries of a row of A with B, and answers how many entries they are of: of
-/// all, unless there are so many products that a place for each column pays.
+/// Makes the terms the products of the first entries of a row of A with B, at the columns that the mask lets through,
+/// where there is one, and answers how many entries they are of: of all, unless there are so many products that a place
+/// for each column pays.
 pub(crate) fn collect_terms(
     scratch: &mut Scratch,
     row: Row<'_>,
     b: &Sparse,
+    mask: Option<MarkedMask<'_>>,
     semiring: Semiring,
 ) -> Result<usize, NoMemory>
-    requires { length row.words.now ≡ length row.cols.now }
-    ensures terms { IfOk result (AreFirstTerms semiring.multiply
+    requires mask { IfSome mask (λ mask. mask.bitmap.now.cols ≡ 1) }
+    requires lengths { length row.words.now ≡ length row.cols.now }
+    ensures terms { IfOk result (AreFirstKept (lets_marked mask.entry) semiring.multiply
         (entries_along row.entry.index row.entry.cols.now row.entry.words.now) b.now scratch.new.terms.items) }
     ensures bound { IfOk result (λ done. done ≤ length row.entry.cols.now) }
     ensures stopped { IfOk result (λ done. done < length row.entry.cols.now → b.now.cols ≤ 2 ^ 24) }
@@ -181,7 +184,8 @@ pub(crate) fn collect_terms(
     ensures sums { OnOk result (scratch.new.sums ≡ scratch.old.sums) }
 {
     let most = most_collected(b.cols(), scratch.sums.len());
-    expand(&mut scratch.terms, row, b, &scratch.hints, semiring, most)
+    let Scratch { terms, hints, .. } = scratch;
+    expand(terms, row, b, hints, mask, semiring, most)
 }
 
 /// Puts the sums of the row of the product with B that a row of A gives, at the columns that the mask lets through,

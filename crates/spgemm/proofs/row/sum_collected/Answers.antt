@@ -1,6 +1,7 @@
-use Rattle.std.proofs.Common.{OnOk, ◌<◌, arith, subst, sym}
+use Rattle.std.proofs.Common.{None, OnOk, ◌∙◌, ◌<◌, arith, subst, sym, take}
 use Rattle.std.specs.List.{All}
 use Rattle.store.specs.Fibers.{entries_along}
+use Rattle.spgemm.specs.Keeping.{lets_marked}
 use Rattle.spgemm.specs.Products.{HasOpenRow}
 use Rattle.spgemm.specs.Terms.{terms_of_row}
 use Rattle.spgemm.proofs.Kept.{all_terms, kept_all, terms_inside}
@@ -12,13 +13,19 @@ sum_terms-requires-clause-inside c =
     let b = c.args.b.now in
     let mul = c.args.semiring.multiply in
     let row = entries_along c.args.row.index c.args.row.cols.now c.args.row.words.now in
-    let all = all_terms mul c.args.row.index c.args.row.cols.now c.args.row.words.now b c.collect_terms.new.scratch.terms.items c.in_ok-done.done c.requires.lengths (omega (arith, c.if-done-row.false)) c.in_ok-done.ensures.terms in
+    let all = all_terms (lets_marked None) mul c.args.row.index c.args.row.cols.now c.args.row.words.now b c.collect_terms.new.scratch.terms.items c.in_ok-done.done c.requires.lengths (omega (arith, c.if-done-row.false)) c.in_ok-done.ensures.terms ∙ kept_all (terms_of_row mul row b) in
     rw c.cols.ensures (subst (All (λ t. t.col < b.cols)) (sym all) (terms_inside mul row b))
+
+pub sum_in_places-requires-clause-terms : goal.sum_in_places-requires-clause-terms
+sum_in_places-requires-clause-terms c =
+    let row = entries_along c.args.row.index c.args.row.cols.now c.args.row.words.now in
+    record { are_those = c.in_ok-done.ensures.terms.are_those ∙ kept_all (terms_of_row c.args.semiring.multiply (take c.in_ok-done.done row) c.args.b.now) }
 
 pub returns-clause-row : goal.returns-clause-row
 returns-clause-row c =
     let mul = c.args.semiring.multiply in
-    let all = all_terms mul c.args.row.index c.args.row.cols.now c.args.row.words.now c.args.b.now c.collect_terms.new.scratch.terms.items c.in_ok-done.done c.requires.lengths (omega (arith, c.if-done-row.false)) c.in_ok-done.ensures.terms in
+    let row = entries_along c.args.row.index c.args.row.cols.now c.args.row.words.now in
+    let all = all_terms (lets_marked None) mul c.args.row.index c.args.row.cols.now c.args.row.words.now c.args.b.now c.collect_terms.new.scratch.terms.items c.in_ok-done.done c.requires.lengths (omega (arith, c.if-done-row.false)) c.in_ok-done.ensures.terms ∙ kept_all (terms_of_row mul row c.args.b.now) in
     open_of c.sum_terms.result c.args.semiring.add.op c.args.row.index c.collect_terms.new.scratch.terms.items (terms_of_row mul (entries_along c.args.row.index c.args.row.cols.now c.args.row.words.now) c.args.b.now)
     c.args.lists.now c.sum_terms.new.lists all c.sum_terms.ensures.row
 
