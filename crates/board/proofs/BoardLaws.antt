@@ -12,20 +12,20 @@ use Rattle.runner.specs.Tickets.{IsStoreFor}
 use Rattle.board.specs.Events.{failed, is_gone, with_holds, with_progress}
 use Rattle.board.specs.Falls.{fallen}
 use Rattle.board.specs.Looks.{Seen, is_seen_gone, seen_at, seen_of}
-use Rattle.board.specs.Places.{place_of, places_of}
-use Rattle.board.specs.Numbers.{has, numbers}
-use Rattle.board.specs.Progress.{Progress, Failed, Joining, Made, is_joining, is_running}
+use Rattle.stages.specs.Places.{place_of, places_of}
+use Rattle.stages.specs.Numbers.{has, numbers}
+use Rattle.stages.specs.Progress.{Progress, Failed, Joining, Made, is_joining, is_running}
 use Rattle.board.specs.Sound.{IsSound}
-use Rattle.board.specs.Stages.{is_among, is_at, progress_of, recipe_in, released_if, stored_in}
-use Rattle.board.specs.Stages.{is_gone as stage_gone}
-use Rattle.board.specs.Tasks.{Task, object_at}
-use Rattle.board.specs.Views.{View, State, IsWaiting, IsReady, IsRunning, IsJoining, IsDone, HasFailed, IsGone, is_fed, is_ready, state_with, uses_of}
-use Rattle.board.specs.declared.stage.Stage.{Stage}
-use Rattle.board.specs.declared.stage.Stage.TheVariants as stage
-use Rattle.board.proofs.ListLaws.{get_there, length_set}
-use Rattle.board.proofs.ReadLaws.{reads_above}
-use Rattle.board.proofs.ReadyLaws.{offered_is}
-use Rattle.board.proofs.StageLaws.{released_twice}
+use Rattle.stages.specs.Stages.{is_among, is_at, progress_of, recipe_in, released_if, stored_in}
+use Rattle.stages.specs.Stages.{is_gone as stage_gone}
+use Rattle.stages.specs.Tasks.{Task, object_at}
+use Rattle.stages.specs.Views.{View, State, IsWaiting, IsReady, IsRunning, IsJoining, IsDone, HasFailed, IsGone, is_fed, is_ready, state_with, uses_of}
+use Rattle.stages.specs.declared.stage.Stage.{Stage}
+use Rattle.stages.specs.declared.stage.Stage.TheVariants as stage
+use Rattle.stages.proofs.ListLaws.{get_there, length_set}
+use Rattle.stages.proofs.ReadLaws.{reads_above}
+use Rattle.stages.proofs.ReadyLaws.{offered_is}
+use Rattle.stages.proofs.StageLaws.{released_twice}
 use Rattle.board.proofs.SoundLaws.{progress_at, sound_hold, sound_joining, sound_released, sound_whole}
 
 -- ---- states

@@ -11,17 +11,17 @@ use Rattle.runner.specs.Tickets.{IsStoreFor}
 use Rattle.board.specs.Cuts.{AreCuts, Cutting, IsCutFor, IsPut, IsShared, at_slot, cutting_of, has_more, is_open}
 use Rattle.board.specs.Events.{moved_by, sole_in, taken, with_moved}
 use Rattle.board.specs.Pieces.{AreFor}
-use Rattle.board.specs.Progress.{Progress, Untaken, Running, Joining, Made, Moved, Failed, is_made, is_underway, is_untaken}
-use Rattle.board.specs.Tasks.{Task}
-use Rattle.board.specs.Views.{View, is_fed, is_ready}
+use Rattle.stages.specs.Progress.{Progress, Untaken, Running, Joining, Made, Moved, Failed, is_made, is_underway, is_untaken}
+use Rattle.stages.specs.Tasks.{Task}
+use Rattle.stages.specs.Views.{View, is_fed, is_ready}
 use Rattle.board.specs.declared.cut.Cut.{Cut}
 use Rattle.board.specs.declared.cut.Cut.TheVariants as cut
 use Rattle.board.specs.declared.cut.CutTask.{CutTask}
 use Rattle.board.specs.declared.piece.Stores.{Stores}
-use Rattle.board.proofs.ListLaws.{get_left, get_set_other}
+use Rattle.stages.proofs.ListLaws.{get_left, get_set_other}
 use Rattle.board.proofs.ObjectLaws.{object_at_left}
-use Rattle.board.proofs.PlaceLaws.{each-at}
-use Rattle.board.proofs.ReadyLaws.{fed_at, untaken_some}
+use Rattle.stages.proofs.PlaceLaws.{each-at}
+use Rattle.stages.proofs.ReadyLaws.{fed_at, untaken_some}
 use Rattle.calls.specs.declared.role.Role.TheVariants.{Old}
 
 -- ---- places

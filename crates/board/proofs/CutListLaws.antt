@@ -6,7 +6,7 @@ use Rattle.kernel.specs.declared.block.Block.{Block}
 use Rattle.pieces.specs.Parts.{blocks_in}
 use Rattle.pieces.specs.declared.part.Part.{Part}
 use Rattle.pieces.specs.declared.part.Part.TheVariants.{Due, Given, Joined}
-use Rattle.board.proofs.ListLaws.{get_set}
+use Rattle.stages.proofs.ListLaws.{get_set}
 
 -- what holds of each block that was given holds of all of them in order
 pub all_in : {P : Block → Type 0} (parts : List Part)

@@ -10,8 +10,8 @@ use Rattle.model.specs.declared.shape.Signature.{Signature}
 use Rattle.model.specs.Object.{Content}
 use Rattle.store.specs.Stored.{Stored}
 use Rattle.board.specs.Cuts.{AreCuts, IsCutFor, IsShared}
-use Rattle.board.specs.Progress.{Progress}
-use Rattle.board.specs.Tasks.{Task}
+use Rattle.stages.specs.Progress.{Progress}
+use Rattle.stages.specs.Tasks.{Task}
 use Rattle.board.specs.declared.cut.Cut.{Cut}
 use Rattle.board.specs.declared.cut.Cut.TheVariants as cut
 use Rattle.board.specs.declared.cut.CutTask.{CutTask}

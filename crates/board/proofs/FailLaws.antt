@@ -7,26 +7,26 @@ use Rattle.std.proofs.lemmas.Bool.Decides.{nat_tests}
 use Rattle.std.proofs.lemmas.List.{map-set}
 use Rattle.std.proofs.lemmas.Option.{slice_get-get_or, slice_get-map, slice_get_within}
 use Rattle.board.specs.Falling.{IsFalling}
-use Rattle.board.specs.Flows.{Flows, FlowsBelow}
+use Rattle.stages.specs.Flows.{Flows, FlowsBelow}
 use Rattle.board.specs.Falls.{KeepsReady, fallen, fallen_below, falls}
-use Rattle.board.specs.Places.{each, places_of}
-use Rattle.board.specs.Progress.{Progress, Untaken, Running, Joining, Made, Moved, Failed, allows, is_failed, is_joining, is_made, is_running, is_unfinished, is_untaken}
+use Rattle.stages.specs.Places.{each, places_of}
+use Rattle.stages.specs.Progress.{Progress, Untaken, Running, Joining, Made, Moved, Failed, allows, is_failed, is_joining, is_made, is_running, is_unfinished, is_untaken}
 use Rattle.board.specs.Sound.{IsKept, IsSound}
-use Rattle.board.specs.Stages.{is_among, progress_of, released_if}
-use Rattle.board.specs.Tasks.{Task}
-use Rattle.board.specs.Views.{is_fed, is_ready, offered, reads_in}
-use Rattle.board.specs.declared.stage.Stage.{Stage}
-use Rattle.board.specs.declared.stage.Stage.TheVariants as stage
+use Rattle.stages.specs.Stages.{is_among, progress_of, released_if}
+use Rattle.stages.specs.Tasks.{Task}
+use Rattle.stages.specs.Views.{is_fed, is_ready, offered, reads_in}
+use Rattle.stages.specs.declared.stage.Stage.{Stage}
+use Rattle.stages.specs.declared.stage.Stage.TheVariants as stage
 use Rattle.board.proofs.BoardLaws.{among_none}
 use Rattle.board.proofs.FallLaws.{fallen_stays, fallen_unfolds, falls_parts, falls_unready, flows_all, flows_fall, flows_skip, flows_weaken, keeps_fall, offered_keeps, unmade_now, waked_keeps}
-use Rattle.board.proofs.FlowLaws.{flows_set}
-use Rattle.board.proofs.ListLaws.{get_set_same, get_there}
-use Rattle.board.proofs.NumberLaws.{and_none, and_true, numbers_same}
-use Rattle.board.proofs.PlaceLaws.{each-from}
-use Rattle.board.proofs.ReadyLaws.{offered_is, ready_not, ready_other}
-use Rattle.board.proofs.WakeLaws.{waked_set}
-use Rattle.board.specs.Numbers.{numbers}
-use Rattle.board.proofs.ReadLaws.{reads_above, reads_less}
+use Rattle.stages.proofs.FlowLaws.{flows_set}
+use Rattle.stages.proofs.ListLaws.{get_set_same, get_there}
+use Rattle.stages.proofs.NumberLaws.{and_none, and_true, numbers_same}
+use Rattle.stages.proofs.PlaceLaws.{each-from}
+use Rattle.stages.proofs.ReadyLaws.{offered_is, ready_not, ready_other}
+use Rattle.stages.proofs.WakeLaws.{waked_set}
+use Rattle.stages.specs.Numbers.{numbers}
+use Rattle.stages.proofs.ReadLaws.{reads_above, reads_less}
 use Rattle.board.proofs.SoundLaws.{kept_released, kept_set, progress_released}
 
 pub some_unfinished : (o : Option Progress) → option_map_or is_unfinished o false ≡ true → (p : Progress) × (o ≡ Some p) × (is_unfinished p ≡ true)

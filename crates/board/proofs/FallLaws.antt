@@ -7,17 +7,17 @@ use Rattle.calls.specs.declared.role.Role.{Role}
 use Rattle.calls.specs.Roles.{role_of}
 use Rattle.std.specs.Option.{option_map_or}
 use Rattle.board.specs.Falls.{KeepsReady, fall_at, fallen, fallen_below, falls}
-use Rattle.board.specs.Flows.{Flows, FlowsBelow, IsWaked}
-use Rattle.board.specs.Places.{each}
-use Rattle.board.specs.Progress.{Progress, Untaken, Running, Joining, Made, Moved, Failed, allows, is_failed, is_made, is_unfinished, is_untaken}
-use Rattle.board.specs.Tasks.{Task}
-use Rattle.board.specs.Numbers.{has_in}
-use Rattle.board.specs.Views.{is_fed, is_ready, offered}
-use Rattle.board.proofs.FlowLaws.{below}
-use Rattle.board.proofs.NumberLaws.{numbers_same}
-use Rattle.board.proofs.ReadyLaws.{fed_at, made_same, ready_not, ready_other, untaken_some}
-use Rattle.board.proofs.ListLaws.{get_set, get_set_other, get_set_same, length_set}
-use Rattle.board.proofs.PlaceLaws.{each-at, each-from, each-then}
+use Rattle.stages.specs.Flows.{Flows, FlowsBelow, IsWaked}
+use Rattle.stages.specs.Places.{each}
+use Rattle.stages.specs.Progress.{Progress, Untaken, Running, Joining, Made, Moved, Failed, allows, is_failed, is_made, is_unfinished, is_untaken}
+use Rattle.stages.specs.Tasks.{Task}
+use Rattle.stages.specs.Numbers.{has_in}
+use Rattle.stages.specs.Views.{is_fed, is_ready, offered}
+use Rattle.stages.proofs.FlowLaws.{below}
+use Rattle.stages.proofs.NumberLaws.{numbers_same}
+use Rattle.stages.proofs.ReadyLaws.{fed_at, made_same, ready_not, ready_other, untaken_some}
+use Rattle.stages.proofs.ListLaws.{get_set, get_set_other, get_set_same, length_set}
+use Rattle.stages.proofs.PlaceLaws.{each-at, each-from, each-then}
 
 or_true : (x y : Bool) → x ≡ true → (x || y) ≡ true
 or_true true y h = refl

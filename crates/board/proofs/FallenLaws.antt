@@ -8,16 +8,16 @@ use Rattle.calls.specs.declared.role.Role.TheVariants.{Old, Mask, First, Second}
 use Rattle.calls.specs.declared.role.Roles.{Roles}
 use Rattle.calls.specs.Roles.{role_of}
 use Rattle.board.specs.Falls.{fall_at, fallen, fallen_below, falls}
-use Rattle.board.specs.Flows.{Flows}
-use Rattle.board.specs.Places.{each, passes}
-use Rattle.board.specs.Progress.{Progress, Untaken, Running, Joining, Made, Moved, Failed, allows, is_failed, is_made, is_underway, is_unfinished}
+use Rattle.stages.specs.Flows.{Flows}
+use Rattle.stages.specs.Places.{each, passes}
+use Rattle.stages.specs.Progress.{Progress, Untaken, Running, Joining, Made, Moved, Failed, allows, is_failed, is_made, is_underway, is_unfinished}
 use Rattle.board.specs.Rests.{Leads, RestsOn}
-use Rattle.board.specs.Tasks.{Task}
+use Rattle.stages.specs.Tasks.{Task}
 use Rattle.board.proofs.FailLaws.{some_unfinished}
 use Rattle.board.proofs.FallLaws.{fallen_unfolds}
-use Rattle.board.proofs.FlowLaws.{below}
-use Rattle.board.proofs.ListLaws.{get_set_other, get_set_same, get_there}
-use Rattle.board.proofs.PlaceLaws.{each-at}
+use Rattle.stages.proofs.FlowLaws.{below}
+use Rattle.stages.proofs.ListLaws.{get_set_other, get_set_same, get_there}
+use Rattle.stages.proofs.PlaceLaws.{each-at}
 
 -- ---- one step
 

@@ -15,24 +15,24 @@ use Rattle.calls.specs.Roles.{role_of}
 use Rattle.model.specs.declared.shape.Signature.{Signature}
 use Rattle.board.specs.Events.{IsTaken, first_progress, issued}
 use Rattle.board.specs.Fits.{AreThere, IsThere}
-use Rattle.board.specs.Flows.{Grows}
+use Rattle.stages.specs.Flows.{Grows}
 use Rattle.board.specs.Looks.{is_seen_gone, seen_at}
-use Rattle.board.specs.Numbers.{has_in}
-use Rattle.board.specs.Places.{each, place_of, places_of}
-use Rattle.board.specs.Progress.{Progress, Untaken, Made, Moved, Failed, allows, is_failed, is_made, is_moved, is_unfinished}
+use Rattle.stages.specs.Numbers.{has_in}
+use Rattle.stages.specs.Places.{each, place_of, places_of}
+use Rattle.stages.specs.Progress.{Progress, Untaken, Made, Moved, Failed, allows, is_failed, is_made, is_moved, is_unfinished}
 use Rattle.board.specs.Sound.{IsSound}
-use Rattle.board.specs.Stages.{progress_of}
-use Rattle.board.specs.Stages.{is_gone as stage_gone}
-use Rattle.board.specs.Tasks.{Task, known_at, known_in}
-use Rattle.board.specs.Views.{View, offered, reads_in}
-use Rattle.board.specs.declared.stage.Stage.{Stage}
-use Rattle.board.specs.declared.stage.Stage.TheVariants as stage
+use Rattle.stages.specs.Stages.{progress_of}
+use Rattle.stages.specs.Stages.{is_gone as stage_gone}
+use Rattle.stages.specs.Tasks.{Task, known_at, known_in}
+use Rattle.stages.specs.Views.{View, offered, reads_in}
+use Rattle.stages.specs.declared.stage.Stage.{Stage}
+use Rattle.stages.specs.declared.stage.Stage.TheVariants as stage
 use Rattle.board.proofs.BoardLaws.{gone_is}
 use Rattle.board.proofs.IssueLaws.{sound_issued}
-use Rattle.board.proofs.NumberLaws.{length_numbers}
-use Rattle.board.proofs.PlaceLaws.{each-from, each-then, places-above}
-use Rattle.board.proofs.ReadyLaws.{offered_is}
-use Rattle.board.proofs.WakeLaws.{waked_grows}
+use Rattle.stages.proofs.NumberLaws.{length_numbers}
+use Rattle.stages.proofs.PlaceLaws.{each-from, each-then, places-above}
+use Rattle.stages.proofs.ReadyLaws.{offered_is}
+use Rattle.stages.proofs.WakeLaws.{waked_grows}
 
 pub all_roles : (ts : List Task) (stages : List Stage) (known : Roles Signature) (inputs : Roles ℕ) → IsThere ts stages known.old inputs.old
     → IsThere ts stages known.mask inputs.mask → IsThere ts stages known.first inputs.first → IsThere ts stages known.second inputs.second

@@ -14,11 +14,11 @@ use Rattle.pieces.specs.Parts.{Parts, after_give, all_given, blocks_in, with_blo
 use Rattle.pieces.specs.declared.part.Part.TheVariants.{Given as WasGiven, Joined as WasJoined}
 use Rattle.board.specs.Cuts.{AreBlocksFor, AreCuts, Cutting, IfSeveral, IsCutFor, IsLeftBy, IsShared, Joined, KeepsTask, Parted, after_cut, at_slot, cutting_of, has_more, is_parted, left_view, task_at, task_of_cut, told_blocks, told_by, told_cut, told_on}
 use Rattle.board.specs.Events.{with_progress}
-use Rattle.board.specs.Numbers.{numbers}
+use Rattle.stages.specs.Numbers.{numbers}
 use Rattle.board.specs.Pieces.{AreFor, IsBlockFor}
-use Rattle.board.specs.Progress.{Progress, Joining, Running, is_running}
-use Rattle.board.specs.Tasks.{Task, object_at}
-use Rattle.board.specs.Views.{View}
+use Rattle.stages.specs.Progress.{Progress, Joining, Running, is_running}
+use Rattle.stages.specs.Tasks.{Task, object_at}
+use Rattle.stages.specs.Views.{View}
 use Rattle.board.specs.declared.cut.Cut.{Cut}
 use Rattle.board.specs.declared.cut.Cut.TheVariants as cut
 use Rattle.board.specs.declared.cut.CutTask.{CutTask}
@@ -30,8 +30,8 @@ use Rattle.board.specs.declared.piece.Given.{Given}
 use Rattle.board.specs.declared.piece.Given.TheVariants.{Last, More}
 use Rattle.board.proofs.CutLaws.{at_map, cut_same, open_same}
 use Rattle.board.proofs.CutListLaws.{all_told}
-use Rattle.board.proofs.ListLaws.{get_set, get_set_other, get_set_same}
-use Rattle.board.proofs.NumberLaws.{numbers_same}
+use Rattle.stages.proofs.ListLaws.{get_set, get_set_other, get_set_same}
+use Rattle.stages.proofs.NumberLaws.{numbers_same}
 use Rattle.board.proofs.PartedLaws.{opens}
 
 -- ---- a task that is cut

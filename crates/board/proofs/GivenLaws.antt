@@ -13,22 +13,22 @@ use Rattle.model.specs.Object.{IsObject, Object}
 use Rattle.runner.specs.Tickets.{IsStoreFor}
 use Rattle.store.specs.Stored.{content_of}
 use Rattle.board.specs.Events.{with_progress}
-use Rattle.board.specs.Numbers.{numbers}
-use Rattle.board.specs.Places.{each}
-use Rattle.board.specs.Progress.{Progress, Untaken, Running, Joining, Made, Moved, Failed, allows, is_joining, is_made, is_running, is_unfinished, is_untaken}
+use Rattle.stages.specs.Numbers.{numbers}
+use Rattle.stages.specs.Places.{each}
+use Rattle.stages.specs.Progress.{Progress, Untaken, Running, Joining, Made, Moved, Failed, allows, is_joining, is_made, is_running, is_unfinished, is_untaken}
 use Rattle.board.specs.Sound.{IsSound}
-use Rattle.board.specs.Stages.{progress_of}
-use Rattle.board.specs.Tasks.{Task, object_at, objects}
-use Rattle.board.specs.Views.{View, is_ready}
+use Rattle.stages.specs.Stages.{progress_of}
+use Rattle.stages.specs.Tasks.{Task, object_at, objects}
+use Rattle.stages.specs.Views.{View, is_ready}
 use Rattle.board.specs.declared.look.Refusal.{Refusal}
 use Rattle.board.specs.declared.look.Refusal.TheVariants.{Stranger}
-use Rattle.board.specs.declared.stage.Stage.{Stage}
-use Rattle.board.specs.declared.stage.Stage.TheVariants as stage
+use Rattle.stages.specs.declared.stage.Stage.{Stage}
+use Rattle.stages.specs.declared.stage.Stage.TheVariants as stage
 use Rattle.board.proofs.FailLaws.{ready_without}
-use Rattle.board.proofs.ListLaws.{get_end, get_set_same}
+use Rattle.stages.proofs.ListLaws.{get_end, get_set_same}
 use Rattle.board.proofs.ObjectLaws.{made_unfolds, object_at_made}
 use Rattle.board.proofs.OutLaws.{sound_room}
-use Rattle.board.proofs.ReadyLaws.{untaken_some}
+use Rattle.stages.proofs.ReadyLaws.{untaken_some}
 use Rattle.board.proofs.SoundLaws.{sound_set, stage_at}
 
 pub given_object : (ts : List Task) (k : ℕ) (given : Box Given) → slice_get ts k ≡ Some (record { recipe = recipe.Given given; inputs = no_roles })

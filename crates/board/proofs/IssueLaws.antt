@@ -12,24 +12,24 @@ use Rattle.calls.specs.Roles.{role_of}
 use Rattle.model.specs.Object.{IsObject}
 use Rattle.runner.specs.Tickets.{IsStoreFor}
 use Rattle.store.specs.Stored.{Stored}
-use Rattle.board.specs.Flows.{Flows, Grows}
-use Rattle.board.specs.Numbers.{has_in}
-use Rattle.board.specs.Places.{each, places_of}
-use Rattle.board.specs.Progress.{allows, is_begun, is_made, is_unfinished, is_untaken}
+use Rattle.stages.specs.Flows.{Flows, Grows}
+use Rattle.stages.specs.Numbers.{has_in}
+use Rattle.stages.specs.Places.{each, places_of}
+use Rattle.stages.specs.Progress.{allows, is_begun, is_made, is_unfinished, is_untaken}
 use Rattle.board.specs.Sound.{AreFit, IsKept, IsKeptAt, IsSound}
-use Rattle.board.specs.Stages.{has_store, is_gone, progress_of, recipe_in, stored_in}
-use Rattle.board.specs.Tasks.{Task, known_at, known_in, object_at}
-use Rattle.board.specs.Views.{reads_in}
-use Rattle.board.specs.declared.stage.Stage.{Stage}
-use Rattle.board.specs.declared.stage.Stage.TheVariants as stage
-use Rattle.board.proofs.FlowLaws.{below, flows_push}
-use Rattle.board.proofs.ListLaws.{get_end, get_left, get_snoc, length_snoc}
+use Rattle.stages.specs.Stages.{has_store, is_gone, progress_of, recipe_in, stored_in}
+use Rattle.stages.specs.Tasks.{Task, known_at, known_in, object_at}
+use Rattle.stages.specs.Views.{reads_in}
+use Rattle.stages.specs.declared.stage.Stage.{Stage}
+use Rattle.stages.specs.declared.stage.Stage.TheVariants as stage
+use Rattle.stages.proofs.FlowLaws.{below, flows_push}
+use Rattle.stages.proofs.ListLaws.{get_end, get_left, get_snoc, length_snoc}
 use Rattle.board.proofs.ObjectLaws.{object_at_left}
-use Rattle.board.proofs.PlaceLaws.{each-at, places-above}
-use Rattle.board.proofs.ReadLaws.{reads_by, reads_none, reads_push}
-use Rattle.board.proofs.ReadyLaws.{offered_push}
+use Rattle.stages.proofs.PlaceLaws.{each-at, places-above}
+use Rattle.stages.proofs.ReadLaws.{reads_by, reads_none, reads_push}
+use Rattle.stages.proofs.ReadyLaws.{offered_push}
 use Rattle.board.proofs.SoundLaws.{sound_of}
-use Rattle.board.proofs.WakeLaws.{waked_push, waked_grows}
+use Rattle.stages.proofs.WakeLaws.{waked_push, waked_grows}
 
 -- what is known of what takes a role stays
 pub known_left : (ts : List Task) (t : Task) (inputs : Option ℕ) → ((i : ℕ) → inputs ≡ Some i → i < length ts)

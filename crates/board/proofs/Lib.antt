@@ -1,16 +1,8 @@
-pub mod FlowLaws
 pub mod IssueLaws
-pub mod ListLaws
-pub mod NumberLaws
 pub mod ObjectLaws
-pub mod PlaceLaws
-pub mod ReadLaws
-pub mod ReadyLaws
 pub mod RenewLaws
 pub mod SoundLaws
-pub mod StageLaws
 pub mod TakeLaws
-pub mod WakeLaws
 pub mod BoardLaws
 pub mod PieceLaws
 pub mod OutLaws

@@ -9,9 +9,9 @@ use Rattle.calls.specs.Recipes.{known_of, meaning_of}
 use Rattle.calls.specs.Roles.{role_of}
 use Rattle.calls.specs.Stores.{object_with}
 use Rattle.model.specs.Object.{Content, Object, no_content}
-use Rattle.board.specs.Places.{each}
-use Rattle.board.specs.Tasks.{Task, made_of, maps_of, object_at, object_in, objects, objects_after}
-use Rattle.board.proofs.PlaceLaws.{each-at}
+use Rattle.stages.specs.Places.{each}
+use Rattle.stages.specs.Tasks.{Task, made_of, maps_of, object_at, object_in, objects, objects_after}
+use Rattle.stages.proofs.PlaceLaws.{each-at}
 
 in_left : (os more : List Object) (k : ℕ) → k < length os → object_in (os ++ more) k ≡ object_in os k
 in_left [] more k h = absurd (omega arith)

@@ -10,18 +10,18 @@ use Rattle.calls.specs.Recipes.{known_of}
 use Rattle.model.specs.Object.{rows_of}
 use Rattle.board.specs.Cuts.{AreCuts, Cutting, GoesOn, GoesOut, IsCutFor, IsOf, IsPut, IsShared, IsTakenBy, IsTakenFrom, Parted, at_slot, cutting_of, has_more, is_open, one_more, one_taken, task_at, task_of_cut}
 use Rattle.board.specs.Events.{moved_by, taken, with_moved}
-use Rattle.board.specs.Numbers.{numbers}
+use Rattle.stages.specs.Numbers.{numbers}
 use Rattle.board.specs.Pieces.{IsPieceFor, recipe_of, rows_for}
-use Rattle.board.specs.Progress.{Progress, Running, Untaken, is_made, is_underway}
-use Rattle.board.specs.Tasks.{Task}
-use Rattle.board.specs.Views.{View, is_ready}
+use Rattle.stages.specs.Progress.{Progress, Running, Untaken, is_made, is_underway}
+use Rattle.stages.specs.Tasks.{Task}
+use Rattle.stages.specs.Views.{View, is_ready}
 use Rattle.board.specs.declared.cut.Cut.{Cut}
 use Rattle.board.specs.declared.cut.Cut.TheVariants as cut
 use Rattle.board.specs.declared.cut.CutTask.{CutTask}
 use Rattle.board.specs.declared.piece.Piece.{Piece}
 use Rattle.board.proofs.CutLaws.{at_map, cut_underway, cuts_kept, moved_made, open_same, taken_stays, untaken}
-use Rattle.board.proofs.ListLaws.{get_set_other, get_set_same}
-use Rattle.board.proofs.NumberLaws.{numbers_same}
+use Rattle.stages.proofs.ListLaws.{get_set_other, get_set_same}
+use Rattle.stages.proofs.NumberLaws.{numbers_same}
 use Rattle.board.proofs.PartedLaws.{opens}
 use Rattle.board.proofs.SharedLaws.{for_same}
 

@@ -10,18 +10,18 @@ use Rattle.calls.specs.declared.role.Role.TheVariants.{Old}
 use Rattle.calls.specs.declared.role.Roles.{Roles}
 use Rattle.model.specs.Object.{IsObject}
 use Rattle.board.specs.Events.{sole_in, taken, with_moved}
-use Rattle.board.specs.Places.{each, passes}
-use Rattle.board.specs.Progress.{Progress, Untaken, Running, Moved, is_untaken}
-use Rattle.board.specs.Sharing.{stages_after}
+use Rattle.stages.specs.Places.{each, passes}
+use Rattle.stages.specs.Progress.{Progress, Untaken, Running, Moved, is_untaken}
+use Rattle.stages.specs.Sharing.{stages_after}
 use Rattle.board.specs.Sound.{IsSound}
-use Rattle.board.specs.Stages.{has_store, progress_of, recipe_in}
-use Rattle.board.specs.Tasks.{Task, object_at}
-use Rattle.board.specs.Views.{View, is_ready, reads_in}
-use Rattle.board.specs.declared.stage.Stage.{Stage}
-use Rattle.board.specs.declared.stage.Stage.TheVariants as stage
-use Rattle.board.proofs.ListLaws.{get_set_other, get_set_same}
-use Rattle.board.proofs.PlaceLaws.{each-at, places-at}
-use Rattle.board.proofs.ReadyLaws.{offered_at}
+use Rattle.stages.specs.Stages.{has_store, progress_of, recipe_in}
+use Rattle.stages.specs.Tasks.{Task, object_at}
+use Rattle.stages.specs.Views.{View, is_ready, reads_in}
+use Rattle.stages.specs.declared.stage.Stage.{Stage}
+use Rattle.stages.specs.declared.stage.Stage.TheVariants as stage
+use Rattle.stages.proofs.ListLaws.{get_set_other, get_set_same}
+use Rattle.stages.proofs.PlaceLaws.{each-at, places-at}
+use Rattle.stages.proofs.ReadyLaws.{offered_at}
 use Rattle.board.proofs.SoundLaws.{stage_at}
 use Rattle.board.proofs.TakeLaws.{inputs_there, ready_parts, sound_moved, sound_taken}
 

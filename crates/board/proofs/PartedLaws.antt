@@ -12,20 +12,21 @@ use Rattle.calls.specs.declared.role.Roles.{Roles}
 use Rattle.calls.specs.Roles.{no_roles}
 use Rattle.board.specs.Cuts.{AreCuts, Cutting, IsFound, at_slot, cutting_of, has_more, is_open, offered_on}
 use Rattle.board.specs.Events.{failed, first_progress, issued, placed, with_progress}
-use Rattle.board.specs.Numbers.{IsPicked, numbers}
-use Rattle.board.specs.Progress.{Progress, Untaken, Made, is_underway}
-use Rattle.board.specs.Tasks.{Task}
-use Rattle.board.specs.Views.{View, is_ready, offered}
+use Rattle.stages.specs.Numbers.{numbers}
+use Rattle.board.specs.Picks.{IsPicked}
+use Rattle.stages.specs.Progress.{Progress, Untaken, Made, is_underway}
+use Rattle.stages.specs.Tasks.{Task}
+use Rattle.stages.specs.Views.{View, is_ready, offered}
 use Rattle.board.specs.declared.cut.Cut.{Cut}
 use Rattle.board.specs.declared.look.Refusal.{Refusal}
 use Rattle.board.specs.declared.look.Refusal.TheVariants.{Stranger}
 use Rattle.board.specs.declared.picking.Picked.{Picked}
 use Rattle.board.specs.declared.picking.Picked.TheVariants.{Open, Ready}
 use Rattle.board.proofs.CutLaws.{at_cleared, at_map, at_set_other, cut_same, cut_underway, cuts_issued, cuts_kept, cuts_without, open_past, open_same, open_unready}
-use Rattle.board.proofs.ListLaws.{get_end, get_set_other, length_snoc}
-use Rattle.board.proofs.NumberLaws.{numbers_same}
+use Rattle.stages.proofs.ListLaws.{get_end, get_set_other, length_snoc}
+use Rattle.stages.proofs.NumberLaws.{numbers_same}
 use Rattle.board.proofs.PickLaws.{fails, rank_either}
-use Rattle.board.proofs.ReadyLaws.{offered_is}
+use Rattle.stages.proofs.ReadyLaws.{offered_is}
 
 -- slots of whose tasks a piece wasn't taken
 abbrev pub opens : List (Option Cut) → ℕ → Bool

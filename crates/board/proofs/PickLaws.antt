@@ -3,10 +3,11 @@ use Rattle.std.proofs.Common.{inl, inr, ◌≡◌, ◌∙◌, ℕ, zero, suc, �
 use Rattle.std.proofs.lemmas.Bool.{cases_Bool, cases_eq, cases_lt}
 use Rattle.std.proofs.lemmas.List.{append-nil}
 use Rattle.std.proofs.lemmas.Option.{slice_get_within}
-use Rattle.board.specs.Numbers.{IsPicked, IsPlace, numbers}
+use Rattle.stages.specs.Numbers.{IsPlace, numbers}
+use Rattle.board.specs.Picks.{IsPicked}
 use Rattle.board.specs.declared.picking.Picked.TheVariants.{Ready, Open}
-use Rattle.board.proofs.ListLaws.{get_end, get_left, get_there, length_snoc}
-use Rattle.board.proofs.NumberLaws.{numbers_below, numbers_rise}
+use Rattle.stages.proofs.ListLaws.{get_end, get_left, get_there, length_snoc}
+use Rattle.stages.proofs.NumberLaws.{numbers_below, numbers_rise}
 
 -- how many pass below n
 abbrev pub rank : (ℕ → Bool) → ℕ → ℕ

@@ -16,22 +16,22 @@ use Rattle.store.specs.Stored.{Stored, content_of}
 use Rattle.runner.specs.Tickets.{IsStoreFor}
 use Rattle.kernel.specs.Takes.{AreInputs, Takes, lent_in, map_in}
 use Rattle.board.specs.Pieces.{IsPieceFor, maps_in, recipe_of}
-use Rattle.board.specs.Places.{each}
-use Rattle.board.specs.Sharing.{stored_at}
+use Rattle.stages.specs.Places.{each}
+use Rattle.stages.specs.Sharing.{stored_at}
 use Rattle.board.specs.Sound.{IsSound}
-use Rattle.board.specs.Stages.{has_store, stored_in}
+use Rattle.stages.specs.Stages.{has_store, stored_in}
 use Rattle.board.specs.Stores.{stored_for}
 use Rattle.board.specs.declared.piece.Piece.{Piece}
 use Rattle.board.specs.declared.piece.Stores.{Stores}
 use Rattle.board.specs.declared.piece.TaskRecipe.{TaskRecipe}
-use Rattle.board.specs.Tasks.{Task, known_at, maps_of, object_at, object_in, objects}
-use Rattle.board.specs.declared.stage.Stage.{Stage}
-use Rattle.board.specs.declared.stage.Stage.TheVariants as stage
+use Rattle.stages.specs.Tasks.{Task, known_at, maps_of, object_at, object_in, objects}
+use Rattle.stages.specs.declared.stage.Stage.{Stage}
+use Rattle.stages.specs.declared.stage.Stage.TheVariants as stage
 use Rattle.board.proofs.BoardLaws.{task_at}
 use Rattle.kernel.proofs.PieceLaws.{recipe-is_object}
 use Rattle.kernel.proofs.TakenLaws.{objects-taken}
 use Rattle.board.proofs.ObjectLaws.{made_unfolds, object_at_made, object_unfolds}
-use Rattle.board.proofs.PlaceLaws.{each-at}
+use Rattle.stages.proofs.PlaceLaws.{each-at}
 
 -- an object's store is one of its domain and shape
 store_known : (o : Object) (known : Signature) (m : Content) (s : Stored) → o ≡ object_with known m → IsStoreFor o s → IsObject o

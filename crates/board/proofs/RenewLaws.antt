@@ -4,12 +4,12 @@ use Rattle.std.specs.Prelude.{slice_index}
 use Rattle.std.proofs.lemmas.List.{map-set, set-set}
 use Rattle.store.specs.Stored.{Stored}
 use Rattle.runner.specs.Tickets.{IsStoreFor}
-use Rattle.board.specs.Progress.{Made, Progress, is_begun}
+use Rattle.stages.specs.Progress.{Made, Progress, is_begun}
 use Rattle.board.specs.Sound.{IsKeptAt, IsSound}
-use Rattle.board.specs.Stages.{has_store, is_gone, progress_of, recipe_in, stored_in}
-use Rattle.board.specs.Tasks.{Task, object_at}
-use Rattle.board.specs.declared.stage.Stage.{Stage}
-use Rattle.board.specs.declared.stage.Stage.TheVariants as stage
+use Rattle.stages.specs.Stages.{has_store, is_gone, progress_of, recipe_in, stored_in}
+use Rattle.stages.specs.Tasks.{Task, object_at}
+use Rattle.stages.specs.declared.stage.Stage.{Stage}
+use Rattle.stages.specs.declared.stage.Stage.TheVariants as stage
 use Rattle.board.proofs.SoundLaws.{kept_set, progress_at, sound_of}
 
 -- a slot that has a store was made

@@ -3,7 +3,7 @@ use Rattle.std.proofs.Common.{◌≡◌, Bool, true, false, cond, List, [], ◌�
 use Rattle.std.specs.Prelude.{MatchResult, OnErr, OnOk, Result, Ok, Err}
 use Rattle.board.specs.Schedules.{AreAnswered, AreRight, IsAnswered, IsDone}
 use Rattle.board.specs.Boards.{Shown}
-use Rattle.board.specs.Views.{View}
+use Rattle.stages.specs.Views.{View}
 use Rattle.board.specs.declared.look.Refusal.{Refusal}
 use Rattle.board.specs.declared.look.Refusal.TheVariants.{Stranger}
 use Rattle.board.specs.declared.schedule.Answer.{Answer}

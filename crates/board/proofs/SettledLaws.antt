@@ -2,17 +2,17 @@
 use Rattle.std.proofs.Common.{inl, inr, ◌≡◌, ◌∙◌, ℕ, zero, suc, ◌<◌, true, false, List, [], length, Some, slice_get, refl, sym, ap, arith}
 use Rattle.std.proofs.lemmas.Bool.{and_from, cases_Bool}
 use Rattle.std.proofs.lemmas.Option.{slice_get_within}
-use Rattle.board.specs.Flows.{Flows}
-use Rattle.board.specs.Places.{each}
-use Rattle.board.specs.Progress.{Progress, Untaken, Running, Joining, Made, Moved, Failed, allows, is_joining, is_made, is_running, is_unfinished, is_untaken}
-use Rattle.board.specs.Tasks.{Task}
-use Rattle.board.specs.Views.{is_fed, is_ready, offered}
-use Rattle.board.specs.Numbers.{has, numbers}
-use Rattle.board.proofs.FlowLaws.{below}
-use Rattle.board.proofs.ListLaws.{get_there}
-use Rattle.board.proofs.PlaceLaws.{each-at, each-from}
-use Rattle.board.proofs.NumberLaws.{numbers_has}
-use Rattle.board.proofs.ReadyLaws.{fed_at, offered_is, ready_within}
+use Rattle.stages.specs.Flows.{Flows}
+use Rattle.stages.specs.Places.{each}
+use Rattle.stages.specs.Progress.{Progress, Untaken, Running, Joining, Made, Moved, Failed, allows, is_joining, is_made, is_running, is_unfinished, is_untaken}
+use Rattle.stages.specs.Tasks.{Task}
+use Rattle.stages.specs.Views.{is_fed, is_ready, offered}
+use Rattle.stages.specs.Numbers.{has, numbers}
+use Rattle.stages.proofs.FlowLaws.{below}
+use Rattle.stages.proofs.ListLaws.{get_there}
+use Rattle.stages.proofs.PlaceLaws.{each-at, each-from}
+use Rattle.stages.proofs.NumberLaws.{numbers_has}
+use Rattle.stages.proofs.ReadyLaws.{fed_at, offered_is, ready_within}
 
 module _ (ts : List Task) (ps : List Progress) (flows : Flows ts ps) (unready : (k : ℕ) → is_ready ts ps k ≡ false)
     (idle : (k : ℕ) → (is_running (slice_get ps k) ≡ false) × (is_joining (slice_get ps k) ≡ false)) where

@@ -15,18 +15,18 @@ use Rattle.pieces.specs.Parts.{Parts, cut_at}
 use Rattle.pieces.specs.declared.part.Part.TheVariants.{Due, Given}
 use Rattle.store.specs.Stored.{Stored}
 use Rattle.board.specs.Cuts.{AreCuts, AreSame, Cutting, GoesCut, IsCutFor, IsNext, IsPut, IsShared, Parted, at_slot, cutting_of, has_more, may_cut, one_taken}
-use Rattle.board.specs.Numbers.{numbers}
+use Rattle.stages.specs.Numbers.{numbers}
 use Rattle.board.specs.Pieces.{AreFor, IsPieceFor, maps_in, recipe_of, rows_for}
-use Rattle.board.specs.Progress.{Progress}
+use Rattle.stages.specs.Progress.{Progress}
 use Rattle.board.specs.Stores.{stored_for}
-use Rattle.board.specs.Tasks.{Task}
+use Rattle.stages.specs.Tasks.{Task}
 use Rattle.board.specs.declared.cut.Cut.{Cut}
 use Rattle.board.specs.declared.cut.CutTask.{CutTask}
 use Rattle.board.specs.declared.piece.Piece.{Piece}
 use Rattle.board.specs.declared.piece.Stores.{Stores}
 use Rattle.board.proofs.CutLaws.{at_map, at_set, at_set_other, open_same}
-use Rattle.board.proofs.ListLaws.{length_set}
-use Rattle.board.proofs.NumberLaws.{numbers_same}
+use Rattle.stages.proofs.ListLaws.{length_set}
+use Rattle.stages.proofs.NumberLaws.{numbers_same}
 use Rattle.board.proofs.PartedLaws.{opens}
 
 -- ---- what a task needs

@@ -8,22 +8,22 @@ use Rattle.std.proofs.lemmas.Option.{slice_get-map}
 use Rattle.store.specs.Stored.{Stored}
 use Rattle.model.specs.Object.{IsObject}
 use Rattle.runner.specs.Tickets.{IsStoreFor}
-use Rattle.board.specs.Flows.{Flows, IsWaked}
-use Rattle.board.specs.Numbers.{has, numbers}
-use Rattle.board.specs.Places.{each, places_of}
-use Rattle.board.specs.Progress.{Progress, Untaken, Running, Joining, Made, Moved, Failed, allows, is_made, is_unfinished, is_untaken}
+use Rattle.stages.specs.Flows.{Flows, IsWaked}
+use Rattle.stages.specs.Numbers.{has, numbers}
+use Rattle.stages.specs.Places.{each, places_of}
+use Rattle.stages.specs.Progress.{Progress, Untaken, Running, Joining, Made, Moved, Failed, allows, is_made, is_unfinished, is_untaken}
 use Rattle.board.specs.Sound.{AreFit, IsCounted, IsKept, IsKeptAt, IsSound}
-use Rattle.board.specs.Stages.{is_gone, progress_of, recipe_in, released, released_if, stored_in}
-use Rattle.board.specs.Tasks.{Task, object_at}
-use Rattle.board.specs.Views.{is_ready, offered}
-use Rattle.board.specs.declared.stage.Stage.{Stage}
-use Rattle.board.specs.declared.stage.Stage.TheVariants as stage
-use Rattle.board.proofs.FlowLaws.{flows_set}
-use Rattle.board.proofs.ListLaws.{get_set, length_set}
-use Rattle.board.proofs.NumberLaws.{numbers_same}
-use Rattle.board.proofs.ReadLaws.{reads_less, reads_same}
-use Rattle.board.proofs.ReadyLaws.{offered_is, offered_same, ready_made, ready_not}
-use Rattle.board.proofs.WakeLaws.{waked_set}
+use Rattle.stages.specs.Stages.{is_gone, progress_of, recipe_in, released, released_if, stored_in}
+use Rattle.stages.specs.Tasks.{Task, object_at}
+use Rattle.stages.specs.Views.{is_ready, offered}
+use Rattle.stages.specs.declared.stage.Stage.{Stage}
+use Rattle.stages.specs.declared.stage.Stage.TheVariants as stage
+use Rattle.stages.proofs.FlowLaws.{flows_set}
+use Rattle.stages.proofs.ListLaws.{get_set, length_set}
+use Rattle.stages.proofs.NumberLaws.{numbers_same}
+use Rattle.stages.proofs.ReadLaws.{reads_less, reads_same}
+use Rattle.stages.proofs.ReadyLaws.{offered_is, offered_same, ready_made, ready_not}
+use Rattle.stages.proofs.WakeLaws.{waked_set}
 
 -- ---- progress
 

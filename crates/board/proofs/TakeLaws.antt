@@ -5,18 +5,18 @@ use Rattle.std.proofs.lemmas.Bool.{and_parts, not-true}
 use Rattle.std.proofs.lemmas.List.{length-map}
 use Rattle.std.proofs.lemmas.Option.{slice_get_within}
 use Rattle.model.specs.Object.{IsObject}
-use Rattle.board.specs.Places.{each, places_of}
-use Rattle.board.specs.Progress.{Progress, Untaken, Running, Joining, Made, Moved, Failed, allows, is_failed, is_made, is_moved, is_unfinished, is_untaken}
+use Rattle.stages.specs.Places.{each, places_of}
+use Rattle.stages.specs.Progress.{Progress, Untaken, Running, Joining, Made, Moved, Failed, allows, is_failed, is_made, is_moved, is_unfinished, is_untaken}
 use Rattle.board.specs.Sound.{IsSound}
-use Rattle.board.specs.Stages.{has_store, progress_of}
-use Rattle.board.specs.Tasks.{Task, object_at}
-use Rattle.board.specs.Views.{is_fed, is_ready, reads_in}
-use Rattle.board.specs.declared.stage.Stage.{Stage}
-use Rattle.board.specs.declared.stage.Stage.TheVariants as stage
-use Rattle.board.proofs.ListLaws.{get_there}
-use Rattle.board.proofs.PlaceLaws.{each-at, each-from, places-at}
-use Rattle.board.proofs.ReadLaws.{reads_above, reads_sole}
-use Rattle.board.proofs.ReadyLaws.{fed_at, offered_remove, offered_same, ready_not, untaken_some}
+use Rattle.stages.specs.Stages.{has_store, progress_of}
+use Rattle.stages.specs.Tasks.{Task, object_at}
+use Rattle.stages.specs.Views.{is_fed, is_ready, reads_in}
+use Rattle.stages.specs.declared.stage.Stage.{Stage}
+use Rattle.stages.specs.declared.stage.Stage.TheVariants as stage
+use Rattle.stages.proofs.ListLaws.{get_there}
+use Rattle.stages.proofs.PlaceLaws.{each-at, each-from, places-at}
+use Rattle.stages.proofs.ReadLaws.{reads_above, reads_sole}
+use Rattle.stages.proofs.ReadyLaws.{fed_at, offered_remove, offered_same, ready_not, untaken_some}
 use Rattle.board.proofs.SoundLaws.{progress_at, sound_set, stage_at}
 
 -- ---- a slot that is ready

@@ -3,7 +3,7 @@ use Rattle.std.specs.Prelude.{List, Option, map}
 use Rattle.std.specs.Option.{option_map}
 use Rattle.board.specs.Cuts.{Cutting, cutting_of}
 use Rattle.board.specs.SlotViews.{slots_view}
-use Rattle.board.specs.Views.{View}
+use Rattle.stages.specs.Views.{View}
 use Rattle.board.specs.declared.board.Board.{Board}
 
 abbrev pub view_of : {N : Type 0} → Board N → View N

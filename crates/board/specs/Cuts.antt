@@ -16,12 +16,12 @@ use Rattle.pieces.specs.declared.part.Part.TheVariants.{Given as WasGiven}
 use Rattle.pieces.specs.declared.pieces.Refused.{Refused}
 use Rattle.pieces.specs.declared.pieces.Refused.TheVariants as refused
 use Rattle.board.specs.Events.{given_to as given_whole, taken, with_progress}
-use Rattle.board.specs.Numbers.{numbers}
+use Rattle.stages.specs.Numbers.{numbers}
 use Rattle.board.specs.Pieces.{AreFor, IsBlockFor, is_whole, recipe_of, rows_for}
-use Rattle.board.specs.Progress.{Progress, Joining, Running}
+use Rattle.stages.specs.Progress.{Progress, Joining, Running}
 use Rattle.board.specs.Stores.{stored_for}
-use Rattle.board.specs.Tasks.{Task, object_at}
-use Rattle.board.specs.Views.{View, is_ready, offered}
+use Rattle.stages.specs.Tasks.{Task, object_at}
+use Rattle.stages.specs.Views.{View, is_ready, offered}
 use Rattle.board.specs.declared.cut.Cut.{Cut}
 use Rattle.board.specs.declared.cut.Cut.TheVariants as cut
 use Rattle.board.specs.declared.cut.CutTask.{CutTask}

@@ -15,14 +15,14 @@ use Rattle.kernel.specs.declared.block.Block.{Block}
 use Rattle.model.specs.declared.shape.Signature.{Signature}
 use Rattle.board.specs.Falls.{fallen}
 use Rattle.board.specs.Pieces.{fits_slot}
-use Rattle.board.specs.Places.{each}
-use Rattle.board.specs.Progress.{Progress, Untaken, Running, Made, Moved, Failed, is_failed, is_joining, is_running}
-use Rattle.board.specs.Progress.{is_unfinished}
-use Rattle.board.specs.Tasks.{Task, known_at}
+use Rattle.stages.specs.Places.{each}
+use Rattle.stages.specs.Progress.{Progress, Untaken, Running, Made, Moved, Failed, is_failed, is_joining, is_running}
+use Rattle.stages.specs.Progress.{is_unfinished}
+use Rattle.stages.specs.Tasks.{Task, known_at}
 use Rattle.board.specs.declared.look.Refusal.{Refusal}
 use Rattle.board.specs.declared.look.Refusal.TheVariants.{Stranger, Twice}
-use Rattle.board.specs.Views.{is_ready, State, IsWaiting, IsReady, IsRunning, IsJoining, IsDone, HasFailed, IsGone}
-use Rattle.board.specs.Views.{View, reads_in, state_of}
+use Rattle.stages.specs.Views.{is_ready, State, IsWaiting, IsReady, IsRunning, IsJoining, IsDone, HasFailed, IsGone}
+use Rattle.stages.specs.Views.{View, reads_in, state_of}
 
 abbrev pub is_gone : State → Bool
 is_gone IsGone = true

@@ -1,10 +1,10 @@
 -- What is true of a board while slots fail, from the lowest on.
 use Rattle.std.specs.Prelude.{ℕ, List, map}
-use Rattle.board.specs.Flows.{FlowsBelow}
+use Rattle.stages.specs.Flows.{FlowsBelow}
 use Rattle.board.specs.Sound.{IsCounted, IsKept}
-use Rattle.board.specs.Stages.{progress_of}
-use Rattle.board.specs.Tasks.{Task}
-use Rattle.board.specs.declared.stage.Stage.{Stage}
+use Rattle.stages.specs.Stages.{progress_of}
+use Rattle.stages.specs.Tasks.{Task}
+use Rattle.stages.specs.declared.stage.Stage.{Stage}
 
 -- slots below n rest on none that failed
 pub record IsFalling (n : ℕ) (ts : List Task) (stages : List Stage) (holds reads : List ℕ) : Type 0 where

@@ -2,10 +2,10 @@
 use Rattle.std.specs.Prelude.{ℕ, zero, suc, ◌≡◌, ◌&&◌, not, Bool, true, false, List, length, if◌then◌else◌, slice_get}
 use Rattle.std.specs.Prelude.{slice_set}
 use Rattle.std.specs.Option.{option_map_or}
-use Rattle.board.specs.Places.{each}
-use Rattle.board.specs.Progress.{Progress, Failed, is_failed, is_made, is_unfinished, is_untaken}
-use Rattle.board.specs.Tasks.{Task}
-use Rattle.board.specs.Views.{is_ready}
+use Rattle.stages.specs.Places.{each}
+use Rattle.stages.specs.Progress.{Progress, Failed, is_failed, is_made, is_unfinished, is_untaken}
+use Rattle.stages.specs.Tasks.{Task}
+use Rattle.stages.specs.Views.{is_ready}
 
 -- whether a slot is unfinished, and an input of it has failed
 abbrev pub falls : List Task → List Progress → ℕ → Bool

@@ -7,8 +7,8 @@ use Rattle.calls.specs.Recipes.{known_by}
 use Rattle.calls.specs.Roles.{role_of}
 use Rattle.model.specs.declared.shape.Signature.{Signature}
 use Rattle.board.specs.Looks.{is_seen_gone, seen_at}
-use Rattle.board.specs.Tasks.{Task, known_at}
-use Rattle.board.specs.declared.stage.Stage.{Stage}
+use Rattle.stages.specs.Tasks.{Task, known_at}
+use Rattle.stages.specs.declared.stage.Stage.{Stage}
 
 -- a role that is read has a slot with such an object, which isn't gone, and no other role has one
 abbrev pub IsThere : List Task → List Stage → Option Signature → Option ℕ → Type 0

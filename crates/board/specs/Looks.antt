@@ -2,11 +2,11 @@
 use Rattle.std.specs.Prelude.{Bool, true, false, Option, Some, None}
 use Rattle.std.specs.Arc.{arc_value}
 use Rattle.store.specs.Stored.{Stored}
-use Rattle.board.specs.Views.{State, IsWaiting, IsReady, IsRunning, IsJoining, IsDone, HasFailed, IsGone}
+use Rattle.stages.specs.Views.{State, IsWaiting, IsReady, IsRunning, IsJoining, IsDone, HasFailed, IsGone}
 use Rattle.board.specs.declared.look.Look.{Look}
 use Rattle.board.specs.declared.look.Look.TheVariants.{Unfinished, Done, Failed, Gone}
-use Rattle.board.specs.declared.stage.Stage.{Stage}
-use Rattle.board.specs.declared.stage.Stage.TheVariants as stage
+use Rattle.stages.specs.declared.stage.Stage.{Stage}
+use Rattle.stages.specs.declared.stage.Stage.TheVariants as stage
 
 pub data Seen : Type 0 where
   SeenUnfinished : Seen

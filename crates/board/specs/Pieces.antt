@@ -14,9 +14,9 @@ use Rattle.kernel.specs.Takes.{Takes, map_in}
 use Rattle.model.specs.Object.{Content, IsObject, cols_of, rows_of}
 use Rattle.runner.specs.Tickets.{IsStoreFor}
 use Rattle.store.specs.Stored.{Stored}
-use Rattle.board.specs.Places.{each}
+use Rattle.stages.specs.Places.{each}
 use Rattle.board.specs.Stores.{stored_for}
-use Rattle.board.specs.Tasks.{Task, object_at}
+use Rattle.stages.specs.Tasks.{Task, object_at}
 use Rattle.board.specs.declared.piece.Piece.{Piece}
 use Rattle.board.specs.declared.piece.Stores.{Stores}
 use Rattle.board.specs.declared.piece.TaskRecipe.{TaskRecipe}

@@ -2,7 +2,7 @@
 use Rattle.std.specs.Prelude.{ℕ, ◌≡◌, List, [], ◌∷◌, Some, slice_get}
 use Rattle.calls.specs.declared.role.Role.{Role}
 use Rattle.calls.specs.Roles.{role_of}
-use Rattle.board.specs.Tasks.{Task}
+use Rattle.stages.specs.Tasks.{Task}
 
 -- a slot takes a role of another's task
 abbrev pub IsInput : List Task → ℕ → ℕ → Type 0

@@ -10,9 +10,9 @@ use Rattle.board.specs.Events.{Accepts, failed, issued, may_fail, may_hold, may_
 use Rattle.board.specs.Events.{with_holds, with_progress}
 use Rattle.board.specs.Looks.{Seen, SeenDone, SeenFailed, SeenGone, SeenUnfinished, seen_of}
 use Rattle.board.specs.Pieces.{IsBlockFor, IsPieceFor}
-use Rattle.board.specs.Progress.{Made, is_joining}
-use Rattle.board.specs.Tasks.{object_at}
-use Rattle.board.specs.Views.{state_of}
+use Rattle.stages.specs.Progress.{Made, is_joining}
+use Rattle.stages.specs.Tasks.{object_at}
+use Rattle.stages.specs.Views.{state_of}
 use Rattle.board.specs.declared.look.Refusal.TheVariants.{Stranger, NoMemory}
 use Rattle.board.specs.declared.schedule.Answer.{Answer}
 use Rattle.board.specs.declared.schedule.Answer.TheVariants as answer

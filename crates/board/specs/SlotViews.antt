@@ -1,8 +1,8 @@
 -- Slots as they are seen.
 use Rattle.std.specs.Prelude.{map}
-use Rattle.board.specs.Slots.{task_of}
-use Rattle.board.specs.Stages.{progress_of}
-use Rattle.board.specs.Views.{View}
+use Rattle.stages.specs.Slots.{task_of}
+use Rattle.stages.specs.Stages.{progress_of}
+use Rattle.stages.specs.Views.{View}
 use Rattle.board.specs.declared.slots.Slots.{Slots}
 
 abbrev pub slots_view : {N : Type 0} → Slots N → View N

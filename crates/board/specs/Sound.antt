@@ -8,12 +8,12 @@ use Rattle.calls.specs.Recipes.{known_by}
 use Rattle.model.specs.Object.{IsObject}
 use Rattle.runner.specs.Tickets.{IsStoreFor}
 use Rattle.store.specs.Stored.{Stored}
-use Rattle.board.specs.Flows.{Flows, IsWaked}
-use Rattle.board.specs.Progress.{Progress, is_begun}
-use Rattle.board.specs.Stages.{has_store, is_gone, progress_of, recipe_in, stored_in}
-use Rattle.board.specs.Tasks.{Task, known_in, object_at}
-use Rattle.board.specs.Views.{offered, reads_in}
-use Rattle.board.specs.declared.stage.Stage.{Stage}
+use Rattle.stages.specs.Flows.{Flows, IsWaked}
+use Rattle.stages.specs.Progress.{Progress, is_begun}
+use Rattle.stages.specs.Stages.{has_store, is_gone, progress_of, recipe_in, stored_in}
+use Rattle.stages.specs.Tasks.{Task, known_in, object_at}
+use Rattle.stages.specs.Views.{offered, reads_in}
+use Rattle.stages.specs.declared.stage.Stage.{Stage}
 
 -- what takes the roles of tasks is what their recipes read
 abbrev pub AreFit : List Task → Type 0

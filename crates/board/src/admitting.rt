@@ -4,16 +4,12 @@ ghost use Rattle.std.specs.Prelude.{slice_get, slice_index, vec_len};
 ghost use Rattle.std.specs.Bool.{OnTrue};
 ghost use Rattle.std.specs.Vec.{vec_capacity};
 ghost use Rattle.std.specs.VecDeque.{deque_capacity, deque_len};
-ghost use Rattle.board.specs.Places.{each, passes, places_of};
-ghost use Rattle.board.specs.Progress.{is_failed, is_made};
-ghost use Rattle.board.specs.Stages.{progress_of};
+ghost use Rattle.stages.specs.Places.{each, passes, places_of};
+ghost use Rattle.stages.specs.Progress.{is_failed, is_made};
+ghost use Rattle.stages.specs.Stages.{progress_of};
 
-use crate::inputs::Inputs;
-use crate::reads::read_more;
-use crate::slot::Slot;
-use crate::stage::{Stage, is_failed};
-use crate::waiting::Readers;
 use calls::Recipe;
+use stages::{Inputs, Readers, Slot, Stage, is_failed, read_more};
 use std::collections::VecDeque;
 
 // No memory holds so many slots; so many places can be counted.

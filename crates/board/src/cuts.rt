@@ -7,16 +7,16 @@ ghost use Rattle.std.specs.Option.{option_and_then, option_map, option_map_or};
 ghost use Rattle.kernel.specs.Covers.{Covers};
 ghost use Rattle.board.specs.Cuts.{IfSeveral, IsOf, KeepsTask, after_cut, at_slot, cutting_of, has_more, is_open};
 ghost use Rattle.board.specs.Cuts.{one_more, task_at, task_of_cut, told_blocks, told_cut};
-ghost use Rattle.board.specs.Numbers.{numbers};
+ghost use Rattle.stages.specs.Numbers.{numbers};
 ghost use Rattle.pieces.specs.Parts.{blocks_in};
 ghost use Rattle.pieces.specs.declared.part.Part.TheVariants as AnyPart;
 
 use crate::cut::Cut;
 use crate::look::Refusal;
 use crate::piece::{Given, Piece};
-use crate::ready::withdraw;
 use kernel::Block;
 use model::NoMemory;
+use stages::withdraw;
 use std::collections::VecDeque;
 
 /// Whether a slot's task is cut.

@@ -3,15 +3,13 @@ ghost use Rattle.std.specs.Prelude.{◌≡◌, ◌≤◌, ◌<◌, ◌+◌, List
 ghost use Rattle.std.specs.Option.{option_map_or};
 ghost use Rattle.board.specs.Falls.{KeepsReady, fall_at, fallen_below, falls};
 ghost use Rattle.board.specs.Falling.{IsFalling};
-ghost use Rattle.board.specs.Places.{each};
-ghost use Rattle.board.specs.Progress.{Failed, Progress as AnyProgress, is_failed, is_unfinished};
-ghost use Rattle.board.specs.Slots.{task_of};
-ghost use Rattle.board.specs.Stages.{progress_of};
+ghost use Rattle.stages.specs.Places.{each};
+ghost use Rattle.stages.specs.Progress.{Failed, Progress as AnyProgress, is_failed, is_unfinished};
+ghost use Rattle.stages.specs.Slots.{task_of};
+ghost use Rattle.stages.specs.Stages.{progress_of};
 
 use crate::admitting::none_failed;
-use crate::reads::{read_less, release_each};
-use crate::slot::Slot;
-use crate::stage::{Stage, is_unfinished, put};
+use stages::{Slot, Stage, is_unfinished, put, read_less, release_each};
 
 /// A slot fails, and its places read their slots no longer.
 pub(crate) fn end<N>(

@@ -4,13 +4,12 @@ ghost use Rattle.std.specs.Option.{option_map};
 ghost use Rattle.calls.specs.Recipes.{inputs_of};
 ghost use Rattle.calls.specs.Roles.{lent_roles};
 ghost use Rattle.board.specs.Fits.{AreThere, IsThere};
-ghost use Rattle.board.specs.Slots.{task_of};
-ghost use Rattle.board.specs.Tasks.{known_at};
+ghost use Rattle.stages.specs.Slots.{task_of};
+ghost use Rattle.stages.specs.Tasks.{known_at};
 
 use crate::looking::is_gone;
-use crate::slot::Slot;
-use crate::stage::Stage;
 use calls::{Recipe, Roles, Signature, lent_by_role};
+use stages::{Slot, Stage};
 
 /// What is known of the inputs of a recipe.
 #[inline(always)]

@@ -2,10 +2,10 @@
 ghost use Rattle.std.specs.Prelude.{◌≡◌, slice_get};
 ghost use Rattle.std.specs.Option.{option_and_then};
 ghost use Rattle.board.specs.Looks.{is_seen_gone, seen_at, seen_in, store_in};
-ghost use Rattle.board.specs.Stages.{stored_in};
+ghost use Rattle.stages.specs.Stages.{stored_in};
 
 use crate::look::Look;
-use crate::stage::Stage;
+use stages::Stage;
 
 /// What there is of a slot at its stage.
 pub(crate) fn look_at(stages: &[Stage], number: u64) -> Look<'_>

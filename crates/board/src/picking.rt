@@ -1,8 +1,9 @@
 //! The slot at a place among those that can be taken, which stand in two lists.
 ghost use Rattle.std.specs.Prelude.{◌≡◌, ◌<◌, ◌+◌, ℕ, Bool as Test, length, true};
-ghost use Rattle.board.specs.Numbers.{IsPicked, numbers};
+ghost use Rattle.stages.specs.Numbers.{numbers};
+ghost use Rattle.board.specs.Picks.{IsPicked};
 
-use crate::ready::place_of;
+use stages::place_of;
 use std::collections::VecDeque;
 
 /// Where the slot at a place stands.

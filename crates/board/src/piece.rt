@@ -5,10 +5,10 @@ ghost use Rattle.kernel.specs.Takes.{lent_in};
 ghost use Rattle.std.specs.Arc.{arc_value};
 ghost use Rattle.std.specs.Option.{option_map};
 
-use crate::sharing::again;
 use calls::{Recipe, Roles};
 use kernel::Block;
 use model::NoMemory;
+use stages::again;
 use std::alloc::Global;
 use std::ops::Range;
 use std::sync::Arc;

@@ -1,30 +1,25 @@
 //! Slots, whose tasks are whole.
 ghost use Rattle.std.specs.Prelude.{◌≡◌, map};
 ghost use Rattle.std.specs.VecDeque.{deque_capacity};
-ghost use Rattle.board.specs.Slots.{task_of};
+ghost use Rattle.stages.specs.Slots.{task_of};
 ghost use Rattle.board.specs.Sound.{IsSound};
 
 use crate::admitting::{first_stage, make_room, may_wait, offer, read_if};
 use crate::blocks::has_rows;
 use crate::falling::{end, spread};
 use crate::fitting::are_there;
-use crate::inputs::Inputs;
 use crate::look::{Look, Refusal};
 use crate::looking::{is_gone, look_at};
 use crate::piece::{Piece, Stores, TaskRecipe};
-use crate::reads::{hold_less, hold_more, is_unasked, is_used, read_less, release, release_each};
-use crate::ready::{remove_at, withdraw};
-use crate::sharing::{again, claim, share};
-use crate::slot::Slot;
-use crate::stage::{
-    Stage, are_made, is_done, is_joining, is_running, put, take_recipe, take_store,
-};
-use crate::waiting::{Readers, wait_for};
-use crate::waking::{can_fail, wake};
 use calls::{Recipe, Roles};
 use kernel::Block;
 use model::NoMemory;
 use smallvec::SmallVec;
+use stages::{
+    Inputs, Readers, Slot, Stage, again, are_made, can_fail, claim, hold_less, hold_more, is_done,
+    is_joining, is_running, is_unasked, is_used, put, read_less, release, release_each, remove_at,
+    share, take_recipe, take_store, wait_for, wake, withdraw,
+};
 use std::alloc::Global;
 use std::collections::VecDeque;
 use std::sync::Arc;
@@ -57,11 +52,11 @@ impl<N: Drop> Slots<N> {
     ghost use Rattle.board.specs.Fits.{AreThere};
     ghost use Rattle.board.specs.Looks.{seen_in, seen_of, store_in};
     ghost use Rattle.board.specs.Pieces.{IsPieceFor, fits_slot, is_whole};
-    ghost use Rattle.board.specs.Places.{each};
-    ghost use Rattle.board.specs.Progress.{Failed, Joining, Made, Progress as AnyProgress, is_joining, is_running};
-    ghost use Rattle.board.specs.Progress.{is_underway, is_unfinished, is_untaken};
-    ghost use Rattle.board.specs.Tasks.{object_at};
-    ghost use Rattle.board.specs.Views.{offered, reads_in, state_of};
+    ghost use Rattle.stages.specs.Places.{each};
+    ghost use Rattle.stages.specs.Progress.{Failed, Joining, Made, Progress as AnyProgress, is_joining, is_running};
+    ghost use Rattle.stages.specs.Progress.{is_underway, is_unfinished, is_untaken};
+    ghost use Rattle.stages.specs.Tasks.{object_at};
+    ghost use Rattle.stages.specs.Views.{offered, reads_in, state_of};
     ghost use Rattle.calls.specs.Roles.{no_roles};
     ghost use Rattle.calls.specs.Recipes.{known_of};
     ghost use Rattle.model.specs.Object.{IsObject, rows_of};

@@ -9,9 +9,9 @@ use Rattle.board.specs.Boards.{cuts_of, view_of}
 use Rattle.board.specs.Cuts.{AreCuts, Cutting, GoesOut, IsPut, IsTakenBy, IsTakenFrom, at_slot, cutting_of, has_more, is_open, offered_on, picked_on}
 use Rattle.board.specs.Events.{failed, may_fail, taken}
 use Rattle.board.specs.Pieces.{is_whole}
-use Rattle.board.specs.Progress.{Progress, is_joining, is_running}
-use Rattle.board.specs.Tasks.{Task}
-use Rattle.board.specs.Views.{View, is_ready, offered}
+use Rattle.stages.specs.Progress.{Progress, is_joining, is_running}
+use Rattle.stages.specs.Tasks.{Task}
+use Rattle.stages.specs.Views.{View, is_ready, offered}
 use Rattle.board.specs.declared.board.Board.{Board}
 use Rattle.board.specs.declared.cut.Cut.{Cut}
 use Rattle.board.specs.declared.cut.Cut.TheVariants as cut
@@ -19,7 +19,7 @@ use Rattle.board.specs.declared.look.Refusal.{Refusal}
 use Rattle.board.specs.declared.look.Refusal.TheVariants.{Stranger}
 use Rattle.board.specs.declared.piece.Piece.{Piece}
 use Rattle.board.proofs.CutLaws.{at_map}
-use Rattle.board.proofs.NumberLaws.{numbers_below, numbers_same}
+use Rattle.stages.proofs.NumberLaws.{numbers_below, numbers_same}
 use Rattle.desk.specs.Ends.{unfinished}
 use Rattle.desk.specs.Works.{AreUncut}
 use Rattle.desk.proofs.EndLaws.{at_most_taken, fewer_left, or_left, or_right, running_taken}

@@ -5,9 +5,9 @@ use Rattle.std.specs.Prelude.{nat_lt, Result, Ok, Err, OnOk, OnErr}
 use Rattle.std.specs.Option.{option_map, option_map_or}
 use Rattle.std.proofs.lemmas.Bool.Decides.{nat_tests}
 use Rattle.board.specs.Events.{Accepts, IsTaken, issued, placed}
-use Rattle.board.specs.Places.{each, passes}
-use Rattle.board.specs.Tasks.{Task, known_at, maps_of, object_at, objects}
-use Rattle.board.specs.Views.{View}
+use Rattle.stages.specs.Places.{each, passes}
+use Rattle.stages.specs.Tasks.{Task, known_at, maps_of, object_at, objects}
+use Rattle.stages.specs.Views.{View}
 use Rattle.board.specs.declared.look.Refusal.{Refusal}
 use Rattle.board.proofs.GivenLaws.{given_object}
 use Rattle.board.proofs.ObjectLaws.{made_unfolds, object_at_left, object_at_made}

@@ -5,15 +5,15 @@ use Rattle.std.specs.Prelude.{OnErr, OnOk, Result, Ok, Err}
 use Rattle.std.specs.Option.{option_and_then, option_map_or}
 use Rattle.board.specs.Events.{failed, may_fail, moved_by, sole_in, taken, with_moved, with_progress}
 use Rattle.board.specs.Falls.{fall_at, fallen, fallen_below, falls}
-use Rattle.board.specs.Places.{each}
-use Rattle.board.specs.Progress.{Progress, Untaken, Running, Joining, Made, Moved, Failed, is_joining, is_made, is_running, is_unfinished, is_untaken}
-use Rattle.board.specs.Tasks.{Task}
-use Rattle.board.specs.Views.{View, is_fed, is_ready}
+use Rattle.stages.specs.Places.{each}
+use Rattle.stages.specs.Progress.{Progress, Untaken, Running, Joining, Made, Moved, Failed, is_joining, is_made, is_running, is_unfinished, is_untaken}
+use Rattle.stages.specs.Tasks.{Task}
+use Rattle.stages.specs.Views.{View, is_fed, is_ready}
 use Rattle.board.specs.declared.look.Refusal.{Refusal}
 use Rattle.board.specs.declared.look.Refusal.TheVariants.{Stranger}
-use Rattle.board.proofs.ListLaws.{get_set_other, get_set_same}
-use Rattle.board.proofs.PlaceLaws.{each-at}
-use Rattle.board.proofs.ReadyLaws.{untaken_some}
+use Rattle.stages.proofs.ListLaws.{get_set_other, get_set_same}
+use Rattle.stages.proofs.PlaceLaws.{each-at}
+use Rattle.stages.proofs.ReadyLaws.{untaken_some}
 use Rattle.calls.specs.declared.role.Role.TheVariants.{Old}
 use Rattle.desk.specs.Ends.{unfinished}
 

@@ -3,7 +3,7 @@ use Rattle.std.proofs.Common.{inl, inr, ◌≡◌, ◌∙◌, ◌<◌, ◌&&◌,
 use Rattle.std.specs.List.{All}
 use Rattle.std.proofs.lemmas.Bool.{and_parts, cases_Bool, eqb-true, ltb-true}
 use Rattle.board.specs.Pieces.{IsPieceFor, is_whole, maps_in, recipe_of, rows_for}
-use Rattle.board.specs.Tasks.{Task}
+use Rattle.stages.specs.Tasks.{Task}
 use Rattle.board.specs.declared.piece.Piece.{Piece}
 use Rattle.calls.specs.declared.recipe.Recipe.{Recipe}
 use Rattle.calls.specs.declared.role.Role.{Role}

@@ -1,8 +1,8 @@
 -- Tickets, and the slots that they are of.
 use Rattle.std.specs.Prelude.{ℕ, ◌≡◌, ◌==◌, ◌&&◌, Bool, false, List, Option, Some, None, slice_get}
 use Rattle.std.specs.Option.{option_map_or}
-use Rattle.board.specs.Tasks.{Task, object_at}
-use Rattle.board.specs.Views.{View}
+use Rattle.stages.specs.Tasks.{Task, object_at}
+use Rattle.stages.specs.Views.{View}
 use Rattle.desk.specs.declared.ticket.Ticket.{Ticket}
 use Rattle.history.specs.Histories.{Told, object_of}
 use Rattle.model.specs.Object.{Object}

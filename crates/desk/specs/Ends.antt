@@ -1,6 +1,6 @@
 -- How much is left to do of a board.
 use Rattle.std.specs.Prelude.{ℕ, ◌+◌, if◌then◌else◌, List, [], ◌∷◌}
-use Rattle.board.specs.Progress.{Progress, is_unfinished}
+use Rattle.stages.specs.Progress.{Progress, is_unfinished}
 
 -- how many slots are to come
 abbrev pub unfinished : List Progress → ℕ

@@ -3,7 +3,7 @@ ghost use Rattle.std.specs.Prelude.{◌≡◌, IfSome, None, [], slice_get, true
 ghost use Rattle.board.specs.Boards.{cuts_of, view_of};
 ghost use Rattle.board.specs.Cuts.{offered_on};
 ghost use Rattle.board.specs.Pieces.{IsPieceFor};
-ghost use Rattle.board.specs.Progress.{is_running};
+ghost use Rattle.stages.specs.Progress.{is_running};
 
 use crate::picker::Picker;
 use board::{Board, Look, Piece};

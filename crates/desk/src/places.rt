@@ -2,7 +2,7 @@
 ghost use Rattle.std.specs.Prelude.{◌≡◌, IfSome, None, Some, if◌then◌else◌};
 ghost use Rattle.std.specs.Option.{option_map};
 ghost use Rattle.board.specs.Boards.{view_of};
-ghost use Rattle.board.specs.Tasks.{object_at};
+ghost use Rattle.stages.specs.Tasks.{object_at};
 ghost use Rattle.calls.specs.declared.role.Role.{Role as AnyRole};
 ghost use Rattle.calls.specs.Roles.{role_of};
 ghost use Rattle.desk.specs.Desks.{AreTold, IsPlaceOf, is_on, object_in};

@@ -3,7 +3,7 @@ ghost use Rattle.std.specs.Prelude.{◌≡◌, ◌<◌, IfOk};
 ghost use Rattle.std.specs.Arc.{arc_value};
 ghost use Rattle.std.specs.Bool.{OnTrue};
 ghost use Rattle.board.specs.Boards.{cuts_of, view_of};
-ghost use Rattle.board.specs.Tasks.{object_at};
+ghost use Rattle.stages.specs.Tasks.{object_at};
 ghost use Rattle.desk.specs.Ends.{unfinished};
 ghost use Rattle.desk.specs.Works.{AreUncut};
 ghost use Rattle.runner.specs.Tickets.{IsStoreFor};

@@ -1,3 +1,1 @@
-pub mod EndLaws
-pub mod WorkLaws
 pub mod SendLaws

@@ -3,20 +3,16 @@ use denote.RattleType.{RattleType}
 use denote.Param.Send.{IsSend, IsSync, sendable}
 use Rattle.std.proofs.Crossing.{crosses}
 use Rattle.boxcar.proofs.Sent.{slot_send, slot_sync, tag_send, tag_sync}
-use Rattle.board.specs.contracts.board.Board as B
-use Rattle.board.proofs.SendLaws.{board_send}
 use Rattle.desk.specs.contracts.spares.Spares as D
 use Rattle.journal.specs.declared.journal.Naming.{Ghosts}
 use Rattle.journal.specs.contracts.entry.Entry as E
 use Rattle.journal.specs.contracts.journal.Log as L
-use Rattle.journal.specs.contracts.journal.Note as N
 use Rattle.journal.proofs.entry.Entry.TheLaws.TheKnot as knot
-use Rattle.journal.proofs.journal.Note.TheSendSync as note
-use Rattle.pool.specs.contracts.crew.Crew as C
 use Rattle.pool.specs.contracts.named.Named as M
 use Rattle.pool.specs.contracts.shared.Shared as S
 use Rattle.pool.specs.contracts.spares.SharedSpares as Q
-use Rattle.pool.specs.contracts.tasks.Tasks as T
+use Rattle.tasks.specs.contracts.tasks.Tasks as T
+use Rattle.tasks.proofs.SendLaws.{tasks_send}
 
 entry_send : IsSend E.the_row
 entry_send = search (sendable, crosses, knot.send-Entry) depth 100 fits 20000
@@ -36,9 +32,6 @@ named_send J g = search (sendable, crosses, log_send) depth 100 fits 20000
 pub named_sync : (J : RattleType) (g : Ghosts J.Denot) → IsSync (M.the_row J g)
 named_sync J g = search (sendable, crosses, log_sync) depth 100 fits 20000
 
-crew_send : IsSend (C.the_field).row
-crew_send = search (sendable, crosses) depth 100 fits 20000
-
 lists_send : IsSend (D.the_field).row
 lists_send = search (sendable, crosses) depth 100 fits 20000
 
@@ -47,11 +40,6 @@ spares_send = search (sendable, crosses, lists_send) depth 100 fits 20000
 
 spares_sync : IsSync (Q.the_field).row
 spares_sync = search (sendable, crosses, lists_send) depth 100 fits 20000
-
-tasks_send : (J P : RattleType) (g : Ghosts J.Denot) → IsSend P → IsSend (T.the_row J P g)
-tasks_send J P g p =
-    let b : IsSend (B.the_field (N.the_row J g)).row = board_send (N.the_row J g) (note.the_send J g) in
-    search (sendable, crosses, crew_send) depth 100 fits 20000
 
 pub shared_send : (J G P : RattleType) (g : Ghosts J.Denot) → IsSend G → IsSend P → IsSend (S.the_row J G P g)
 shared_send J G P g s p =

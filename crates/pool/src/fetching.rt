@@ -4,13 +4,10 @@ ghost use Rattle.std.specs.Arc.{arc_value};
 ghost use Rattle.desk.specs.Desks.{object_in, told};
 ghost use Rattle.runner.specs.Tickets.{IsStoreFor};
 
-use crate::demand::Demand;
 use crate::gate::Gate;
 use crate::named::Named;
 use crate::serving::{done, joined, leave, lock_with};
 use crate::shared::Shared;
-use crate::tasks::Tasks;
-use crate::work::{Finished, Left};
 use desk::{Picker, Ticket};
 use journal::{Naming, Note};
 use runner::Failed;
@@ -18,6 +15,7 @@ use std::alloc::Global;
 use std::sync::{Arc, Wait};
 use std::thread::Threads;
 use store::Store;
+use tasks::{Demand, Finished, Left, Tasks};
 
 /// Lays the tasks of the calling thread under the lock, and wakes workers for them.
 pub fn hand_over<J: Naming, R: Wait, G: Gate + Drop, P: Picker + Drop>(

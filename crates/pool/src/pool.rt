@@ -6,8 +6,6 @@ ghost use Rattle.desk.specs.Desks.{object_in, told};
 ghost use Rattle.history.specs.Histories.{object_of};
 ghost use Rattle.runner.specs.Tickets.{made_by};
 
-use crate::crew::{Crew, SHARE};
-use crate::cutting::Cutting;
 use crate::fetching::{fetch_alone, fetch_beside, hand_over};
 use crate::gate::Gate;
 use crate::named::Named;
@@ -15,7 +13,6 @@ use crate::serving::leave;
 use crate::shared::Shared;
 use crate::spares::SharedSpares;
 use crate::starting::start_first;
-use crate::tasks::Tasks;
 use crate::uniting::{unite_own, unite_shared};
 use board::Board;
 use calls::{Recipe, Role, Roles};
@@ -32,6 +29,7 @@ use std::sync::{Arc, Condvar, Mutex, Wait};
 use std::thread;
 use std::thread::{JoinHandle, Threads};
 use store::Store;
+use tasks::{Crew, Cutting, SHARE, Tasks};
 
 /// Workers over one board. All of them, and the calling thread while it waits, do tasks in the order in which a picker
 /// picks them, each once what it rests on is done.

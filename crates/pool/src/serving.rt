@@ -2,8 +2,6 @@
 use crate::gate::Gate;
 use crate::named::Named;
 use crate::shared::Shared;
-use crate::tasks::Tasks;
-use crate::work::{Finished, Joint, Left, Work};
 use board::Piece;
 use desk::{Joining, Picker, entries_in};
 use journal::Naming;
@@ -12,6 +10,7 @@ use std::alloc::Global;
 use std::sync::atomic::Ordering::SeqCst;
 use std::sync::{MutexGuard, Wait};
 use std::thread::Threads;
+use tasks::{Finished, Joint, Left, Tasks, Work};
 
 // No task is forgotten. While the calling thread has the tasks, it alone does them, and no worker is out with one: it
 // takes them back only where none is awake. Else they lie under the lock. The calling thread sleeps only where its

@@ -1,10 +1,10 @@
 //! What threads share.
 use crate::spares::SharedSpares;
-use crate::tasks::Tasks;
 use desk::Picker;
 use journal::Naming;
 use std::sync::atomic::AtomicBool;
 use std::sync::{Condvar, Mutex};
+use tasks::Tasks;
 
 /// The lock, the gate, memory that is left, and what threads sleep on: workers on `more`, the calling thread on `come`.
 #[derive(Drop)]

@@ -1,11 +1,11 @@
 //! Memory of stores that nobody needs any more, for all threads.
-use crate::work::Work;
 use board::Piece;
 use desk::{SpareLists, Spares, lists_of, needs_spare};
 use journal::Naming;
 use std::alloc::Global;
 use std::sync::{Arc, Mutex, Wait};
 use store::Store;
+use tasks::Work;
 
 /// The lists of stores that were dropped, under a lock of their own.
 #[derive(Drop)]

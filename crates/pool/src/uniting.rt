@@ -6,8 +6,6 @@ use crate::gate::Gate;
 use crate::named::Named;
 use crate::shared::Shared;
 use crate::spares::SharedSpares;
-use crate::tasks::Tasks;
-use crate::work::ENOUGH_TO_CUT;
 use calls::{Recipe, Role, Roles};
 use desk::{Picker, Ticket, united};
 use journal::{Naming, Note};
@@ -16,6 +14,7 @@ use std::alloc::Global;
 use std::sync::{Arc, Wait};
 use std::thread::Threads;
 use store::{AsSparse, Form, Store};
+use tasks::{ENOUGH_TO_CUT, Tasks};
 
 // It is done once, by the calling thread, before the task is there: tasks that read all of a store in blocks would each
 // make lists of their own, and so would those that go along its rows but aren't cut, and each piece of a product of a

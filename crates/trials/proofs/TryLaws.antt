@@ -5,8 +5,8 @@ use Rattle.std.proofs.lemmas.List.Elements.{All-head, All-tail}
 use Rattle.board.specs.Boards.{Shown}
 use Rattle.board.specs.Cuts.{Cutting, IsLeftBy, IsTakenBy, at_slot, is_open, told_blocks}
 use Rattle.board.specs.Schedules.{AreRight, IsAnswered, IsDone}
-use Rattle.board.specs.Tasks.{Task, object_at}
-use Rattle.board.specs.Views.{View}
+use Rattle.stages.specs.Tasks.{Task, object_at}
+use Rattle.stages.specs.Views.{View}
 use Rattle.board.specs.declared.piece.Piece.{Piece}
 use Rattle.board.specs.declared.schedule.Answer.{Answer}
 use Rattle.board.specs.declared.schedule.Answer.TheVariants as answer

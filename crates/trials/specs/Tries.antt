@@ -3,7 +3,7 @@ use Rattle.std.specs.Prelude.{ℕ, ◌≡◌, Bool, false, true}
 use Rattle.algebra.specs.declared.domain.Domain.TheVariants.{Int64}
 use Rattle.board.specs.Boards.{Shown}
 use Rattle.board.specs.Schedules.{IsRight}
-use Rattle.board.specs.Tasks.{object_at}
+use Rattle.stages.specs.Tasks.{object_at}
 use Rattle.board.specs.declared.schedule.Event.{Event}
 use Rattle.board.specs.declared.schedule.Event.TheVariants.{Issue}
 use Rattle.model.specs.declared.shape.Shape.TheVariants.{Two}

@@ -4,7 +4,7 @@ ghost use Rattle.std.specs.Arc.{arc_value};
 ghost use Rattle.std.specs.List.{All};
 ghost use Rattle.algebra.specs.declared.domain.Domain.TheVariants.{Int64};
 ghost use Rattle.board.specs.Boards.{cuts_of, view_of};
-ghost use Rattle.board.specs.Tasks.{object_at};
+ghost use Rattle.stages.specs.Tasks.{object_at};
 ghost use Rattle.desk.specs.Works.{AreUncut};
 ghost use Rattle.trials.specs.Tries.{IsTry, matrix};
 ghost use Rattle.model.specs.declared.shape.Shape.TheVariants.{Two};

@@ -1,6 +1,6 @@
 -- What was made hasn't failed.
 use Rattle.std.proofs.Common.{◌∙◌, map, sym}
-use Rattle.board.specs.Stages.{progress_of}
+use Rattle.stages.specs.Stages.{progress_of}
 use Rattle.board.proofs.FitLaws.{each_kept}
 use Rattle.board.proofs.admitting.may_wait.Goals as goal
 

@@ -1,5 +1,5 @@
 use Rattle.std.proofs.Common.{◌≡◌, ◌∙◌, ◌&&◌, ◌||◌, Bool, eqb, not, refl, sym, true, false}
-use Rattle.board.proofs.NumberLaws.{numbers_same}
+use Rattle.stages.proofs.NumberLaws.{numbers_same}
 use Rattle.board.proofs.cuts.withdraw_if_taken.Goals as goal
 
 and_or : (a b : Bool) → b ≡ true → (c : Bool) → a ≡ (a && (b || c))

@@ -1,6 +1,6 @@
 use Rattle.std.proofs.Common.{arith, get_or, refl}
 use Rattle.std.proofs.lemmas.List.{length-map}
-use Rattle.board.specs.Slots.{task_of}
+use Rattle.stages.specs.Slots.{task_of}
 use Rattle.board.proofs.BoardLaws.{released_same, uses_same}
 use Rattle.board.proofs.FailLaws.{falling_end, places_read, slot_or, within}
 use Rattle.board.proofs.falling.end.Goals as goal

@@ -1,9 +1,9 @@
 use Rattle.std.proofs.Common.{◌∙◌, ap, arith, map, sym, subst, List}
 use Rattle.std.proofs.lemmas.List.{length-map}
 use Rattle.board.specs.Falls.{KeepsReady, falls}
-use Rattle.board.specs.Progress.{Progress}
-use Rattle.board.specs.Slots.{task_of}
-use Rattle.board.specs.Stages.{progress_of}
+use Rattle.stages.specs.Progress.{Progress}
+use Rattle.stages.specs.Slots.{task_of}
+use Rattle.stages.specs.Stages.{progress_of}
 use Rattle.board.proofs.FailLaws.{falling_skip, falls_keeps}
 use Rattle.board.proofs.falling.fall.Goals as goal
 

@@ -2,11 +2,11 @@ use Rattle.std.proofs.Common.{◌≡◌, ◌∙◌, None, Option, Some, ap, arit
 use Rattle.std.specs.Option.{option_map, option_map_or}
 use Rattle.std.proofs.lemmas.Grind.{common_steps}
 use Rattle.std.proofs.lemmas.Option.{gets, slice_get-map}
-use Rattle.board.specs.Places.{each}
-use Rattle.board.specs.Progress.{is_failed}
-use Rattle.board.specs.Slots.{task_of}
-use Rattle.board.specs.Stages.{progress_of}
-use Rattle.board.specs.Tasks.{Task}
+use Rattle.stages.specs.Places.{each}
+use Rattle.stages.specs.Progress.{is_failed}
+use Rattle.stages.specs.Slots.{task_of}
+use Rattle.stages.specs.Stages.{progress_of}
+use Rattle.stages.specs.Tasks.{Task}
 use Rattle.board.proofs.falling.has_failed_input.Goals as goal
 
 pub returns-in-Some : goal.returns-in-Some

@@ -1,6 +1,6 @@
 use Rattle.std.proofs.Common.{◌≡◌, ℕ, arith, length, map, subst}
 use Rattle.board.specs.Falling.{IsFalling}
-use Rattle.board.specs.Slots.{task_of}
+use Rattle.stages.specs.Slots.{task_of}
 use Rattle.board.proofs.falling.spread.Goals as goal
 
 pub returns-clause-falling : goal.returns-clause-falling

@@ -1,9 +1,9 @@
 use Rattle.std.proofs.Common.{◌≡◌, List, map}
 use Rattle.board.specs.Falling.{IsFalling}
 use Rattle.board.specs.Falls.{KeepsReady, fallen_below}
-use Rattle.board.specs.Progress.{Progress}
-use Rattle.board.specs.Slots.{task_of}
-use Rattle.board.specs.Stages.{progress_of}
+use Rattle.stages.specs.Progress.{Progress}
+use Rattle.stages.specs.Slots.{task_of}
+use Rattle.stages.specs.Stages.{progress_of}
 use Rattle.board.proofs.falling.spread.Given as goal
 
 abbrev pub invariant-loop-number : goal.invariant-loop-number

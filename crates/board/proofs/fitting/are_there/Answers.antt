@@ -5,7 +5,7 @@ use Rattle.calls.specs.declared.role.Roles.{Roles}
 use Rattle.calls.specs.Roles.{lent_roles, role_of}
 use Rattle.model.specs.declared.shape.Signature.{Signature}
 use Rattle.board.specs.Fits.{IsThere}
-use Rattle.board.specs.Slots.{task_of}
+use Rattle.stages.specs.Slots.{task_of}
 use Rattle.board.proofs.FitLaws.{all_roles}
 use Rattle.board.proofs.fitting.are_there.Goals as goal
 

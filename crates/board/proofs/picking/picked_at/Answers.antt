@@ -1,8 +1,8 @@
 use Rattle.std.proofs.Common.{◌≡◌, ◌∙◌, Some, ap, arith, length, refl, slice_get, subst, sym}
 use Rattle.std.proofs.lemmas.Option.{slice_get_read}
-use Rattle.board.specs.Numbers.{IsPlace, numbers}
+use Rattle.stages.specs.Numbers.{IsPlace, numbers}
 use Rattle.board.proofs.PickLaws.{picked_before, picked_last, picked_open, place_is, rank}
-use Rattle.board.proofs.NumberLaws.{numbers_below}
+use Rattle.stages.proofs.NumberLaws.{numbers_below}
 use Rattle.board.proofs.picking.picked_at.Goals as goal
 
 pub returns-then-at-place : goal.returns-then-at-place

@@ -1,5 +1,5 @@
 use Rattle.std.proofs.Common.{◌≡◌, ◌<◌, ◌+◌, ◌≤◌, ℕ, Bool, Some, slice_get, suc}
-use Rattle.board.specs.Numbers.{numbers}
+use Rattle.stages.specs.Numbers.{numbers}
 use Rattle.board.proofs.PickLaws.{rank}
 use Rattle.board.proofs.picking.picked_at.Given as goal
 

@@ -2,7 +2,7 @@
 use Rattle.std.proofs.Common.{◌∙◌, sym}
 use Rattle.std.proofs.lemmas.List.{length-map}
 use Rattle.board.specs.Boards.{view_of}
-use Rattle.board.specs.Slots.{task_of}
+use Rattle.stages.specs.Slots.{task_of}
 use Rattle.desk.proofs.DeskLaws.{told-after}
 use Rattle.desk.proofs.placing.issue.Goals as goal
 

@@ -2,7 +2,7 @@
 use Rattle.std.proofs.Common.{◌∙◌, ap, sym}
 use Rattle.std.proofs.lemmas.List.{length-map}
 use Rattle.board.specs.Boards.{view_of}
-use Rattle.board.specs.Slots.{task_of}
+use Rattle.stages.specs.Slots.{task_of}
 use Rattle.calls.specs.declared.recipe.Recipe.{Recipe}
 use Rattle.desk.specs.Desks.{object_in}
 use Rattle.desk.proofs.DeskLaws.{told-after_given}

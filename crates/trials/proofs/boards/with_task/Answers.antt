@@ -3,8 +3,8 @@ use Rattle.std.proofs.Common.{◌≡◌, ◌∙◌, ℕ, List, [], ◌∷◌, �
 use Rattle.std.specs.Arc.{arc_value}
 use Rattle.board.proofs.GivenLaws.{given_object, given_right}
 use Rattle.board.specs.Boards.{view_of}
-use Rattle.board.specs.Tasks.{Task, object_at}
-use Rattle.board.specs.Views.{View}
+use Rattle.stages.specs.Tasks.{Task, object_at}
+use Rattle.stages.specs.Views.{View}
 use Rattle.calls.specs.declared.recipe.Recipe.TheVariants.{Given}
 use Rattle.calls.specs.declared.role.Roles.{Roles}
 use Rattle.calls.specs.Roles.{no_roles}

@@ -8,8 +8,8 @@ use Rattle.std.proofs.lemmas.List.{length-map}
 use Rattle.pieces.specs.Parts.{Parts}
 use Rattle.board.specs.Cuts.{Parted, cutting_of, has_more}
 use Rattle.board.specs.Pieces.{IsPieceFor, rows_for}
-use Rattle.board.specs.Progress.{is_running}
-use Rattle.board.specs.Views.{View}
+use Rattle.stages.specs.Progress.{is_running}
+use Rattle.stages.specs.Views.{View}
 use Rattle.board.specs.declared.cut.Cut.TheVariants as cut
 use Rattle.board.proofs.PartedLaws.{opens, there_by}
 use Rattle.board.proofs.SharedLaws.{cuts_put, first_for, goes_cut, more_first, parted_put, put_after, put_some, shared_first}

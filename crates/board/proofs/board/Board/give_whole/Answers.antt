@@ -1,6 +1,6 @@
 use Rattle.std.proofs.Math.Logic.{∥∥₁_elim}
 use Rattle.board.specs.Boards.{view_of}
-use Rattle.board.specs.Progress.{Joining}
+use Rattle.stages.specs.Progress.{Joining}
 use Rattle.board.specs.SlotViews.{slots_view}
 use Rattle.board.proofs.CutProps.{cuts-prop}
 use Rattle.board.proofs.PartedLaws.{kept_beside, uncut_there}

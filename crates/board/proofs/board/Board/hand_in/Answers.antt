@@ -2,13 +2,13 @@ use Rattle.std.proofs.Common.{◌∙◌, ap, map, sym}
 use Rattle.std.proofs.Math.Logic.{∥∥₁_elim}
 use Rattle.board.specs.Boards.{view_of}
 use Rattle.board.specs.SlotViews.{slots_view}
-use Rattle.board.specs.Stages.{progress_of}
+use Rattle.stages.specs.Stages.{progress_of}
 use Rattle.board.proofs.CutProps.{cuts-prop}
 use Rattle.std.proofs.Common.{Err, Ok, cond, ◌&&◌, slice_get}
 use Rattle.std.specs.Prelude.{is_none}
-use Rattle.board.specs.Progress.{Made, is_running}
+use Rattle.stages.specs.Progress.{Made, is_running}
 use Rattle.board.specs.declared.look.Refusal.TheVariants.{Stranger}
-use Rattle.board.proofs.NumberLaws.{and_true}
+use Rattle.stages.proofs.NumberLaws.{and_true}
 use Rattle.board.proofs.PartedLaws.{kept_beside, uncut, uncut_seen}
 use Rattle.board.proofs.board.Board.hand_in.Goals as goal
 

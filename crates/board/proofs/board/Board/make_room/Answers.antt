@@ -2,7 +2,7 @@ use Rattle.std.proofs.Common.{ap, arith, length}
 use Rattle.std.proofs.Math.Logic.{∥∥₁_elim}
 use Rattle.board.specs.Boards.{view_of}
 use Rattle.board.proofs.CutProps.{cuts-prop}
-use Rattle.board.proofs.NumberLaws.{length_numbers}
+use Rattle.stages.proofs.NumberLaws.{length_numbers}
 use Rattle.board.proofs.PartedLaws.{opens}
 use Rattle.board.proofs.SharedLaws.{cuts_again, parted_again, seen_again}
 use Rattle.board.proofs.board.Board.make_room.Goals as goal

@@ -3,11 +3,11 @@ use Rattle.std.proofs.Math.Logic.{∥∥₁_elim}
 use Rattle.std.proofs.lemmas.Option.{slice_get_read, slice_get_within}
 use Rattle.board.specs.Boards.{cuts_of, view_of}
 use Rattle.board.specs.Cuts.{IsFound, picked_on}
-use Rattle.board.specs.Views.{offered}
+use Rattle.stages.specs.Views.{offered}
 use Rattle.board.specs.declared.picking.Picked.{Picked}
 use Rattle.board.proofs.CutLaws.{open_within}
 use Rattle.board.proofs.CutProps.{cuts-prop}
-use Rattle.board.proofs.ReadyLaws.{offered_at}
+use Rattle.stages.proofs.ReadyLaws.{offered_at}
 use Rattle.board.proofs.board.Board.offer.Goals as goal
 
 pub offer_of-requires : goal.offer_of-requires

@@ -7,8 +7,8 @@ use Rattle.std.proofs.Math.Nat.{mod-lt}
 use Rattle.std.proofs.Common.{◌%◌}
 use Rattle.board.proofs.CutLaws.{open_unready}
 use Rattle.board.proofs.PartedLaws.{count_offered, found_at, opens}
-use Rattle.board.proofs.ReadyLaws.{offered_is}
-use Rattle.board.specs.Views.{is_ready}
+use Rattle.stages.proofs.ReadyLaws.{offered_is}
+use Rattle.stages.specs.Views.{is_ready}
 use Rattle.board.specs.Cuts.{cutting_of}
 use Rattle.board.proofs.board.Board.picked.Goals as goal
 

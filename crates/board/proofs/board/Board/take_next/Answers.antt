@@ -2,7 +2,7 @@ use Rattle.std.proofs.Common.{◌∙◌, ◌&&◌, ◌||◌, List, Option, ap, a
 use Rattle.std.proofs.Math.Logic.{∥∥₁_elim}
 use Rattle.board.specs.Boards.{view_of}
 use Rattle.board.specs.Cuts.{AreCuts}
-use Rattle.board.specs.Numbers.{numbers}
+use Rattle.stages.specs.Numbers.{numbers}
 use Rattle.board.specs.declared.cut.Cut.{Cut}
 use Rattle.board.proofs.CutLaws.{open_within}
 use Rattle.board.proofs.CutProps.{cuts-prop}

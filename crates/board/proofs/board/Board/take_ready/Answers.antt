@@ -5,11 +5,11 @@ use Rattle.std.specs.Option.{option_map}
 use Rattle.board.specs.Boards.{view_of}
 use Rattle.board.specs.Cuts.{at_slot, cutting_of}
 use Rattle.board.specs.SlotViews.{slots_view}
-use Rattle.board.specs.Views.{View}
+use Rattle.stages.specs.Views.{View}
 use Rattle.board.proofs.CutLaws.{untaken}
 use Rattle.board.proofs.CutProps.{cuts-prop}
 use Rattle.board.proofs.OutCuts.{kept_taken, ready_uncut, taken_out, taken_runs}
-use Rattle.board.proofs.ReadyLaws.{offered_at}
+use Rattle.stages.proofs.ReadyLaws.{offered_at}
 use Rattle.board.proofs.board.Board.take_ready.Goals as goal
 
 pub invariant_of-self : goal.invariant_of-self

@@ -6,7 +6,7 @@ use Rattle.board.specs.SlotViews.{slots_view}
 use Rattle.board.proofs.CutProps.{cuts-prop}
 use Rattle.std.proofs.Common.{List, Option, subst}
 use Rattle.board.specs.Cuts.{IsPut, cutting_of}
-use Rattle.board.specs.Progress.{Made, is_joining}
+use Rattle.stages.specs.Progress.{Made, is_joining}
 use Rattle.board.specs.declared.cut.Cut.{Cut}
 use Rattle.board.proofs.CutLaws.{put_none}
 use Rattle.board.proofs.PartedLaws.{forgotten_set, ok_may, there_by}

@@ -3,15 +3,15 @@ use Rattle.std.specs.Prelude.{slice_index}
 use Rattle.std.specs.VecDeque.{deque_capacity}
 use Rattle.std.proofs.lemmas.List.{length-map}
 use Rattle.board.specs.SlotViews.{slots_view}
-use Rattle.board.specs.Numbers.{has_in}
-use Rattle.board.specs.Places.{each, places_of}
-use Rattle.board.specs.Progress.{is_failed, is_made}
-use Rattle.board.specs.Slots.{task_of}
-use Rattle.board.specs.Stages.{progress_of}
-use Rattle.board.specs.declared.stage.Stage.{Stage}
-use Rattle.board.specs.declared.stage.Stage.TheVariants as stage
+use Rattle.stages.specs.Numbers.{has_in}
+use Rattle.stages.specs.Places.{each, places_of}
+use Rattle.stages.specs.Progress.{is_failed, is_made}
+use Rattle.stages.specs.Slots.{task_of}
+use Rattle.stages.specs.Stages.{progress_of}
+use Rattle.stages.specs.declared.stage.Stage.{Stage}
+use Rattle.stages.specs.declared.stage.Stage.TheVariants as stage
 use Rattle.board.proofs.FitLaws.{few_ready, first_is, grows_is, is_snoc, low_each, map_snoc, places_within, ready_waits, reads_room, sound_admitted, sound_more, task_is, view_issued}
-use Rattle.board.proofs.WakeLaws.{grows_self}
+use Rattle.stages.proofs.WakeLaws.{grows_self}
 use Rattle.board.proofs.slots.Slots.admit.Goals as goal
 
 pub wait_for-requires-clause-low : goal.wait_for-requires-clause-low

@@ -1,14 +1,14 @@
 use Rattle.std.proofs.Common.{◌∙◌, ◌||◌, List, ap, length, map, slice_get, sym}
 use Rattle.std.proofs.lemmas.List.{length-map}
 use Rattle.board.specs.SlotViews.{slots_view}
-use Rattle.board.specs.Progress.{Progress, is_joining, is_running}
-use Rattle.board.specs.Slots.{task_of}
-use Rattle.board.specs.Stages.{progress_of}
-use Rattle.board.specs.Views.{is_ready}
+use Rattle.stages.specs.Progress.{Progress, is_joining, is_running}
+use Rattle.stages.specs.Slots.{task_of}
+use Rattle.stages.specs.Stages.{progress_of}
+use Rattle.stages.specs.Views.{is_ready}
 use Rattle.board.proofs.BoardLaws.{view_failed}
 use Rattle.board.proofs.FailLaws.{fallen_is, falling_from, low_from, may_unfinished, sound_failed}
 use Rattle.board.proofs.FallenLaws.{underway-stays}
-use Rattle.board.proofs.ReadyLaws.{offered_is}
+use Rattle.stages.proofs.ReadyLaws.{offered_is}
 use Rattle.board.proofs.slots.Slots.fail.Goals as goal
 
 pub end-requires : goal.end-requires

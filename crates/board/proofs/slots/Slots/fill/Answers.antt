@@ -1,15 +1,15 @@
 use Rattle.std.proofs.Common.{◌∙◌, ap, length, map, slice_get, sym}
 use Rattle.std.proofs.lemmas.Option.{slice_get_within}
 use Rattle.board.specs.SlotViews.{slots_view}
-use Rattle.board.specs.Progress.{Joining, Untaken, is_joining}
-use Rattle.board.specs.Slots.{task_of}
-use Rattle.board.specs.Stages.{progress_of}
-use Rattle.board.specs.Views.{is_ready}
-use Rattle.board.specs.declared.stage.Stage.TheVariants as stage
+use Rattle.stages.specs.Progress.{Joining, Untaken, is_joining}
+use Rattle.stages.specs.Slots.{task_of}
+use Rattle.stages.specs.Stages.{progress_of}
+use Rattle.stages.specs.Views.{is_ready}
+use Rattle.stages.specs.declared.stage.Stage.TheVariants as stage
 use Rattle.board.proofs.BoardLaws.{progress_put}
 use Rattle.board.proofs.GivenLaws.{alone_at, filled, sound_joined}
-use Rattle.board.proofs.ListLaws.{get_set_same}
-use Rattle.board.proofs.ReadyLaws.{offered_is, untaken_some}
+use Rattle.stages.proofs.ListLaws.{get_set_same}
+use Rattle.stages.proofs.ReadyLaws.{offered_is, untaken_some}
 use Rattle.board.proofs.slots.Slots.fill.Goals as goal
 
 pub invariant_of-self : goal.invariant_of-self

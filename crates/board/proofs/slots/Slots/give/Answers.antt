@@ -1,8 +1,8 @@
 use Rattle.std.proofs.Common.{◌≡◌, ◌∙◌, ap, map, slice_get, sym, true}
 use Rattle.board.specs.SlotViews.{slots_view}
-use Rattle.board.specs.Progress.{Joining, is_running}
-use Rattle.board.specs.Stages.{progress_of}
-use Rattle.board.specs.declared.stage.Stage.TheVariants as stage
+use Rattle.stages.specs.Progress.{Joining, is_running}
+use Rattle.stages.specs.Stages.{progress_of}
+use Rattle.stages.specs.declared.stage.Stage.TheVariants as stage
 use Rattle.board.proofs.BoardLaws.{sound_given, progress_put, view_put}
 use Rattle.board.proofs.slots.Slots.give.Goals as goal
 

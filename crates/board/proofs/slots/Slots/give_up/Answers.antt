@@ -2,12 +2,12 @@ use Rattle.std.proofs.Common.{◌∙◌, ◌+◌, ap, false, length, map, not, n
 use Rattle.std.specs.Prelude.{slice_index}
 use Rattle.std.specs.Option.{option_map_or}
 use Rattle.std.proofs.lemmas.Bool.{and_parts}
-use Rattle.board.specs.Progress.{is_unfinished}
-use Rattle.board.specs.Slots.{task_of}
-use Rattle.board.specs.Stages.{progress_of}
-use Rattle.board.specs.Views.{is_ready}
+use Rattle.stages.specs.Progress.{is_unfinished}
+use Rattle.stages.specs.Slots.{task_of}
+use Rattle.stages.specs.Stages.{progress_of}
+use Rattle.stages.specs.Views.{is_ready}
 use Rattle.board.proofs.FailLaws.{falling_alone, falling_from, low_from, none_left, sound_failed}
-use Rattle.board.proofs.ReadyLaws.{offered_is}
+use Rattle.stages.proofs.ReadyLaws.{offered_is}
 use Rattle.board.proofs.slots.Slots.give_up.Goals as goal
 
 pub end-requires-clause-falling : goal.end-requires-clause-falling

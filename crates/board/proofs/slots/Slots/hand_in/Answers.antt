@@ -1,11 +1,11 @@
 use Rattle.std.proofs.Common.{◌≡◌, ◌∙◌, Bool, ap, cond, map, slice_get, sym, true}
 use Rattle.std.specs.Prelude.{OnErr, OnOk, Result, Ok, Err}
 use Rattle.board.specs.SlotViews.{slots_view}
-use Rattle.board.specs.Progress.{is_running}
-use Rattle.board.specs.Stages.{progress_of}
+use Rattle.stages.specs.Progress.{is_running}
+use Rattle.stages.specs.Stages.{progress_of}
 use Rattle.board.specs.declared.look.Refusal.{Refusal}
 use Rattle.board.specs.declared.look.Refusal.TheVariants.{Stranger}
-use Rattle.board.specs.declared.stage.Stage.TheVariants as stage
+use Rattle.stages.specs.declared.stage.Stage.TheVariants as stage
 use Rattle.board.proofs.BoardLaws.{progress_put, sound_given}
 use Rattle.board.proofs.GivenLaws.{handed}
 use Rattle.board.proofs.slots.Slots.hand_in.Goals as goal

@@ -2,7 +2,7 @@ use Rattle.std.proofs.Common.{◌∙◌, Some, ap, length, slice_get, sym}
 use Rattle.std.specs.Option.{option_map}
 use Rattle.std.proofs.lemmas.Bool.{ltb-true}
 use Rattle.std.proofs.lemmas.Option.{slice_get-get_or, slice_get-map}
-use Rattle.board.specs.Slots.{task_of}
+use Rattle.stages.specs.Slots.{task_of}
 use Rattle.board.proofs.slots.Slots.inputs.Goals as goal
 
 pub returns-clause-lower : goal.returns-clause-lower

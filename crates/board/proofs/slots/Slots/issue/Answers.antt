@@ -1,7 +1,7 @@
 use Rattle.std.proofs.Common.{ap, arith, map, sym}
 use Rattle.std.proofs.lemmas.List.{length-map}
 use Rattle.std.proofs.lemmas.Bool.{MatchBool-at_false, MatchBool-at_true}
-use Rattle.board.specs.Slots.{task_of}
+use Rattle.stages.specs.Slots.{task_of}
 use Rattle.board.proofs.FitLaws.{accepts_there, low_below, there_accepts, there_by}
 use Rattle.board.proofs.slots.Slots.issue.Goals as goal
 

@@ -3,8 +3,8 @@ use Rattle.std.specs.Arc.{arc_value}
 use Rattle.calls.specs.declared.recipe.Given.{Given}
 use Rattle.runner.specs.Tickets.{IsStoreFor}
 use Rattle.store.specs.Stored.{Stored}
-use Rattle.board.specs.Slots.{task_of}
-use Rattle.board.specs.Tasks.{object_at}
+use Rattle.stages.specs.Slots.{task_of}
+use Rattle.stages.specs.Tasks.{object_at}
 use Rattle.board.proofs.GivenLaws.{given_is_object, given_right, placed_at}
 use Rattle.board.proofs.slots.Slots.issue_given.Goals as goal
 

@@ -1,8 +1,8 @@
 use Rattle.std.proofs.Common.{map}
 use Rattle.board.specs.SlotViews.{slots_view}
-use Rattle.board.specs.Progress.{Joining}
-use Rattle.board.specs.Stages.{progress_of}
-use Rattle.board.specs.declared.stage.Stage.TheVariants as stage
+use Rattle.stages.specs.Progress.{Joining}
+use Rattle.stages.specs.Stages.{progress_of}
+use Rattle.stages.specs.declared.stage.Stage.TheVariants as stage
 use Rattle.board.proofs.BoardLaws.{progress_put, sound_given, view_put}
 use Rattle.board.proofs.slots.Slots.join.Goals as goal
 

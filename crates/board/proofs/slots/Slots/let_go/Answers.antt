@@ -2,7 +2,7 @@ use Rattle.std.proofs.Common.{◌∙◌, ◌+◌, ◌-◌, ap, cond, eqb, map, s
 use Rattle.std.specs.Prelude.{slice_index}
 use Rattle.board.proofs.BoardLaws.{answered, chosen, gone_is, refused_gone, released_same, sound_gone, there, uses_same, view_holds}
 use Rattle.board.proofs.SoundLaws.{progress_released}
-use Rattle.board.specs.Stages.{progress_of}
+use Rattle.stages.specs.Stages.{progress_of}
 use Rattle.board.specs.SlotViews.{slots_view}
 use Rattle.board.specs.Looks.{is_seen_gone, seen_at}
 use Rattle.board.proofs.slots.Slots.let_go.Goals as goal

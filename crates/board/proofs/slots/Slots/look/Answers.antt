@@ -3,9 +3,9 @@ use Rattle.std.specs.Option.{option_and_then}
 use Rattle.store.specs.Stored.{Stored}
 use Rattle.runner.specs.Tickets.{IsStoreFor}
 use Rattle.board.specs.Looks.{seen_at}
-use Rattle.board.specs.Slots.{task_of}
-use Rattle.board.specs.Stages.{stored_in}
-use Rattle.board.specs.Tasks.{object_at}
+use Rattle.stages.specs.Slots.{task_of}
+use Rattle.stages.specs.Stages.{stored_in}
+use Rattle.stages.specs.Tasks.{object_at}
 use Rattle.board.proofs.BoardLaws.{right_at, seen_is}
 use Rattle.board.proofs.slots.Slots.look.Goals as goal
 

@@ -1,9 +1,9 @@
 use Rattle.std.proofs.Common.{◌≡◌, ◌∙◌, ap, map, refl, rules, slice_get, sym, true}
 use Rattle.std.specs.VecDeque.{deque_capacity}
 use Rattle.board.specs.SlotViews.{slots_view}
-use Rattle.board.specs.Slots.{task_of}
-use Rattle.board.specs.Stages.{has_store}
-use Rattle.board.specs.declared.stage.Stage.TheVariants as stage
+use Rattle.stages.specs.Slots.{task_of}
+use Rattle.stages.specs.Stages.{has_store}
+use Rattle.stages.specs.declared.stage.Stage.TheVariants as stage
 use Rattle.board.proofs.BoardLaws.{same_store}
 use Rattle.board.proofs.RenewLaws.{IsRenewed, renewed}
 use Rattle.board.proofs.slots.Slots.renew.Given.{Over}

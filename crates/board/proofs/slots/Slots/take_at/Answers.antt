@@ -1,12 +1,12 @@
 use Rattle.std.proofs.Common.{◌∙◌, ℕ, ap, arith, length, map, refl, slice_get}
 use Rattle.std.proofs.lemmas.List.{length-map}
 use Rattle.board.specs.SlotViews.{slots_view}
-use Rattle.board.specs.Sharing.{stored_at}
-use Rattle.board.specs.Slots.{task_of}
+use Rattle.stages.specs.Sharing.{stored_at}
+use Rattle.stages.specs.Slots.{task_of}
 use Rattle.board.specs.Stores.{stored_for}
 use Rattle.model.specs.declared.shape.Signature.{Signature}
 use Rattle.model.specs.Object.{rows_of}
-use Rattle.board.specs.Stages.{has_store, progress_of}
+use Rattle.stages.specs.Stages.{has_store, progress_of}
 use Rattle.board.specs.declared.piece.TaskRecipe.TheVariants.{Own}
 use Rattle.board.proofs.BoardLaws.{slot_at}
 use Rattle.board.proofs.OutLaws.{cc_stages, each-first, each-mask, each-old, each-second, ready_at, recipe_out, sound_out, sound_room, stores_there, taken_view, untaken_after}

@@ -2,10 +2,10 @@ use Rattle.std.proofs.Common.{◌≡◌, ◌∙◌, ◌+◌, Some, ap, eqb, map,
 use Rattle.std.specs.Prelude.{slice_index}
 use Rattle.std.proofs.lemmas.List.{length-map}
 use Rattle.board.specs.SlotViews.{slots_view}
-use Rattle.board.specs.Progress.{Made, is_joining}
-use Rattle.board.specs.Slots.{task_of}
-use Rattle.board.specs.Stages.{is_among, progress_of}
-use Rattle.board.specs.declared.stage.Stage.TheVariants as stage
+use Rattle.stages.specs.Progress.{Made, is_joining}
+use Rattle.stages.specs.Slots.{task_of}
+use Rattle.stages.specs.Stages.{is_among, progress_of}
+use Rattle.stages.specs.declared.stage.Stage.TheVariants as stage
 use Rattle.board.proofs.BoardLaws.{joining_at, joining_reads, progress_put, released_same, same_store, size, slot_at, sound_wholed, uses_same, view_put}
 use Rattle.board.proofs.SoundLaws.{progress_released}
 use Rattle.board.proofs.slots.Slots.whole.Goals as goal

@@ -1,0 +1,9 @@
+pub mod FlowLaws
+pub mod ListLaws
+pub mod NumberLaws
+pub mod PlaceLaws
+pub mod ReadLaws
+pub mod ReadyLaws
+pub mod SendLaws
+pub mod StageLaws
+pub mod WakeLaws

@@ -1,0 +1,10 @@
+pub mod Flows
+pub mod Inputs
+pub mod Numbers
+pub mod Places
+pub mod Progress
+pub mod Sharing
+pub mod Slots
+pub mod Stages
+pub mod Tasks
+pub mod Views
