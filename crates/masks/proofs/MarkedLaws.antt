@@ -35,7 +35,7 @@ marked_none keeps rows words same = record {
   whole = refl;
 }
 
-one_at_most : (number : Bool → ℕ) (b : Bool) → number true ≡ 1 → number false ≡ 0 → number b ≤ 1
+pub one_at_most : (number : Bool → ℕ) (b : Bool) → number true ≡ 1 → number false ≡ 0 → number b ≤ 1
 one_at_most number true one none = omega arith
 one_at_most number false one none = omega arith
 

@@ -17,13 +17,13 @@ use Rattle.model.specs.Object.{IsWithin, transposed_content}
 use Rattle.model.specs.Product.{product}
 use Rattle.store.specs.Stored.{Stored, content_of}
 use Rattle.store.proofs.Content.{nothing_outside}
-use Rattle.spgemm.specs.declared.term.Term.{Term}
+use Rattle.terms.specs.declared.term.Term.{Term}
 use Rattle.spgemm.specs.Dense.{AreColumnSums, HaveRoom}
-use Rattle.spgemm.specs.Terms.{apply, sum_at, terms_of_row}
+use Rattle.terms.specs.Terms.{apply, sum_at, terms_of_row}
 use Rattle.spgemm.specs.Truths.{AreTruths, truth}
-use Rattle.spgemm.proofs.Kept.{terms_inside}
+use Rattle.terms.proofs.Kept.{terms_inside}
 use Rattle.spgemm.proofs.Product.{no_factor, no_product, row_product}
-use Rattle.spgemm.proofs.Terms.{words_at-none}
+use Rattle.terms.proofs.Terms.{words_at-none}
 
 -- ---- places behind the last column
 

@@ -12,9 +12,9 @@ use Rattle.model.specs.Object.{Content}
 use Rattle.store.specs.Fibers.{entries_along}
 use Rattle.store.specs.Stored.{Stored, content_of}
 use Rattle.store.specs.Walks.{IsFirstRow}
-use Rattle.spgemm.specs.declared.term.Term.{Term}
-use Rattle.spgemm.specs.Terms.{terms_of_row, times_found, times_row}
-use Rattle.spgemm.proofs.Terms.{times_any}
+use Rattle.terms.specs.declared.term.Term.{Term}
+use Rattle.terms.specs.Terms.{terms_of_row, times_found, times_row}
+use Rattle.terms.proofs.Terms.{times_any}
 use Rattle.spgemm.proofs.WalkLaws.{AreEmpty, AreLeftFrom, left_all, left_none, next_row}
 
 -- ---- the terms of the first columns of a row

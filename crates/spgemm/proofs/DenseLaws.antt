@@ -14,15 +14,15 @@ use Rattle.store.specs.Fibers.{entries_along}
 use Rattle.store.specs.Stored.{Stored, content_of}
 use Rattle.store.proofs.RowEntries.{row_entries-inside}
 use Rattle.model.specs.Entries.{below, count_from, entry_at, row_entries}
-use Rattle.spgemm.specs.declared.term.Term.{Term}
+use Rattle.terms.specs.declared.term.Term.{Term}
 use Rattle.lanes.specs.Bits.{has_bit}
 use Rattle.spgemm.specs.Dense.{AreClear, AreColumnSums, HaveRoom, found, word_by, word_in}
-use Rattle.spgemm.specs.Terms.{apply, kept_terms, sum_at, term_at, terms_of_row, times_row}
+use Rattle.terms.specs.Terms.{apply, kept_terms, sum_at, term_at, terms_of_row, times_row}
 use Rattle.model.specs.declared.memory.NoMemory.{NoMemory}
 use Rattle.store.specs.declared.lists.FiberLists.{FiberLists}
 use Rattle.store.proofs.Positions.{filter_whole}
 use Rattle.spgemm.specs.Products.{HasOpenRow, IsSumRow}
-use Rattle.spgemm.proofs.Kept.{terms_inside}
+use Rattle.terms.proofs.Kept.{terms_inside}
 use Rattle.spgemm.proofs.SlotRows.{all_slots, found_row}
 use Rattle.lanes.proofs.BitLaws.{AreLeft, next_left, without_bit}
 use Rattle.spgemm.proofs.SlotSums.{more_terms}

@@ -4,9 +4,9 @@ use Rattle.std.specs.List.{All}
 use Rattle.std.proofs.lemmas.List.Elements.{All-head, All-tail, filter-append}
 use Rattle.algebra.specs.declared.binary.BinaryOp.{BinaryOp}
 use Rattle.model.specs.declared.entry.Entry.{Entry}
-use Rattle.spgemm.specs.declared.term.Term.{Term}
+use Rattle.terms.specs.declared.term.Term.{Term}
 use Rattle.spgemm.specs.Dense.{AreColumnSums}
-use Rattle.spgemm.specs.Terms.{apply, kept_terms, term_at, times_row}
+use Rattle.terms.specs.Terms.{apply, kept_terms, term_at, times_row}
 use Rattle.spgemm.proofs.SlotSums.{more_terms}
 
 -- terms behind others that are kept

@@ -8,9 +8,9 @@ use Rattle.std.proofs.lemmas.Nat.Bits.{bit_at-lt, bit_at-zero, bit_at_and}
 use Rattle.algebra.specs.declared.binary.BinaryOp.{BinaryOp}
 use Rattle.lanes.specs.Bits.{has_bit}
 use Rattle.spgemm.specs.Dense.{AreColumnSums}
-use Rattle.spgemm.specs.Terms.{kept_terms}
-use Rattle.spgemm.specs.declared.term.Term.{Term}
-use Rattle.spgemm.proofs.Kept.{sum_kept}
+use Rattle.terms.specs.Terms.{kept_terms}
+use Rattle.terms.specs.declared.term.Term.{Term}
+use Rattle.terms.proofs.Kept.{sum_kept}
 
 -- of the bits of the first so many words some are kept, and the others are as they were
 pub record AreKeptBits (keeps : ℕ → Bool) (old new : List ℕ) (at : ℕ) : Type 0 where

@@ -24,13 +24,13 @@ use Rattle.store.proofs.FlatLaws.{all_cols, all_rows, row_in_order}
 use Rattle.store.proofs.Order.{all_drop, all_from_map, all_pairs_filter, all_take}
 use Rattle.store.proofs.Positions.{filter_none, filter_whole}
 use Rattle.store.proofs.Walks.{cols_rise}
-use Rattle.spgemm.specs.declared.term.Term.{Term}
+use Rattle.terms.specs.declared.term.Term.{Term}
 use Rattle.spgemm.specs.Keeping.{HasKept, IsPart, keeps_among}
 use Rattle.spgemm.specs.Products.{HasOpenRow, HasRow, IsSumRow}
-use Rattle.spgemm.specs.Terms.{kept_terms}
+use Rattle.terms.specs.Terms.{kept_terms}
 use Rattle.spgemm.specs.Vectors.{in_range}
 use Rattle.spgemm.proofs.DenseLaws.{along_cols}
-use Rattle.spgemm.proofs.Kept.{sum_kept}
+use Rattle.terms.proofs.Kept.{sum_kept}
 
 -- ---- lists of which some elements are kept
 

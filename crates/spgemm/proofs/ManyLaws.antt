@@ -11,8 +11,8 @@ use Rattle.algebra.specs.declared.monoid.Monoid.{Monoid}
 use Rattle.algebra.specs.declared.semiring.Semiring.{Semiring}
 use Rattle.spgemm.specs.Dense.{AreMarkedSums}
 use Rattle.model.specs.declared.entry.Entry.{Entry}
-use Rattle.spgemm.specs.Terms.{apply, sum_at, term_at, times_row}
-use Rattle.spgemm.specs.declared.term.Term.{Term}
+use Rattle.terms.specs.Terms.{apply, sum_at, term_at, times_row}
+use Rattle.terms.specs.declared.term.Term.{Term}
 use Rattle.spgemm.proofs.SlotSums.{more_terms, sum_away, sum_here}
 
 -- the identity of a semiring's monoid changes no product

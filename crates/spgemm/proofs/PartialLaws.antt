@@ -23,13 +23,13 @@ use Rattle.spgemm.specs.declared.bitmap_sums.Sums.{Sums}
 use Rattle.spgemm.specs.declared.bitmap_sums.Sums.TheVariants.{Truths, Words}
 use Rattle.spgemm.specs.declared.bitmap_truths.TruthSums.{TruthSums}
 use Rattle.spgemm.specs.declared.bitmap_words.WordSums.{WordSums}
-use Rattle.spgemm.specs.declared.term.Term.{Term}
+use Rattle.terms.specs.declared.term.Term.{Term}
 use Rattle.spgemm.specs.Dense.{AreColumnSums, AreMarkedSums}
 use Rattle.spgemm.specs.Partials.{AreAlike, AreSumsOf, AreTruthsOf, AreWordsOf, terms_between}
-use Rattle.spgemm.specs.Terms.{apply, term_at, terms_of_row, times_row, words_at}
+use Rattle.terms.specs.Terms.{apply, term_at, terms_of_row, times_row, words_at}
 use Rattle.spgemm.proofs.BitmapWalk.{terms_append}
 use Rattle.spgemm.specs.Truths.{AreTruths, truth}
-use Rattle.spgemm.proofs.Terms.{reduce-none, words_at-append}
+use Rattle.terms.proofs.Terms.{reduce-none, words_at-append}
 use Rattle.spgemm.proofs.TruthLaws.{lor_truths, on_bool}
 
 -- ---- the words of products

@@ -15,12 +15,12 @@ use Rattle.store.specs.declared.lists.FiberLists.{FiberLists}
 use Rattle.store.specs.Stored.{Stored, content_of}
 use Rattle.store.proofs.Positions.{filter_whole}
 use Rattle.store.proofs.RowWords.{columns_words}
-use Rattle.spgemm.specs.declared.term.Term.{Term}
+use Rattle.terms.specs.declared.term.Term.{Term}
 use Rattle.spgemm.specs.Products.{HasRow, lets_by}
-use Rattle.spgemm.specs.Terms.{kept_terms, terms_of_row}
+use Rattle.terms.specs.Terms.{kept_terms, terms_of_row}
 use Rattle.spgemm.specs.Keeping.{keeps_among}
 use Rattle.spgemm.specs.Vectors.{entries_of_column, in_range, keeps_down}
-use Rattle.spgemm.proofs.Kept.{all_kept, terms_inside}
+use Rattle.terms.proofs.Kept.{all_kept, terms_inside}
 use Rattle.spgemm.proofs.KeptRows.{filter_twice}
 use Rattle.spgemm.proofs.Vectors.{range_of}
 

@@ -19,7 +19,7 @@ use Rattle.store.specs.Walks.{IsFirstRow}
 use Rattle.store.proofs.Content.{entries_of-words, nothing_outside}
 use Rattle.spgemm.specs.Columns.{AreRowSums}
 use Rattle.spgemm.specs.Dense.{word_in}
-use Rattle.spgemm.specs.Terms.{sum_at, terms_of_row}
+use Rattle.terms.specs.Terms.{sum_at, terms_of_row}
 use Rattle.spgemm.proofs.BitmapSums.{no_word}
 use Rattle.spgemm.proofs.DenseLaws.{cols_below}
 use Rattle.spgemm.proofs.Product.{no_factor, no_product, row_product}

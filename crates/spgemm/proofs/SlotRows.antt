@@ -23,13 +23,13 @@ use Rattle.store.proofs.FlatLaws.{all_cols}
 use Rattle.store.proofs.Order.{all_pairs_cons, all_pairs_filter, all_pairs_head, all_pairs_map, all_pairs_nil, all_pairs_tail}
 use Rattle.store.proofs.RowWords.{columns_rise, word_at-row_entries}
 use Rattle.store.proofs.Walks.{cols_rise}
-use Rattle.spgemm.specs.declared.term.Term.{Term}
+use Rattle.terms.specs.declared.term.Term.{Term}
 use Rattle.spgemm.specs.Keeping.{keeps_among}
 use Rattle.spgemm.specs.Products.{HasRow, IsSumRow, lets_by}
 use Rattle.spgemm.specs.Slots.{AreSlots, AreSlotSums, IsSlotOf, counted, is_slot, present}
-use Rattle.spgemm.specs.Terms.{kept_terms, sum_at, term_at, words_at}
+use Rattle.terms.specs.Terms.{kept_terms, sum_at, term_at, words_at}
 use Rattle.spgemm.specs.Vectors.{in_range}
-use Rattle.spgemm.proofs.Kept.{kept_all, sum_kept}
+use Rattle.terms.proofs.Kept.{kept_all, sum_kept}
 use Rattle.spgemm.proofs.Rows.{side_by_side_words}
 
 -- ---- numbers in a row

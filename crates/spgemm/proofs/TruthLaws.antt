@@ -17,9 +17,9 @@ use Rattle.bitmap.proofs.KernelLaws.{either_bit}
 use Rattle.lanes.specs.Bits.{has_bit}
 use Rattle.lanes.proofs.Lists.{zip_with-from_places}
 use Rattle.spgemm.specs.Dense.{AreClear, AreColumnSums}
-use Rattle.spgemm.specs.Terms.{apply, sum_at, term_at}
+use Rattle.terms.specs.Terms.{apply, sum_at, term_at}
 use Rattle.spgemm.specs.Truths.{AreTruths, truth}
-use Rattle.spgemm.specs.declared.term.Term.{Term}
+use Rattle.terms.specs.declared.term.Term.{Term}
 use Rattle.spgemm.proofs.SlotSums.{sum_away, sum_here}
 
 -- LOR of two truth values

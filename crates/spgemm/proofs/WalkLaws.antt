@@ -13,11 +13,11 @@ use Rattle.store.specs.Walks.{IsFirstRow}
 use Rattle.store.proofs.FlatLaws.{all_rows}
 use Rattle.store.proofs.Places.{length_row}
 use Rattle.store.proofs.RowEntries.{entries_between-inside, entries_between-row}
-use Rattle.spgemm.specs.declared.term.Term.{Term}
+use Rattle.terms.specs.declared.term.Term.{Term}
 use Rattle.spgemm.specs.Dense.{AreMarkedSums}
-use Rattle.spgemm.specs.Terms.{AreConsecutive, terms_of_row, times_row}
+use Rattle.terms.specs.Terms.{AreConsecutive, terms_of_row, times_row}
 use Rattle.spgemm.proofs.Blocks.{first_row_has, in_row_all, in_row_none, others_have}
-use Rattle.spgemm.proofs.Terms.{row_more}
+use Rattle.terms.proofs.Terms.{row_more}
 
 -- the entries of the rows from low up to before past are left
 pub record AreLeftFrom (b : Stored) (low past : ℕ) (rest : List Entry) : Type 0 where

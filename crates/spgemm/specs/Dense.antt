@@ -9,8 +9,8 @@ use Rattle.algebra.specs.Monoids.{identity_of}
 use Rattle.algebra.specs.declared.binary.BinaryOp.{BinaryOp}
 use Rattle.algebra.specs.declared.monoid.Monoid.{Monoid}
 use Rattle.model.specs.Entries.{count_from}
-use Rattle.spgemm.specs.declared.term.Term.{Term}
-use Rattle.spgemm.specs.Terms.{sum_at, term_at}
+use Rattle.terms.specs.declared.term.Term.{Term}
+use Rattle.terms.specs.Terms.{sum_at, term_at}
 
 -- the word at a place whose bit is set
 abbrev pub word_in : List ℕ → List ℕ → ℕ → Option ℕ

@@ -1,8 +1,6 @@
 -- The sums of a row of which some are kept, in the same lists.
-use Rattle.std.specs.Prelude.{ℕ, ◌≡◌, ◌<◌, ◌≤◌, ◌++◌, ◌&&◌, Bool, true, List, Option, length, take, drop}
+use Rattle.std.specs.Prelude.{ℕ, ◌≡◌, ◌<◌, ◌≤◌, ◌++◌, ◌&&◌, Bool, List, length, take, drop}
 use Rattle.std.specs.List.{All}
-use Rattle.std.specs.Option.{option_map_or}
-use Rattle.masks.specs.declared.marked.MarkedMask.{MarkedMask}
 use Rattle.masks.specs.declared.view.MaskTest.{MaskTest}
 use Rattle.masks.specs.Keeps.{kept_by}
 use Rattle.masks.specs.Masks.{lets_word}
@@ -32,14 +30,6 @@ pub record HasKept (test : MaskTest) (cols words : List ℕ) (start low high : �
   pub inner : new.inner.items ≡ take start old.inner.items ++ kept
   pub words_are : new.words.items ≡ take start old.words.items ++ kept_words
   pub ends : new.ends ≡ old.ends
-
--- whether a bitmap as a mask lets a column of a row through, which is a row of its own column
-abbrev pub keeps_marked : MarkedMask → ℕ → Bool
-keeps_marked mask col = lets_word mask.test (word_at mask.bitmap.now.entries col 0)
-
--- whether a column of a row is kept: under a bitmap as a mask those that it lets through, else all
-abbrev pub lets_marked : Option MarkedMask → ℕ → Bool
-lets_marked mask col = option_map_or (λ mask. keeps_marked mask col) mask true
 
 -- the columns from first up to before past are those at the places from low up to before high
 pub record IsPart (first past : ℕ) (cols : List ℕ) (low high : ℕ) : Type 0 where

@@ -9,9 +9,9 @@ use Rattle.spgemm.specs.declared.bitmap_sums.Sums.{Sums}
 use Rattle.spgemm.specs.declared.bitmap_sums.Sums.TheVariants.{Truths, Words}
 use Rattle.spgemm.specs.declared.bitmap_truths.TruthSums.{TruthSums}
 use Rattle.spgemm.specs.declared.bitmap_words.WordSums.{WordSums}
-use Rattle.spgemm.specs.declared.term.Term.{Term}
+use Rattle.terms.specs.declared.term.Term.{Term}
 use Rattle.spgemm.specs.Dense.{AreMarkedSums}
-use Rattle.spgemm.specs.Terms.{terms_of_row}
+use Rattle.terms.specs.Terms.{terms_of_row}
 use Rattle.spgemm.specs.Truths.{AreTruths}
 
 -- what the vector has at each row of A from first up to before past times the entries of that row, in order

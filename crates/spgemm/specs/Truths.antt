@@ -2,8 +2,8 @@
 use Rattle.std.specs.Prelude.{ℕ, ◌≡◌, ◌<◌, ◌*◌, if◌then◌else◌, Bool, false, List, length, Option, None, Some}
 use Rattle.algebra.specs.declared.binary.BinaryOp.{BinaryOp}
 use Rattle.lanes.specs.Bits.{has_bit}
-use Rattle.spgemm.specs.declared.term.Term.{Term}
-use Rattle.spgemm.specs.Terms.{sum_at}
+use Rattle.terms.specs.declared.term.Term.{Term}
+use Rattle.terms.specs.Terms.{sum_at}
 
 -- the word of a truth value
 abbrev pub truth : Bool → ℕ

@@ -3,7 +3,7 @@ ghost use Rattle.std.specs.Prelude.{◌≡◌, ◌<◌, ◌≤◌, ◌+◌, ◌^
 ghost use Rattle.std.specs.List.{AllPairs};
 ghost use Rattle.store.specs.Fibers.{entries_along};
 ghost use Rattle.spgemm.specs.Dense.{AreMarkedSums};
-ghost use Rattle.spgemm.specs.Terms.{AreConsecutive, terms_of_row};
+ghost use Rattle.terms.specs.Terms.{AreConsecutive, terms_of_row};
 
 use crate::many::add_row_of_b;
 use algebra::{Semiring, with_semiring};

@@ -11,17 +11,17 @@ ghost use Rattle.store.specs.Forms.{of_bitmap};
 ghost use Rattle.store.specs.Stored.{content_of};
 ghost use Rattle.spgemm.specs.Columns.{AreRowSums};
 ghost use Rattle.spgemm.specs.Dense.{word_in};
-ghost use Rattle.spgemm.specs.Terms.{sum_at, terms_of_row};
+ghost use Rattle.terms.specs.Terms.{sum_at, terms_of_row};
 
 use crate::dense::MOST_PLACES;
 use crate::dot::sum_known;
-use crate::sums::sum_with;
 use algebra::{Semiring, with_semiring};
 use bitmap::Bitmap;
 use lanes::set_bit;
 use model::NoMemory;
 use std::alloc::Global;
 use store::{Row, Sparse};
+use terms::sum_with;
 
 /// Where a matrix has an entry for so many of its rows, many rows of a product may have one.
 const ROWS_AN_ENTRY: u64 = 8;

@@ -10,9 +10,9 @@ ghost use Rattle.model.specs.Object.{transposed_content};
 ghost use Rattle.store.specs.Fibers.{entries_along};
 ghost use Rattle.spgemm.specs.Dense.{AreClear};
 ghost use Rattle.spgemm.specs.Partials.{AreTruthsOf, terms_between};
-ghost use Rattle.spgemm.specs.Terms.{terms_of_row, times_found};
+ghost use Rattle.terms.specs.Terms.{terms_of_row, times_found};
 ghost use Rattle.spgemm.specs.Truths.{AreTruths};
-ghost use Rattle.spgemm.specs.declared.term.Term.{Term};
+ghost use Rattle.terms.specs.declared.term.Term.{Term};
 
 use crate::bitmap_sums::Factors;
 use crate::truths::{add_products, add_true_products};

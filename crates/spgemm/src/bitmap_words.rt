@@ -9,8 +9,8 @@ ghost use Rattle.model.specs.Object.{transposed_content};
 ghost use Rattle.store.specs.Fibers.{entries_along};
 ghost use Rattle.spgemm.specs.Dense.{AreMarkedSums};
 ghost use Rattle.spgemm.specs.Partials.{AreWordsOf, terms_between};
-ghost use Rattle.spgemm.specs.Terms.{apply, terms_of_row, times_found};
-ghost use Rattle.spgemm.specs.declared.term.Term.{Term};
+ghost use Rattle.terms.specs.Terms.{apply, terms_of_row, times_found};
+ghost use Rattle.terms.specs.declared.term.Term.{Term};
 
 use crate::bitmap_sums::Factors;
 use crate::many::add_row_of_b;

@@ -8,18 +8,16 @@ ghost use Rattle.store.specs.Fibers.{entries_along};
 ghost use Rattle.lanes.specs.Bits.{has_bit};
 ghost use Rattle.spgemm.specs.Dense.{AreClear, AreColumnSums, HaveRoom, found, word_by, word_in};
 ghost use Rattle.spgemm.specs.Products.{HasOpenRow};
-ghost use Rattle.spgemm.specs.Terms.{AreFirstTerms, term_at, terms_of_row, times_row};
-ghost use Rattle.spgemm.specs.declared.term.Term.{Term};
+ghost use Rattle.terms.specs.Terms.{AreFirstTerms, term_at, terms_of_row, times_row};
+ghost use Rattle.terms.specs.declared.term.Term.{Term};
 
-use crate::ahead::{AHEAD, look_ahead, pays_ahead};
 use crate::span::{Reach, widened_by_row, words_between};
-use crate::sums::push_sum;
-use crate::term::Term;
 use algebra::{BinaryOp, Semiring, with_semiring};
 use lanes::{full_words, has_bit, set_bit};
 use model::NoMemory;
 use std::ops::Range;
 use store::{FiberLists, Row, RowHints, Sparse};
+use terms::{AHEAD, Term, look_ahead, pays_ahead, push_sum};
 
 /// Adds a word to the sum at a column. Whether the column was met before can't be foreseen, so there is no branch:
 /// what stands at one that wasn't met is no sum. Where `met` is given, most columns were met, as all below it

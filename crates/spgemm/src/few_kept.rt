@@ -6,16 +6,16 @@ ghost use Rattle.lanes.specs.Bits.{has_bit};
 ghost use Rattle.store.specs.Fibers.{entries_along};
 ghost use Rattle.spgemm.specs.Dense.{AreClear, AreColumnSums, HaveRoom};
 ghost use Rattle.spgemm.specs.Products.{HasOpenRow};
-ghost use Rattle.spgemm.specs.Terms.{apply, kept_terms, term_at, terms_of_row, times_row};
-ghost use Rattle.spgemm.specs.declared.term.Term.{Term};
+ghost use Rattle.terms.specs.Terms.{apply, kept_terms, term_at, terms_of_row, times_row};
+ghost use Rattle.terms.specs.declared.term.Term.{Term};
 
-use crate::ahead::{AHEAD, look_ahead, pays_ahead};
 use crate::dense::{add_at, gather};
 use algebra::{Semiring, with_semiring};
 use lanes::{count_ones, has_bit};
 use masks::MarkedMask;
 use model::NoMemory;
 use store::{FiberLists, Row, RowHints, Sparse};
+use terms::{AHEAD, look_ahead, pays_ahead};
 
 /// Where a mask keeps at most one of so many columns, a processor foresees that it keeps a product out, and to ask it
 /// takes less than to add what is dropped later. Where it keeps more, what can't be foreseen costs more than the sums.

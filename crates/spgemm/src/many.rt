@@ -5,8 +5,8 @@ ghost use Rattle.std.specs.List.{All, AllPairs};
 ghost use Rattle.store.specs.Fibers.{entries_along};
 ghost use Rattle.lanes.specs.Bits.{has_bit};
 ghost use Rattle.spgemm.specs.Dense.{AreColumnSums, AreMarkedSums, HaveRoom};
-ghost use Rattle.spgemm.specs.Terms.{terms_of_row, times_row};
-ghost use Rattle.spgemm.specs.declared.term.Term.{Term};
+ghost use Rattle.terms.specs.Terms.{terms_of_row, times_row};
+ghost use Rattle.terms.specs.declared.term.Term.{Term};
 
 use crate::along::{add_along, are_consecutive};
 use algebra::{Semiring, with_semiring};

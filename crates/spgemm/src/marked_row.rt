@@ -3,9 +3,9 @@ ghost use Rattle.std.specs.Prelude.{◌≡◌, ◌<◌, ◌≤◌, ◌^◌, leng
 ghost use Rattle.std.specs.List.{AllPairs};
 ghost use Rattle.store.specs.Fibers.{entries_along};
 ghost use Rattle.spgemm.specs.Dense.{AreClear, HaveRoom};
-ghost use Rattle.spgemm.specs.Keeping.{keeps_marked};
+ghost use Rattle.terms.specs.Marked.{keeps_marked};
 ghost use Rattle.spgemm.specs.Products.{HasOpenRow, HasRow};
-ghost use Rattle.spgemm.specs.Terms.{kept_terms, terms_of_row};
+ghost use Rattle.terms.specs.Terms.{kept_terms, terms_of_row};
 
 use crate::dense::fit;
 use crate::few_kept::{keeps_few, sum_few};

@@ -3,23 +3,21 @@ ghost use Rattle.std.specs.Prelude.{◌≡◌, ◌<◌, ◌≤◌, ◌^◌, ℕ,
 ghost use Rattle.std.specs.List.{All, AllPairs};
 ghost use Rattle.store.specs.Fibers.{entries_along};
 ghost use Rattle.spgemm.specs.Dense.{AreClear, AreColumnSums, HaveRoom};
-ghost use Rattle.spgemm.specs.Keeping.{lets_marked};
+ghost use Rattle.terms.specs.Marked.{lets_marked};
 ghost use Rattle.spgemm.specs.Products.{HasOpenRow, HasRow};
-ghost use Rattle.spgemm.specs.Terms.{AreFirstKept, AreFirstTerms, kept_terms, terms_of_row};
+ghost use Rattle.terms.specs.Terms.{AreFirstKept, AreFirstTerms, kept_terms, terms_of_row};
 
 use crate::dense::{MOST_PLACES, fit, gather, sum_at_once, sum_densely, sum_in_span};
-use crate::expand::expand;
 use crate::keep::keep_bits;
 use crate::many::{exceeds_columns, sum_many};
 use crate::span::{most_collected, pays, span_of};
-use crate::sums::sum_runs;
-use crate::term::Term;
 use crate::truths::{are_truths, sum_truths};
 use algebra::Semiring;
 use masks::MarkedMask;
 use model::NoMemory;
 use std::alloc::Global;
 use store::{FiberLists, Row, RowHints, Sparse};
+use terms::{Term, expand, sum_runs};
 
 /// Memory that serves one row after another: terms, and sums with a place for each column, each with a bit, and
 /// where there are many products with a mark, that says whether there is one, or a bit, that says whether it is true;

@@ -3,8 +3,8 @@ ghost use Rattle.std.specs.Prelude.{◌≡◌, ◌<◌, ◌≤◌, ◌+◌, ◌/
 ghost use Rattle.std.specs.List.{All, AllPairs};
 
 use crate::dense::MOST_PLACES;
-use crate::term::Term;
 use std::ops::Range;
+use terms::Term;
 
 /// How many words of bits are looked through at most for each product, where that is faster than to sort the
 /// products.

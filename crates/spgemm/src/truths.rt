@@ -6,9 +6,9 @@ ghost use Rattle.algebra.specs.declared.kinds.MonoidKind.TheVariants.{Lor};
 ghost use Rattle.lanes.specs.Bits.{has_bit};
 ghost use Rattle.store.specs.Fibers.{entries_along};
 ghost use Rattle.spgemm.specs.Dense.{AreClear, AreColumnSums, HaveRoom};
-ghost use Rattle.spgemm.specs.Terms.{apply, term_at, terms_of_row, times_row};
+ghost use Rattle.terms.specs.Terms.{apply, term_at, terms_of_row, times_row};
 ghost use Rattle.spgemm.specs.Truths.{AreTruths, truth};
-ghost use Rattle.spgemm.specs.declared.term.Term.{Term};
+ghost use Rattle.terms.specs.declared.term.Term.{Term};
 
 use algebra::{BinaryOp, MonoidKind, Semiring, with_semirings};
 use lanes::{has_bit, set_bit, set_bit_by};

@@ -5,7 +5,7 @@ ghost use Rattle.store.specs.Fibers.{entries_along};
 ghost use Rattle.spgemm.specs.Dense.{AreClear, HaveRoom};
 ghost use Rattle.spgemm.specs.Products.{HasRow, lets_by};
 ghost use Rattle.spgemm.specs.Slots.{AreMarks};
-ghost use Rattle.spgemm.specs.Terms.{kept_terms, terms_of_row};
+ghost use Rattle.terms.specs.Terms.{kept_terms, terms_of_row};
 ghost use Rattle.spgemm.specs.Vectors.{keeps_down};
 
 use crate::column::column_in;

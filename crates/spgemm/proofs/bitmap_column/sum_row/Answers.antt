@@ -4,7 +4,7 @@ use Rattle.model.specs.Entries.{entry_at}
 use Rattle.store.specs.Fibers.{entries_along}
 use Rattle.store.specs.Forms.{of_bitmap}
 use Rattle.store.proofs.Places.{length_row, row_at}
-use Rattle.spgemm.specs.Terms.{sum_at, terms_of_row}
+use Rattle.terms.specs.Terms.{sum_at, terms_of_row}
 use Rattle.spgemm.proofs.Dots.{dot_none, dot_some}
 use Rattle.spgemm.proofs.bitmap_column.sum_row.Goals as goal
 use Rattle.spgemm.proofs.bitmap_column.sum_row.Goals.{in-Some, in_default}

@@ -1,7 +1,7 @@
 use Rattle.std.proofs.Common.{◌≡◌, take}
 use Rattle.store.specs.Fibers.{entries_along}
 use Rattle.store.specs.Forms.{of_bitmap}
-use Rattle.spgemm.specs.Terms.{sum_at, terms_of_row}
+use Rattle.terms.specs.Terms.{sum_at, terms_of_row}
 use Rattle.spgemm.proofs.bitmap_column.sum_row.Given as goal
 
 abbrev pub invariant-loop-k : goal.invariant-loop-k

@@ -3,9 +3,9 @@ use Rattle.std.proofs.Common.{◌-◌, List, arith, if◌then◌else◌, refl, s
 use Rattle.bitmap.specs.Bitmaps.{row_part}
 use Rattle.model.specs.Entries.{word_at}
 use Rattle.model.specs.Object.{transposed_content}
-use Rattle.spgemm.specs.Terms.{terms_of_row}
+use Rattle.terms.specs.Terms.{terms_of_row}
 use Rattle.spgemm.specs.Truths.{AreTruths}
-use Rattle.spgemm.specs.declared.term.Term.{Term}
+use Rattle.terms.specs.declared.term.Term.{Term}
 use Rattle.spgemm.proofs.BitmapWalk.{no_columns, vector_all, vector_more}
 use Rattle.spgemm.proofs.DenseLaws.{cols_below}
 use Rattle.spgemm.proofs.TruthLaws.{no_truths}

@@ -2,7 +2,7 @@ use Rattle.std.proofs.Common.{◌-◌, ◌≤◌, if◌then◌else◌}
 use Rattle.bitmap.specs.Bitmaps.{row_part}
 use Rattle.model.specs.Entries.{word_at}
 use Rattle.model.specs.Object.{transposed_content}
-use Rattle.spgemm.specs.Terms.{terms_of_row}
+use Rattle.terms.specs.Terms.{terms_of_row}
 use Rattle.spgemm.specs.Truths.{AreTruths}
 use Rattle.spgemm.proofs.bitmap_truths.add_rows_by.Given as goal
 

@@ -3,7 +3,7 @@ use Rattle.model.specs.Entries.{word_at}
 use Rattle.model.specs.Object.{transposed_content}
 use Rattle.store.proofs.Walks.{rest_shorter}
 use Rattle.spgemm.specs.Dense.{AreMarkedSums}
-use Rattle.spgemm.specs.declared.term.Term.{Term}
+use Rattle.terms.specs.declared.term.Term.{Term}
 use Rattle.spgemm.proofs.BitmapWalk.{across_all, across_more, across_next, across_none}
 use Rattle.spgemm.proofs.DenseLaws.{cols_below}
 use Rattle.spgemm.proofs.bitmap_words.add_rows_by.Goals as goal

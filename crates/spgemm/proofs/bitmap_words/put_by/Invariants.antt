@@ -1,5 +1,5 @@
 use Rattle.std.proofs.Common.{◌≡◌, ◌<◌, ◌≤◌, ℕ, get_or}
-use Rattle.spgemm.specs.Terms.{apply}
+use Rattle.terms.specs.Terms.{apply}
 use Rattle.spgemm.proofs.bitmap_words.put_by.Given as goal
 
 -- the words so far are put together, and the others are as they were

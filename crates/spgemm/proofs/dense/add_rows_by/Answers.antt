@@ -5,10 +5,10 @@ use Rattle.std.proofs.lemmas.List.Elements.{All-weaker}
 use Rattle.store.specs.Fibers.{entries_along}
 use Rattle.store.proofs.Places.{length_row}
 use Rattle.spgemm.specs.Dense.{AreColumnSums}
-use Rattle.spgemm.specs.Terms.{terms_of_row}
+use Rattle.terms.specs.Terms.{terms_of_row}
 use Rattle.spgemm.proofs.DenseLaws.{cols_below}
 use Rattle.spgemm.proofs.SlotRows.{row_rises}
-use Rattle.spgemm.proofs.Terms.{row_more}
+use Rattle.terms.proofs.Terms.{row_more}
 use Rattle.spgemm.proofs.dense.add_rows_by.Goals as goal
 use Rattle.spgemm.proofs.dense.add_rows_by.Goals.{then-cols-many, else-cols-many}
 

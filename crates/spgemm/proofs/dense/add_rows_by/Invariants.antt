@@ -2,7 +2,7 @@ use Rattle.std.proofs.Common.{◌≡◌, ◌*◌, ◌/◌, ◌<◌, ◌≤◌, �
 use Rattle.store.specs.Fibers.{entries_along}
 use Rattle.lanes.specs.Bits.{has_bit}
 use Rattle.spgemm.specs.Dense.{AreColumnSums}
-use Rattle.spgemm.specs.Terms.{terms_of_row}
+use Rattle.terms.specs.Terms.{terms_of_row}
 use Rattle.spgemm.proofs.dense.add_rows_by.Given as goal
 
 abbrev pub invariant-loop-k : goal.invariant-loop-k

@@ -3,7 +3,7 @@ use Rattle.std.specs.List.{All}
 use Rattle.std.proofs.lemmas.List.{take_more}
 use Rattle.store.proofs.Order.{all_append_left, all_append_right}
 use Rattle.spgemm.specs.Dense.{AreColumnSums}
-use Rattle.spgemm.specs.declared.term.Term.{Term}
+use Rattle.terms.specs.declared.term.Term.{Term}
 use Rattle.spgemm.proofs.DenseLaws.{clear_sums}
 use Rattle.spgemm.proofs.dense.add_terms_by.Goals as goal
 

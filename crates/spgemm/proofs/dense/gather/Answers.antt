@@ -3,7 +3,7 @@ use Rattle.std.proofs.lemmas.Bool.{cases_Bool, cases_eq}
 use Rattle.std.proofs.lemmas.Bool.Decides.{nat_tests}
 use Rattle.std.proofs.lemmas.List.{get_or-set_other, get_or-set_same, map-append}
 use Rattle.spgemm.specs.Dense.{found, word_by, word_in}
-use Rattle.spgemm.specs.declared.term.Term.{Term}
+use Rattle.terms.specs.declared.term.Term.{Term}
 use Rattle.spgemm.proofs.DenseLaws.{all_before, found_next, no_bits, none_before}
 use Rattle.spgemm.proofs.dense.gather.Goals as goal
 use Rattle.spgemm.proofs.dense.gather.Goals.{then-here-ne0+in_ok-gather_word, else-here-ne0}

@@ -2,8 +2,8 @@ use Rattle.std.proofs.Common.{◌≡◌, ◌<◌, ◌+◌, ◌∷◌, ◌∙◌,
 use Rattle.std.specs.Int.{trailing_zeros}
 use Rattle.std.proofs.lemmas.List.{map-append}
 use Rattle.spgemm.specs.Dense.{found, word_by}
-use Rattle.spgemm.specs.Terms.{term_at}
-use Rattle.spgemm.specs.declared.term.Term.{Term}
+use Rattle.terms.specs.Terms.{term_at}
+use Rattle.terms.specs.declared.term.Term.{Term}
 use Rattle.lanes.proofs.BitLaws.{AreLeft, all_left, cleared_less, lowest_cleared, ones_behind}
 use Rattle.spgemm.proofs.DenseLaws.{all_found, found_zero, next_word}
 use Rattle.spgemm.proofs.dense.gather_word.Goals as goal

@@ -1,6 +1,6 @@
 use Rattle.std.proofs.Common.{◌∙◌, arith, inl, inr, length}
 use Rattle.store.specs.Fibers.{entries_along}
-use Rattle.spgemm.specs.Terms.{terms_of_row}
+use Rattle.terms.specs.Terms.{terms_of_row}
 use Rattle.spgemm.proofs.DenseLaws.{below_width, dense_open}
 use Rattle.spgemm.proofs.dense.sum_at_once.Goals as goal
 

@@ -5,7 +5,7 @@ use Rattle.model.specs.Entries.{entry_at}
 use Rattle.store.specs.Fibers.{entries_along}
 use Rattle.store.proofs.Places.{length_row, row_at}
 use Rattle.spgemm.specs.Dense.{AreColumnSums}
-use Rattle.spgemm.specs.Terms.{kept_terms, times_row}
+use Rattle.terms.specs.Terms.{kept_terms, times_row}
 use Rattle.spgemm.proofs.FewKept.{kept_more}
 use Rattle.spgemm.proofs.few_kept.add_products.Goals as goal
 

@@ -2,8 +2,8 @@ use Rattle.std.proofs.Common.{◌++◌, List, take}
 use Rattle.lanes.specs.Bits.{has_bit}
 use Rattle.store.specs.Fibers.{entries_along}
 use Rattle.spgemm.specs.Dense.{AreColumnSums}
-use Rattle.spgemm.specs.Terms.{kept_terms, times_row}
-use Rattle.spgemm.specs.declared.term.Term.{Term}
+use Rattle.terms.specs.Terms.{kept_terms, times_row}
+use Rattle.terms.specs.declared.term.Term.{Term}
 use Rattle.spgemm.proofs.few_kept.add_products.Given as goal
 
 abbrev pub invariant-loop-k : goal.invariant-loop-k

@@ -4,10 +4,10 @@ use Rattle.lanes.specs.Bits.{has_bit}
 use Rattle.store.specs.Fibers.{entries_along}
 use Rattle.store.proofs.Places.{length_row}
 use Rattle.spgemm.specs.Dense.{AreColumnSums}
-use Rattle.spgemm.specs.Terms.{kept_terms, terms_of_row, times_row}
+use Rattle.terms.specs.Terms.{kept_terms, terms_of_row, times_row}
 use Rattle.spgemm.proofs.DenseLaws.{clear_sums, cols_below}
 use Rattle.spgemm.proofs.FewKept.{kept_append}
-use Rattle.spgemm.proofs.Terms.{row_more}
+use Rattle.terms.proofs.Terms.{row_more}
 use Rattle.spgemm.proofs.few_kept.add_rows_by.Goals as goal
 
 pub add_products-requires-clause-inside : goal.add_products-requires-clause-inside

@@ -2,7 +2,7 @@ use Rattle.std.proofs.Common.{take}
 use Rattle.lanes.specs.Bits.{has_bit}
 use Rattle.store.specs.Fibers.{entries_along}
 use Rattle.spgemm.specs.Dense.{AreColumnSums}
-use Rattle.spgemm.specs.Terms.{kept_terms, terms_of_row}
+use Rattle.terms.specs.Terms.{kept_terms, terms_of_row}
 use Rattle.spgemm.proofs.few_kept.add_rows_by.Given as goal
 
 abbrev pub invariant-loop-k : goal.invariant-loop-k

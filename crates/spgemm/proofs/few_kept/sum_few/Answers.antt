@@ -3,10 +3,10 @@ use Rattle.std.specs.List.{All}
 use Rattle.std.proofs.lemmas.List.Elements.{All-weaker}
 use Rattle.lanes.specs.Bits.{has_bit}
 use Rattle.store.specs.Fibers.{entries_along}
-use Rattle.spgemm.specs.Terms.{kept_terms, terms_of_row}
-use Rattle.spgemm.specs.declared.term.Term.{Term}
+use Rattle.terms.specs.Terms.{kept_terms, terms_of_row}
+use Rattle.terms.specs.declared.term.Term.{Term}
 use Rattle.spgemm.proofs.DenseLaws.{below_width, dense_open_ok}
-use Rattle.spgemm.proofs.Kept.{all_kept}
+use Rattle.terms.proofs.Kept.{all_kept}
 use Rattle.spgemm.proofs.few_kept.sum_few.Goals as goal
 
 pub returns : goal.returns

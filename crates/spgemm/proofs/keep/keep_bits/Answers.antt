@@ -1,5 +1,5 @@
 use Rattle.std.proofs.Common.{◌≡◌, Some, arith, get_or}
-use Rattle.spgemm.specs.Keeping.{lets_marked}
+use Rattle.terms.specs.Marked.{lets_marked}
 use Rattle.spgemm.proofs.KeptBits.{none_more, word_kept}
 use Rattle.spgemm.proofs.keep.keep_bits.Goals as goal
 use Rattle.spgemm.proofs.keep.keep_bits.Goals.{then-here-ne0, else-here-ne0}

@@ -1,5 +1,5 @@
 use Rattle.std.proofs.Common.{Some}
-use Rattle.spgemm.specs.Keeping.{lets_marked}
+use Rattle.terms.specs.Marked.{lets_marked}
 use Rattle.spgemm.proofs.KeptBits.{AreKeptBits}
 use Rattle.spgemm.proofs.keep.keep_bits.Given as goal
 

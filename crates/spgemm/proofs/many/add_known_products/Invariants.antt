@@ -2,8 +2,8 @@ use Rattle.std.proofs.Common.{◌≡◌, ◌++◌, Bool, List, false, get_or, le
 use Rattle.std.specs.List.{All}
 use Rattle.store.specs.Fibers.{entries_along}
 use Rattle.spgemm.specs.Dense.{AreMarkedSums}
-use Rattle.spgemm.specs.Terms.{times_row}
-use Rattle.spgemm.specs.declared.term.Term.{Term}
+use Rattle.terms.specs.Terms.{times_row}
+use Rattle.terms.specs.declared.term.Term.{Term}
 use Rattle.spgemm.proofs.many.add_known_products.Given as goal
 
 abbrev pub invariant-loop-k : goal.invariant-loop-k

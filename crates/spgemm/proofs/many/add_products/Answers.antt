@@ -4,7 +4,7 @@ use Rattle.model.specs.Entries.{entry_at}
 use Rattle.store.specs.Fibers.{entries_along}
 use Rattle.store.proofs.Places.{length_row, row_at}
 use Rattle.spgemm.specs.Dense.{AreMarkedSums}
-use Rattle.spgemm.specs.Terms.{times_row}
+use Rattle.terms.specs.Terms.{times_row}
 use Rattle.spgemm.proofs.ManyLaws.{mark_stays, marked_product}
 use Rattle.spgemm.proofs.many.add_products.Goals as goal
 

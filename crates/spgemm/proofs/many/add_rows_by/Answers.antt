@@ -3,9 +3,9 @@ use Rattle.std.proofs.lemmas.List.{take_all}
 use Rattle.store.specs.Fibers.{entries_along}
 use Rattle.store.proofs.Places.{length_row}
 use Rattle.spgemm.specs.Dense.{AreMarkedSums}
-use Rattle.spgemm.specs.Terms.{terms_of_row}
+use Rattle.terms.specs.Terms.{terms_of_row}
 use Rattle.spgemm.proofs.DenseLaws.{cols_below}
-use Rattle.spgemm.proofs.Terms.{row_more}
+use Rattle.terms.proofs.Terms.{row_more}
 use Rattle.spgemm.proofs.many.add_rows_by.Goals as goal
 
 pub add_row_of_b-known-requires-clause-inside : goal.add_row_of_b-known-requires-clause-inside

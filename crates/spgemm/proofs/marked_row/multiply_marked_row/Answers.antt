@@ -1,6 +1,6 @@
 use Rattle.store.specs.Fibers.{entries_along}
-use Rattle.spgemm.specs.Keeping.{keeps_marked}
-use Rattle.spgemm.specs.Terms.{kept_terms, terms_of_row}
+use Rattle.terms.specs.Marked.{keeps_marked}
+use Rattle.terms.specs.Terms.{kept_terms, terms_of_row}
 use Rattle.spgemm.proofs.KeptRows.{row_closed}
 use Rattle.spgemm.proofs.marked_row.multiply_marked_row.Goals as goal
 

@@ -1,8 +1,8 @@
 use Rattle.std.proofs.Common.{◌≡◌, Some, arith, rules}
 use Rattle.store.specs.Fibers.{entries_along}
-use Rattle.spgemm.specs.Keeping.{keeps_marked, lets_marked}
-use Rattle.spgemm.specs.Terms.{kept_terms, terms_of_row}
-use Rattle.spgemm.proofs.Kept.{all_terms}
+use Rattle.terms.specs.Marked.{keeps_marked, lets_marked}
+use Rattle.terms.specs.Terms.{kept_terms, terms_of_row}
+use Rattle.terms.proofs.Kept.{all_terms}
 use Rattle.spgemm.proofs.Parts.{kept_inside}
 use Rattle.spgemm.proofs.Rows.{open_of}
 use Rattle.spgemm.proofs.marked_row.sum_marked.Goals as goal

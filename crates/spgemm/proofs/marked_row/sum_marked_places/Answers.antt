@@ -1,11 +1,11 @@
 use Rattle.std.proofs.Common.{◌≡◌, OnOk, arith, subst}
 use Rattle.lanes.specs.Bits.{has_bit}
 use Rattle.store.specs.Fibers.{entries_along}
-use Rattle.spgemm.specs.Keeping.{keeps_marked}
+use Rattle.terms.specs.Marked.{keeps_marked}
 use Rattle.spgemm.specs.Products.{HasOpenRow}
-use Rattle.spgemm.specs.Terms.{kept_terms, terms_of_row}
+use Rattle.terms.specs.Terms.{kept_terms, terms_of_row}
 use Rattle.spgemm.proofs.FewKept.{kept_alike}
-use Rattle.spgemm.proofs.Kept.{terms_inside}
+use Rattle.terms.proofs.Kept.{terms_inside}
 use Rattle.spgemm.proofs.marked_row.sum_marked_places.Goals as goal
 
 pub returns-then-keeps_few : goal.returns-then-keeps_few

@@ -1,9 +1,9 @@
 use Rattle.std.proofs.Common.{◌<◌, ◌≤◌, arith, rules}
 use Rattle.std.proofs.lemmas.List.Elements.{All-weaker}
 use Rattle.store.specs.Fibers.{entries_along}
-use Rattle.spgemm.specs.Terms.{terms_of_row}
+use Rattle.terms.specs.Terms.{terms_of_row}
 use Rattle.spgemm.proofs.DenseLaws.{cols_below}
-use Rattle.spgemm.proofs.Kept.{terms_inside}
+use Rattle.terms.proofs.Kept.{terms_inside}
 use Rattle.spgemm.proofs.SlotRows.{row_all, row_kept, row_rises}
 use Rattle.spgemm.proofs.masked_row.multiply_row.Goals as goal
 

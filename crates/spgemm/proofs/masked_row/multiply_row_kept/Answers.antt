@@ -2,8 +2,8 @@ use Rattle.std.proofs.Common.{◌≡◌, ◌∙◌, drop, length}
 use Rattle.std.proofs.lemmas.List.{take_rest}
 use Rattle.store.specs.Fibers.{entries_along}
 use Rattle.spgemm.specs.Keeping.{HasKept, IsPart, keeps_among}
-use Rattle.spgemm.specs.Terms.{kept_terms, terms_of_row}
-use Rattle.spgemm.proofs.Kept.{terms_inside}
+use Rattle.terms.specs.Terms.{kept_terms, terms_of_row}
+use Rattle.terms.proofs.Kept.{terms_inside}
 use Rattle.spgemm.proofs.KeptRows.{kept_open, open_inside, open_rises, row_closed}
 use Rattle.spgemm.proofs.masked_row.multiply_row_kept.Goals as goal
 

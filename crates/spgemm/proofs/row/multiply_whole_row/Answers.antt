@@ -1,5 +1,5 @@
 use Rattle.store.specs.Fibers.{entries_along}
-use Rattle.spgemm.specs.Terms.{terms_of_row}
+use Rattle.terms.specs.Terms.{terms_of_row}
 use Rattle.spgemm.proofs.KeptRows.{row_closed}
 use Rattle.spgemm.proofs.row.multiply_whole_row.Goals as goal
 

@@ -1,10 +1,10 @@
 use Rattle.std.proofs.Common.{None, OnOk, ◌∙◌, ◌<◌, arith, subst, sym, take}
 use Rattle.std.specs.List.{All}
 use Rattle.store.specs.Fibers.{entries_along}
-use Rattle.spgemm.specs.Keeping.{lets_marked}
+use Rattle.terms.specs.Marked.{lets_marked}
 use Rattle.spgemm.specs.Products.{HasOpenRow}
-use Rattle.spgemm.specs.Terms.{terms_of_row}
-use Rattle.spgemm.proofs.Kept.{all_terms, kept_all, terms_inside}
+use Rattle.terms.specs.Terms.{terms_of_row}
+use Rattle.terms.proofs.Kept.{all_terms, kept_all, terms_inside}
 use Rattle.spgemm.proofs.Rows.{open_of}
 use Rattle.spgemm.proofs.row.sum_collected.Goals as goal
 

@@ -4,11 +4,11 @@ use Rattle.std.proofs.lemmas.List.{with_items_is}
 use Rattle.std.proofs.lemmas.List.Elements.{All-weaker}
 use Rattle.store.specs.Fibers.{entries_along}
 use Rattle.lanes.specs.Bits.{has_bit}
-use Rattle.spgemm.specs.Keeping.{lets_marked}
-use Rattle.spgemm.specs.Terms.{kept_terms, terms_of_row}
-use Rattle.spgemm.specs.declared.term.Term.{Term}
+use Rattle.terms.specs.Marked.{lets_marked}
+use Rattle.terms.specs.Terms.{kept_terms, terms_of_row}
+use Rattle.terms.specs.declared.term.Term.{Term}
 use Rattle.spgemm.proofs.DenseLaws.{below_width, dense_open_ok}
-use Rattle.spgemm.proofs.Kept.{all_kept}
+use Rattle.terms.proofs.Kept.{all_kept}
 use Rattle.spgemm.proofs.KeptBits.{kept_sums}
 use Rattle.spgemm.proofs.row.sum_in_places.Goals as goal
 

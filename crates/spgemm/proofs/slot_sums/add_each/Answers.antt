@@ -4,7 +4,7 @@ use Rattle.model.specs.Entries.{entry_at}
 use Rattle.store.specs.Fibers.{entries_along}
 use Rattle.store.proofs.Places.{length_row, row_at}
 use Rattle.spgemm.specs.Slots.{AreSlotSums}
-use Rattle.spgemm.specs.Terms.{times_row}
+use Rattle.terms.specs.Terms.{times_row}
 use Rattle.spgemm.proofs.SlotSums.{product_at_slot, product_at_no_slot}
 use Rattle.spgemm.proofs.slot_sums.add_each.Goals as goal
 use Rattle.spgemm.proofs.slot_sums.add_each.Goals.{in-Some, in_default}

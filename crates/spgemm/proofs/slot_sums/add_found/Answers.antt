@@ -3,8 +3,8 @@ use Rattle.store.specs.Fibers.{entries_along}
 use Rattle.store.proofs.Places.{length_row, row_at}
 use Rattle.model.specs.Entries.{entry_at}
 use Rattle.spgemm.specs.Slots.{AreSlotSums}
-use Rattle.spgemm.specs.Terms.{times_row}
-use Rattle.spgemm.specs.declared.term.Term.{Term}
+use Rattle.terms.specs.Terms.{times_row}
+use Rattle.terms.specs.declared.term.Term.{Term}
 use Rattle.spgemm.proofs.SlotSearch.{place_found, search_away, search_end, search_found, search_missed, search_start}
 use Rattle.spgemm.proofs.SlotSums.{product_at_slot, products_away, products_left}
 use Rattle.spgemm.proofs.slot_sums.add_found.Goals as goal

@@ -1,8 +1,8 @@
 use Rattle.std.proofs.Common.{◌++◌, List, take}
 use Rattle.store.specs.Fibers.{entries_along}
 use Rattle.spgemm.specs.Slots.{AreSlotSums}
-use Rattle.spgemm.specs.Terms.{times_row}
-use Rattle.spgemm.specs.declared.term.Term.{Term}
+use Rattle.terms.specs.Terms.{times_row}
+use Rattle.terms.specs.declared.term.Term.{Term}
 use Rattle.spgemm.proofs.SlotSearch.{AreSearched}
 use Rattle.spgemm.proofs.slot_sums.add_found.Given as goal
 

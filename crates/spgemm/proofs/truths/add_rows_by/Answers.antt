@@ -2,10 +2,10 @@ use Rattle.std.proofs.Common.{arith, subst, sym, take}
 use Rattle.std.proofs.lemmas.List.{take_all}
 use Rattle.store.specs.Fibers.{entries_along}
 use Rattle.store.proofs.Places.{length_row}
-use Rattle.spgemm.specs.Terms.{terms_of_row}
+use Rattle.terms.specs.Terms.{terms_of_row}
 use Rattle.spgemm.specs.Truths.{AreTruths}
 use Rattle.spgemm.proofs.DenseLaws.{cols_below}
-use Rattle.spgemm.proofs.Terms.{row_more}
+use Rattle.terms.proofs.Terms.{row_more}
 use Rattle.spgemm.proofs.TruthLaws.{no_truths}
 use Rattle.spgemm.proofs.truths.add_rows_by.Goals as goal
 

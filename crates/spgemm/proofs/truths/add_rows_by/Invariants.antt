@@ -1,6 +1,6 @@
 use Rattle.std.proofs.Common.{take}
 use Rattle.store.specs.Fibers.{entries_along}
-use Rattle.spgemm.specs.Terms.{terms_of_row}
+use Rattle.terms.specs.Terms.{terms_of_row}
 use Rattle.spgemm.specs.Truths.{AreTruths}
 use Rattle.spgemm.proofs.truths.add_rows_by.Given as goal
 

@@ -3,7 +3,7 @@ use Rattle.std.proofs.lemmas.List.{take_all}
 use Rattle.model.specs.Entries.{entry_at}
 use Rattle.store.specs.Fibers.{entries_along}
 use Rattle.store.proofs.Places.{length_row, row_at}
-use Rattle.spgemm.specs.Terms.{apply, term_at, times_row}
+use Rattle.terms.specs.Terms.{apply, term_at, times_row}
 use Rattle.spgemm.specs.Truths.{AreTruths}
 use Rattle.spgemm.proofs.SlotSums.{more_terms}
 use Rattle.spgemm.proofs.TruthLaws.{on_bool, product_truth, true_more}

@@ -1,8 +1,8 @@
 use Rattle.std.proofs.Common.{◌++◌, List, take}
 use Rattle.store.specs.Fibers.{entries_along}
-use Rattle.spgemm.specs.Terms.{times_row}
+use Rattle.terms.specs.Terms.{times_row}
 use Rattle.spgemm.specs.Truths.{AreTruths}
-use Rattle.spgemm.specs.declared.term.Term.{Term}
+use Rattle.terms.specs.declared.term.Term.{Term}
 use Rattle.spgemm.proofs.truths.add_true_products.Given as goal
 
 abbrev pub invariant-loop-k : goal.invariant-loop-k

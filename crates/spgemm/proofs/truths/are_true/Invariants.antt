@@ -1,5 +1,5 @@
 use Rattle.std.proofs.Common.{◌<◌, ◌≢◌, ℕ, get_or}
-use Rattle.spgemm.specs.Terms.{apply}
+use Rattle.terms.specs.Terms.{apply}
 use Rattle.spgemm.proofs.truths.are_true.Given as goal
 
 abbrev pub invariant-loop-k : goal.invariant-loop-k

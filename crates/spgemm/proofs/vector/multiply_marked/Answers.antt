@@ -2,10 +2,10 @@ use Rattle.std.proofs.Common.{◌∙◌, Bool, ℕ, ap, rules}
 use Rattle.masks.specs.Masks.{lets_word}
 use Rattle.model.specs.Entries.{word_at}
 use Rattle.store.specs.Fibers.{entries_along}
-use Rattle.spgemm.specs.Keeping.{keeps_marked}
-use Rattle.spgemm.specs.Terms.{kept_terms, terms_of_row}
+use Rattle.terms.specs.Marked.{keeps_marked}
+use Rattle.terms.specs.Terms.{kept_terms, terms_of_row}
 use Rattle.spgemm.specs.Vectors.{keeps_down}
-use Rattle.spgemm.proofs.Kept.{terms_inside}
+use Rattle.terms.proofs.Kept.{terms_inside}
 use Rattle.spgemm.proofs.Parts.{kept_down}
 use Rattle.spgemm.proofs.Vectors.{IsOneRow, one_row, one_row_inside, vector_words}
 use Rattle.spgemm.proofs.vector.multiply_marked.Goals as goal

@@ -1,6 +1,6 @@
 use Rattle.std.proofs.Common.{arith, false, refl, true}
 use Rattle.store.specs.Fibers.{entries_along}
-use Rattle.spgemm.specs.Terms.{terms_of_row}
+use Rattle.terms.specs.Terms.{terms_of_row}
 use Rattle.spgemm.proofs.Parts.{part_all, part_kept, whole_part}
 use Rattle.spgemm.proofs.vector_row.multiply_part.Goals as goal
 

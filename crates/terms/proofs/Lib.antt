@@ -1,0 +1,4 @@
+pub mod Arms
+pub mod Kept
+pub mod Terms
+pub mod Written
