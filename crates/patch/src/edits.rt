@@ -5,9 +5,10 @@ ghost use Rattle.patch.specs.Edits.{IsInside, edited, edited_once};
 ghost use Rattle.store.specs.Stored.{content_of};
 
 use crate::merging::merge_into;
+use bitmap::suits_bitmap;
 use model::NoMemory;
 use std::alloc::Global;
-use store::Store;
+use store::{Form, Store};
 
 /// An edit of one position: a row and a column, and the word that is set there.
 #[derive(Clone, Copy)]
@@ -31,7 +32,7 @@ impl Edit {
     }
 }
 
-// So many edits are done in place, each of which may move all entries behind it. On a large store more of
+// So many edits of lists are done in place, each of which may move all entries behind it. On a large store more of
 // them would take longer than to write all entries anew.
 const FEW_EDITS: usize = 16;
 
@@ -39,8 +40,9 @@ const FEW_EDITS: usize = 16;
 /// stands. An error leaves a store and edits that together mean what they meant: all edits, of which the first ones may
 /// be done already.
 ///
-/// A few edits are done in place. More of them are sorted, and all entries written anew, in a time that
-/// follows the number of entries and the sort.
+/// A few edits are done in place, and more of them in a bitmap, each in constant time. Those of lists are sorted, and
+/// all entries written anew, in a time that follows the number of entries and the sort. After many of them a store is
+/// kept in the form that suits it.
 pub fn apply_edits(alloc: Global, store: &mut Store, edits: &mut Vec<Edit>) -> Result<(), NoMemory>
     requires { All (IsInside store.old.rows store.old.cols) edits.old.items }
     ensures done { OnOk result (edits.new.items ≡ []) }
@@ -53,7 +55,8 @@ pub fn apply_edits(alloc: Global, store: &mut Store, edits: &mut Vec<Edit>) -> R
     ensures meaning { (i j : ℕ) → edited edits.new.items (content_of store.new) i j
         ≡ edited edits.old.items (content_of store.old) i j }
 {
-    if edits.len() <= FEW_EDITS {
+    let few = edits.len() <= FEW_EDITS;
+    if few || is_well_filled(store) {
         apply(store, edits)?;
     } else {
         // The order of edits matters only among those of one position, which a stable sort keeps.
@@ -61,7 +64,16 @@ pub fn apply_edits(alloc: Global, store: &mut Store, edits: &mut Vec<Edit>) -> R
         merge_into(alloc, store, edits)?;
     }
     edits.clear();
+    if !few {
+        store.settle(alloc);
+    }
     Ok(())
+}
+
+/// Whether a store is a bitmap in which many positions have an entry, so that it stays one.
+fn is_well_filled(store: &Store) -> bool {
+    matches!(store.form(), Form::Bitmap(_))
+        && suits_bitmap(store.rows(), store.cols(), store.nvals())
 }
 
 /// Does edits one by one. After an error some are done, and to do them again changes nothing.
