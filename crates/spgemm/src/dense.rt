@@ -61,12 +61,16 @@ fn is_met(bits: &[u64], col: usize, met: Option<usize>) -> bool
     }
 }
 
-/// One word of two.
+/// All bits of a word for a truth, and none for the other.
+const MASKS: [u64; 2] = [0, u64::MAX];
+
+/// One word of two. Of a choice between a word that was loaded and another a compiler makes a branch, so the bits in
+/// which the words differ are masked by what a table says.
 #[inline(always)]
 fn choose(is_first: bool, first: u64, second: u64) -> u64
     ensures { result ≡ (if is_first then first else second) }
 {
-    if is_first { first } else { second }
+    second.wrapping_add(first.wrapping_sub(second) & MASKS[usize::from(is_first)])
 }
 
 /// Adds a word times each entry of a row to the sum at its column.
