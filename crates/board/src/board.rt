@@ -381,9 +381,9 @@ impl<N: Drop> Board<N> {
         self.slots.is_read(number)
     }
 
-    /// Whether a task that waits for a slot is to read all of its store (`kernel::reads_all_of`).
-    pub fn is_read_whole(&self, number: u64) -> bool {
-        self.slots.is_read_whole(number)
+    /// Whether a task that waits for a slot needs the lists of its store in one (`kernel::needs_joined`).
+    pub fn is_needed_joined(&self, number: u64) -> bool {
+        self.slots.is_needed_joined(number)
     }
 
     /// The store of a slot whose task is one piece, once that was done and joined, in the place of `give` and `whole`.

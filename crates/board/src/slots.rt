@@ -328,15 +328,15 @@ impl<N: Drop> Slots<N> {
         is_used(&self.reads, number)
     }
 
-    /// Whether a task that waits for a slot is to read all of its store.
-    pub fn is_read_whole(&self, number: u64) -> bool {
+    /// Whether a task that waits for a slot needs the lists of its store in one.
+    pub fn is_needed_joined(&self, number: u64) -> bool {
         let Some(readers) = self.readers.get(number as usize) else {
             return false;
         };
         for reader in readers {
             if let Some(recipe) = self.recipe(*reader)
                 && let Some(slot) = self.slots.get(*reader as usize)
-                && slot.inputs.are_whole_in(recipe, number)
+                && slot.inputs.need_joined(recipe, number)
             {
                 return true;
             }

@@ -43,11 +43,7 @@ pub fn cuts(
         return Vec::new(alloc);
     }
     let rows = match job.along {
-        Along::Rows(by) => {
-            let entries = (by.nvals() / pieces).max(1);
-            let front = (by.nvals() / threads.max(1)).max(entries);
-            cut_rows(alloc, by, least, front as usize, entries as usize)
-        }
+        Along::Rows(by) => cut_rows(alloc, by, least, threads, by.nvals() / pieces),
         Along::Blocks(by) => cut_blocks(alloc, by, least),
         Along::Products(a, b) => cut_products(alloc, a, b, least, threads),
         Along::Columns(by) => cut_columns(alloc, by, least, pieces),
@@ -59,27 +55,26 @@ pub fn cuts(
     }
 }
 
-/// The rows at which lists are cut into pieces of at least so many rows: one of about `front` entries, and others of
-/// about so many.
+/// The rows at which lists are cut into pieces of at least so many rows and about `small` entries. Each has half of an
+/// even share of what is left, where that is more: a thread may have to wait for a processor, and all are to end at
+/// about one time.
 fn cut_rows(
     alloc: Global,
     by: &Sparse,
     least: u64,
-    front: usize,
-    entries: usize,
+    threads: u64,
+    small: u64,
 ) -> Result<Vec<u64>, NoMemory>
     ensures { IfOk result (λ rows. AllPairs (λ row later. row < later) rows.items) }
 {
     let mut rows = Vec::new(alloc);
     let mut row = 0u64;
-    let mut size = front;
     for _ in 1..MOST_PIECES {
-        let Some(next) = next_cut(by, row, least, size) else {
+        let Some(next) = next_cut(by, row, least, threads, small) else {
             break;
         };
         rows.push(next)?;
         row = next;
-        size = entries;
     }
     Ok(rows)
 }
@@ -102,10 +97,12 @@ fn cut_blocks(alloc: Global, by: &Blocks, least: u64) -> Result<Vec<u64>, NoMemo
 }
 
 /// The row behind the piece from a row on, where another piece follows it that has at least as many rows, too.
-fn next_cut(by: &Sparse, row: u64, least: u64, entries: usize) -> Option<u64>
+fn next_cut(by: &Sparse, row: u64, least: u64, threads: u64, small: u64) -> Option<u64>
     ensures { IfSome result (λ next. row < next) }
 {
-    let next = piece_end(by, row, least, entries)?;
+    let left = by.fibers_in(row..by.rows()).len() as u64;
+    let entries = small.max(left / 2 / threads.max(1)).max(1);
+    let next = piece_end(by, row, least, entries as usize)?;
     if by.rows() - next < least {
         return None;
     }

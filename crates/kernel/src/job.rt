@@ -1,22 +1,28 @@
 //! What of a task decides where it is cut into pieces of rows.
 use crate::bitmaps::makes_column;
-use crate::reading::reads_all_of;
+use crate::reading::needs_joined;
 use bitmap::may_be_bitmap;
 use calls::{Accepted, OneInput, Operation, Recipe, Region, Role, Roles, TwoInputs};
 use model::Form as Factors;
 use store::{Blocks, Form, Sparse, Store};
 
-/// How much work a task has for each piece that it is cut into, in entries: less takes about as long as to wake a
-/// thread for it, and to join it. It says whether a product is cut, but not into how many pieces, of which some may
-/// have less.
+/// How much work there is for each of two pieces of a task that is cut, in entries: less takes about as long as to wake
+/// a thread for it, and to join it. So much has each piece of which each goes along all of an input.
 const LEAST_WORK: u64 = 131_072;
+
+/// How much work other pieces have at least, in entries; of products, some may have less.
+const LEAST_PIECE: u64 = 32_768;
+
+/// How many times what all pieces do again each of more than two has to do.
+const TIMES_AGAIN: u64 = 4;
 
 /// How many pieces each thread gets, at the most, of a product of matrices of lists: its rows may take very different
 /// times, and no thread is to work on a long piece while the others have nothing left.
 pub(crate) const PRODUCT_PIECES: u64 = 32;
 
-/// How many pieces each thread gets of other operations, of which each entry, or each row, takes about the same time.
-const EVEN_PIECES: u64 = 2;
+/// How many pieces each thread gets, at the most, of other operations, of which each entry, or each row, takes about the
+/// same time.
+const EVEN_PIECES: u64 = 8;
 
 /// How many pieces each thread gets of a task of which each goes along all of an input: of a transpose, and of a
 /// product whose first factor is a bitmap, of which it makes lists.
@@ -36,6 +42,8 @@ pub(crate) struct Job<'a> {
     work: u64,
     // ..and how many each piece does, beside its part of these.
     again: u64,
+    // How much work each piece has at least.
+    least: u64,
     pieces_a_thread: u64,
 }
 
@@ -70,14 +78,15 @@ impl<'a> Job<'a> {
 
     /// How many pieces are about worth it for so many threads.
     pub(crate) fn count_pieces(&self, threads: u64) -> u64 {
-        if threads < 2 {
+        if threads < 2 || self.work / 2 < LEAST_WORK.max(self.again) {
             return 1;
         }
         // Where rows have many entries each, there are up to twice as many pieces.
         let most = threads
             .saturating_mul(self.pieces_a_thread)
             .min(MOST_PIECES / 2);
-        most.min(self.work / LEAST_WORK.max(self.again))
+        let again = self.again.saturating_mul(TIMES_AGAIN);
+        most.min(self.work / self.least.max(again).max(1)).max(2)
     }
 }
 
@@ -138,6 +147,7 @@ fn job_of_transpose(a: &Store) -> Option<Job<'_>> {
         along: Along::Columns(a),
         work: nvals,
         again: 0,
+        least: LEAST_WORK,
         pieces_a_thread: LONG_PIECES,
     })
 }
@@ -158,6 +168,7 @@ fn job_of_extract<'a>(region: &Region, a: &'a Store, rows: u64) -> Option<Job<'a
         along: Along::Evenly(rows),
         work: listed.saturating_mul(entries_a_row),
         again: work_for_lists(region),
+        least: LEAST_PIECE,
         pieces_a_thread: EVEN_PIECES,
     })
 }
@@ -204,15 +215,16 @@ fn job_of_two<'a>(
 /// row of the second. The rows of a bitmap have about as many entries each.
 fn job_of_product<'a>(a: &'a Store, b: &'a Store) -> Job<'a> {
     let products = (b.nvals() / b.rows().max(1)).max(1);
-    let (along, pieces_a_thread) = match a.form() {
-        Form::Sparse(lists) => (Along::Products(lists, b), PRODUCT_PIECES),
-        Form::Blocks(blocks) => (Along::Blocks(blocks), PRODUCT_PIECES),
-        Form::Bitmap(_) => (Along::Evenly(a.rows()), LONG_PIECES),
+    let (along, least, pieces_a_thread) = match a.form() {
+        Form::Sparse(lists) => (Along::Products(lists, b), LEAST_PIECE, PRODUCT_PIECES),
+        Form::Blocks(blocks) => (Along::Blocks(blocks), LEAST_PIECE, PRODUCT_PIECES),
+        Form::Bitmap(_) => (Along::Evenly(a.rows()), LEAST_WORK, LONG_PIECES),
     };
     Job {
         along,
         work: a.nvals().saturating_mul(products),
         again: 0,
+        least,
         pieces_a_thread,
     }
 }
@@ -229,6 +241,7 @@ fn job_along(by: &Store, work: u64) -> Option<Job<'_>> {
         along,
         work,
         again: 0,
+        least: LEAST_PIECE,
         pieces_a_thread: EVEN_PIECES,
     })
 }
@@ -255,7 +268,7 @@ fn turned_in(recipe: &Recipe, role: Role, store: Option<&Store>) -> u64 {
     let Some(store) = store else { return 0 };
     match store.form() {
         Form::Sparse(_) => 0,
-        Form::Blocks(_) if !reads_all_of(recipe, role) => 0,
+        Form::Blocks(_) if !needs_joined(recipe, role) => 0,
         Form::Bitmap(_) | Form::Blocks(_) => store.nvals(),
     }
 }

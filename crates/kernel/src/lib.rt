@@ -27,5 +27,5 @@ pub use evaluation::evaluate;
 pub use joining::{join, makes_lists};
 pub use over::computed_over;
 pub use piece::{eval_piece, eval_piece_by, patch_over};
-pub use reading::{is_factor, reads_all_of};
+pub use reading::{is_factor, needs_joined};
 pub use spgemm::VectorProducts;

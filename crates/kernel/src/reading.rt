@@ -1,19 +1,19 @@
-//! Which inputs are read whole, and which as lists.
+//! Which inputs are needed joined, and which as lists.
 use calls::{OneInput, Operation, Recipe, Role, TwoInputs};
 use model::Form;
 
-/// Whether a piece of what a recipe gives reads all of the input in a role, or the one piece does that it is made in,
-/// and needs its lists in one: not where each row of the output rests on the same row of the input, nor for a
-/// transpose, which goes along blocks, too.
-pub fn reads_all_of(recipe: &Recipe, role: Role) -> bool {
+/// Whether what a recipe gives needs the blocks of the input in a role joined to lists in one, since a piece of it reads
+/// rows all over the input, or it is made in one piece: not where each row of the output rests on the same row of the
+/// input, nor for a transpose, which goes along blocks, too.
+pub fn needs_joined(recipe: &Recipe, role: Role) -> bool {
     match recipe {
         Recipe::New(_) | Recipe::Given(_) | Recipe::Transposed(_) => false,
         Recipe::Patch(_) | Recipe::Resized(_) => true,
         Recipe::Computed(computation) => match role {
             Role::Old => false,
             Role::Mask => true,
-            Role::First => reads_all_of_first(&computation.accepted.operation),
-            Role::Second => reads_all_of_second(&computation.accepted.operation),
+            Role::First => needs_first_joined(&computation.accepted.operation),
+            Role::Second => needs_second_joined(&computation.accepted.operation),
         },
     }
 }
@@ -39,9 +39,9 @@ pub fn is_factor(recipe: &Recipe, role: Role) -> bool {
     }
 }
 
-/// Whether an operation reads all of its first input. The product of a matrix and a vector goes by rows, but has a way
+/// Whether an operation needs its first input joined. The product of a matrix and a vector goes by rows, but has a way
 /// of its own with a matrix whose lists are in one.
-fn reads_all_of_first<K: Copy>(operation: &Operation<K>) -> bool {
+fn needs_first_joined<K: Copy>(operation: &Operation<K>) -> bool {
     match operation {
         Operation::Fill { .. } => false,
         Operation::OfOne { computes, .. } => {
@@ -57,8 +57,8 @@ fn reads_all_of_first<K: Copy>(operation: &Operation<K>) -> bool {
     }
 }
 
-/// Whether an operation reads all of its second input.
-fn reads_all_of_second<K: Copy>(operation: &Operation<K>) -> bool {
+/// Whether an operation needs its second input joined.
+fn needs_second_joined<K: Copy>(operation: &Operation<K>) -> bool {
     match operation {
         Operation::OfTwo { computes, .. } => matches!(computes, TwoInputs::Multiply { .. }),
         Operation::Fill { .. } | Operation::OfOne { .. } => false,

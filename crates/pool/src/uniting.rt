@@ -9,7 +9,7 @@ use crate::spares::SharedSpares;
 use calls::{Recipe, Role, Roles};
 use desk::{Picker, Ticket, united};
 use journal::{Naming, Note};
-use kernel::{is_factor, reads_all_of};
+use kernel::{is_factor, needs_joined};
 use std::alloc::Global;
 use std::sync::{Arc, Wait};
 use std::thread::Threads;
@@ -125,8 +125,8 @@ fn unite_beside<J: Naming, R: Wait + Threads, G: Gate + Drop, P: Picker + Drop>(
     shared.spares.drop_share(rt, Some(left));
 }
 
-/// The store as lists in one, where there is memory for that: of several, for a task that reads all of them or, of so
-/// few entries that it isn't cut, each row; and of a bitmap, for a product of which it is a factor.
+/// The store as lists in one, where there is memory for that: of several, for a task that needs them in one or, of so
+/// few entries that it isn't cut, reads each row; and of a bitmap, for a product of which it is a factor.
 fn lists_of<R: Wait + Threads>(
     rt: &R,
     alloc: Global,
@@ -140,7 +140,7 @@ fn lists_of<R: Wait + Threads>(
     match store.form() {
         Form::Sparse(_) => None,
         Form::Blocks(blocks) => {
-            if !reads_all_of(recipe, role) && blocks.nvals() >= ENOUGH_TO_CUT {
+            if !needs_joined(recipe, role) && blocks.nvals() >= ENOUGH_TO_CUT {
                 return None;
             }
             let room = spares.take_lists(rt, blocks.nvals() as usize);

@@ -5,7 +5,7 @@ ghost use Rattle.stages.specs.Places.{each};
 ghost use Rattle.calls.specs.Roles.{no_roles};
 
 use calls::{Recipe, Role, Roles};
-use kernel::reads_all_of;
+use kernel::needs_joined;
 use std::marker::Model;
 
 /// The word that stands for no slot.
@@ -73,14 +73,14 @@ impl Inputs {
         }
     }
 
-    /// Whether a recipe of these inputs reads all of one that a slot is.
-    pub fn are_whole_in(&self, recipe: &Recipe, number: u64) -> bool {
-        let is_whole = |input: Option<u64>, role| input == Some(number)
-            && reads_all_of(recipe, role);
-        is_whole(self.old(), Role::Old)
-            || is_whole(self.mask(), Role::Mask)
-            || is_whole(self.first(), Role::First)
-            || is_whole(self.second(), Role::Second)
+    /// Whether a recipe of these inputs needs the lists of one that a slot is in one.
+    pub fn need_joined(&self, recipe: &Recipe, number: u64) -> bool {
+        let is_needed = |input: Option<u64>, role| input == Some(number)
+            && needs_joined(recipe, role);
+        is_needed(self.old(), Role::Old)
+            || is_needed(self.mask(), Role::Mask)
+            || is_needed(self.first(), Role::First)
+            || is_needed(self.second(), Role::Second)
     }
 
     /// The slot of the old output.

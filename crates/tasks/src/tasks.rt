@@ -382,8 +382,8 @@ impl<J: Naming, P: Picker + Drop> Tasks<J, P> {
 
 /// How tasks that wait for a slot's store are to read it.
 fn reading_of<N: Drop>(board: &Board<N>, slot: u64) -> Reading {
-    if board.is_read_whole(slot) {
-        Reading::Whole
+    if board.is_needed_joined(slot) {
+        Reading::Joined
     } else if board.is_read(slot) {
         Reading::ByRows
     } else {

@@ -66,8 +66,8 @@ pub enum Reading {
     Nobody,
     /// By the rows that they make.
     ByRows,
-    /// At least one reads all of it.
-    Whole,
+    /// At least one needs its lists in one.
+    Joined,
 }
 
 /// A task that goes along the rows of a store with so many entries is cut, and its pieces read blocks of the store as
@@ -127,10 +127,10 @@ impl<J: Naming> Work<J> {
 }
 
 impl<J: Naming> Joint<J> {
-    /// Whether the lists of the blocks aren't put together until a task is to read all of them.
+    /// Whether the lists of the blocks aren't put together until a task needs them in one.
     pub fn stays_apart(&self) -> bool {
         let is_worth = match self.reading {
-            Reading::Whole => false,
+            Reading::Joined => false,
             Reading::ByRows => entries_in(&self.blocks) as u64 >= ENOUGH_TO_CUT,
             Reading::Nobody => true,
         };

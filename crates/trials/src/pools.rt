@@ -36,13 +36,13 @@ const TASKS: u64 = 200;
 /// How many workers there are.
 const WORKERS: u64 = 2;
 
-/// How many rows the large matrix has, each with one entry: enough for three pieces, of two threads and of three.
+/// How many rows the large matrix has, each with one entry: enough for its task to be cut.
 const ROWS: u64 = 402_000;
 
 /// How many columns it has: so many that its store is no bitmap.
 const COLS: u64 = 1_000;
 
-/// How many pieces its task is cut into.
+/// How many pieces its task is cut into, however many threads there are: each has as many rows at least.
 const PIECES: u64 = 3;
 
 /// What a test and its gate tell each other.
@@ -359,11 +359,12 @@ where
         alloc,
         log,
         WORKERS,
-        1,
+        ROWS / PIECES,
         gate,
         Order::First,
         1,
-    ).map_err(|_| AllocError)?;
+    )
+    .map_err(|_| AllocError)?;
     let passed = match trial {
         Trial::Fetch => is_fetched(alloc, &mut pool, signs)?,
         Trial::Copy => is_copied(alloc, &mut pool)?,
