@@ -17,15 +17,17 @@ use std::thread::Threads;
 use store::Store;
 use tasks::{Demand, Finished, Left, Tasks};
 
-/// Lays the tasks of the calling thread under the lock, and wakes workers for them.
+/// Lays the tasks of the calling thread under the lock, and wakes workers for them. It may do a piece meanwhile.
 pub fn hand_over<J: Naming, R: Wait, G: Gate + Drop, P: Picker + Drop>(
     rt: &R,
     shared: &Shared<J, G, P>,
     own: &mut Tasks<J, P>,
     demand: Demand,
+    busy: bool,
 ) {
     let mut guard = shared.locked.lock(rt);
     guard.exchange(own);
+    guard.crew.busy = busy;
     let called = guard.crew.call(demand);
     leave(rt, shared, guard, None, called);
 }
@@ -54,7 +56,7 @@ pub fn fetch_alone<J: Naming, R: Wait + Threads, G: Gate + Drop, P: Picker + Dro
         };
         let demand = own.demand_beside(&work.piece);
         if demand.threads(share) > 0 {
-            hand_over(rt, shared, own, demand);
+            hand_over(rt, shared, own, demand, true);
             return Err(done(rt, alloc, shared, work));
         }
         let left = match own.finish(&named.log, done(rt, alloc, shared, work)) {
@@ -84,6 +86,7 @@ pub fn fetch_beside<J: Naming, R: Wait + Threads, G: Gate + Drop, P: Picker + Dr
         let (mut guard, spent) = lock_with(rt, alloc, named, shared, last.take());
         let locked = &mut *guard;
         locked.crew.awaited = None;
+        locked.crew.busy = false;
         if let Some(found) = locked.look(&named.log, ticket) {
             let called = locked.call_after_fetch(&found);
             if locked.crew.awake == 0 {
@@ -94,6 +97,7 @@ pub fn fetch_beside<J: Naming, R: Wait + Threads, G: Gate + Drop, P: Picker + Dr
         }
         match locked.take_beside(alloc) {
             Some(work) => {
+                locked.crew.busy = true;
                 let called = locked.call_beside(&work.piece);
                 leave(rt, shared, guard, spent, called);
                 last = Some(done(rt, alloc, shared, work));

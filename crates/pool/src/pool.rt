@@ -176,7 +176,7 @@ impl<J: Naming, R: Wait + Threads + Drop, G: Gate + Drop, P: Picker + Drop> Pool
         let slot = self.own.submit(&self.named.log, note, recipe, inputs)?;
         let demand = self.own.demand_after(slot, work);
         if demand.threads(self.share) > 0 {
-            hand_over(&self.rt, &self.shared, &mut self.own, demand);
+            hand_over(&self.rt, &self.shared, &mut self.own, demand, false);
         }
         Ok(slot)
     }

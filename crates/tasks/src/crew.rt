@@ -21,6 +21,8 @@ pub struct Crew {
     pub awake: u64,
     /// The slot for which the calling thread sleeps.
     pub awaited: Option<u64>,
+    /// The calling thread does a piece.
+    pub busy: bool,
     /// Workers that the first one is to start once there is work for it.
     pub others: u64,
     /// How much work a worker is woken for.
@@ -47,6 +49,7 @@ impl Crew {
             called: 0,
             awake: 0,
             awaited: None,
+            busy: false,
             others,
             share,
             processors,
@@ -110,12 +113,22 @@ impl Crew {
         self.cutting.threads.saturating_sub(self.awake.max(1))
     }
 
+    /// How many workers may be awake: beside the calling thread, while it does a piece, as many as processors are left,
+    /// since of a thread more a piece would wait for one.
+    fn most_awake(&self) -> u64 {
+        if self.busy {
+            self.processors.saturating_sub(1).max(1)
+        } else {
+            u64::MAX
+        }
+    }
+
     /// Calls workers that sleep for what there is to do, where that is more than for those that are awake. Says how
     /// many are to be woken.
     pub fn call(&mut self, demand: Demand) -> u64
         ensures { Calls self.old self.new result }
     {
-        let wanted = demand.threads(self.share);
+        let wanted = demand.threads(self.share).min(self.most_awake());
         let count = wanted.saturating_sub(self.awake).min(self.sleeping);
         self.sleeping -= count;
         self.called = self.called.saturating_add(count);
