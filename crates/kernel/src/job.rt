@@ -20,8 +20,8 @@ const TIMES_AGAIN: u64 = 4;
 /// times, and no thread is to work on a long piece while the others have nothing left.
 pub(crate) const PRODUCT_PIECES: u64 = 32;
 
-/// How many pieces each thread gets, at the most, of other operations, of which each entry, or each row, takes about the
-/// same time.
+/// How many pieces each thread gets, at the most, of other operations, of which each entry, or each row, takes about
+/// the same time.
 const EVEN_PIECES: u64 = 8;
 
 /// How many pieces each thread gets of a task of which each goes along all of an input: of a transpose, and of a

@@ -2,9 +2,9 @@
 use calls::{OneInput, Operation, Recipe, Role, TwoInputs};
 use model::Form;
 
-/// Whether what a recipe gives needs the blocks of the input in a role joined to lists in one, since a piece of it reads
-/// rows all over the input, or it is made in one piece: not where each row of the output rests on the same row of the
-/// input, nor for a transpose, which goes along blocks, too.
+/// Whether what a recipe gives needs the blocks of the input in a role joined to lists in one, since a piece of it
+/// reads rows all over the input, or it is made in one piece: not where each row of the output rests on the same row of
+/// the input, nor for a transpose, which goes along blocks, too.
 pub fn needs_joined(recipe: &Recipe, role: Role) -> bool {
     match recipe {
         Recipe::New(_) | Recipe::Given(_) | Recipe::Transposed(_) => false,

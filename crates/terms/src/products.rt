@@ -117,9 +117,9 @@ fn append_products(
 
 /// Makes `terms` the products of the first entries of a row of A with B, at the columns that the mask lets through,
 /// where there is one, and answers how many entries they are of: of all, or of as many as give more than `most`
-/// products, those that the mask keeps out with them, or of none where `most` is 0. Each entry is multiplied with the row of B that its column names, in rising
-/// order of that column. Its time follows the number of products and of entries, each entry with a search in B where
-/// there is no hint.
+/// products, those that the mask keeps out with them, or of none where `most` is 0. Each entry is multiplied with the
+/// row of B that its column names, in rising order of that column. Its time follows the number of products and of
+/// entries, each entry with a search in B where there is no hint.
 #[tactic(auto, using(crate::proofs::Arms::same_terms))]
 pub fn expand(
     terms: &mut Vec<Term>,
