@@ -7,6 +7,8 @@ mod boards;
 #[cfg(test)]
 mod forms;
 #[cfg(test)]
+mod gates;
+#[cfg(test)]
 mod parts;
 #[cfg(test)]
 mod pools;

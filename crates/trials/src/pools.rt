@@ -8,6 +8,7 @@ ghost use Rattle.calls.specs.declared.role.Role.TheVariants.{First, Old};
 ghost use Rattle.model.specs.Object.{signature_of};
 ghost use Rattle.model.specs.declared.shape.Shape.TheVariants.{Two};
 
+use crate::gates::{Holding, Sign, Signs};
 use algebra::{Domain, FunctionName, UnaryKind, UnaryName};
 use calls::{
     Accepted, Desc, Given, OneInput, Operation, Out, Recipe, Resize, Roles, Shape, Signature,
@@ -15,11 +16,10 @@ use calls::{
 };
 use desk::Order;
 use journal::{Log, Naming};
-use pool::{Gate, Pool};
+use pool::Pool;
 use runner::Runner;
 use std::alloc::{AllocError, Global};
 use std::marker::Brand;
-use std::sync::atomic::AtomicU64;
 use std::sync::atomic::Ordering::SeqCst;
 use std::sync::{Arc, Wait};
 use std::thread;
@@ -44,76 +44,6 @@ const COLS: u64 = 1_000;
 
 /// How many pieces its task is cut into, however many threads there are: each has as many rows at least.
 const PIECES: u64 = 3;
-
-/// What a test and its gate tell each other.
-#[derive(Drop)]
-struct Signs {
-    /// Recipes whose submission has returned.
-    submitted: AtomicU64,
-    /// Pieces that came to the gate.
-    entered: AtomicU64,
-    /// Leaves to pass the gate.
-    released: AtomicU64,
-    /// Pieces that gave up.
-    lost: AtomicU64,
-}
-
-impl Signs {
-    fn new() -> Signs {
-        Signs {
-            submitted: AtomicU64::new(0),
-            entered: AtomicU64::new(0),
-            released: AtomicU64::new(0),
-            lost: AtomicU64::new(0),
-        }
-    }
-}
-
-/// Which sign a piece waits for.
-#[derive(Clone, Copy)]
-enum Sign {
-    Submitted,
-    Entered,
-    Released,
-}
-
-/// Holds the first pieces of the first slots' tasks until a sign has come so far, or they have looked too often.
-#[derive(Drop)]
-struct Holding<R: Drop> {
-    rt: R,
-    signs: Arc<Signs>,
-    slots: u64,
-    sign: Sign,
-    least: u64,
-    turns: u64,
-}
-
-impl<R: Clock + Drop> Holding<R> {
-    // Sleeps a millisecond a turn.
-    fn hold(&self) {
-        let count = match self.sign {
-            Sign::Submitted => &self.signs.submitted,
-            Sign::Entered => &self.signs.entered,
-            Sign::Released => &self.signs.released,
-        };
-        for _ in 0..self.turns {
-            if count.load(SeqCst) >= self.least {
-                return;
-            }
-            thread::sleep(&self.rt, Duration::from_millis(1));
-        }
-        self.signs.lost.fetch_add(1, SeqCst);
-    }
-}
-
-impl<R: Clock + Drop> Gate for Holding<R> {
-    fn enter(&self, slot: u64, piece: u64) {
-        self.signs.entered.fetch_add(1, SeqCst);
-        if slot < self.slots && piece == 0 {
-            self.hold();
-        }
-    }
-}
 
 // A recipe that makes a vector without entries.
 fn recipe(alloc: Global) -> Result<Recipe, AllocError>
@@ -408,6 +338,11 @@ where
     over_log::<Brand, R>(rt.clone()?, alloc, log, signs, gate, trial)
 }
 
+// Whether a task may be cut: none is for one processor.
+fn may_cut(rt: &impl Threads) -> bool {
+    !matches!(thread::available_parallelism(rt), Ok(count) if count.get() == 1)
+}
+
 #[test]
 fn three_submits_return_while_every_piece_is_held(rt: HostRuntime) -> Result<(), AllocError> {
     let signs = Arc::new(rt.alloc(), Signs::new())?;
@@ -444,6 +379,9 @@ fn renew_while_a_piece_is_held(rt: HostRuntime) -> Result<(), AllocError> {
 
 #[test]
 fn second_piece_enters_while_first_is_held(rt: HostRuntime) -> Result<(), AllocError> {
+    if !may_cut(&rt) {
+        return Ok(());
+    }
     let signs = Arc::new(rt.alloc(), Signs::new())?;
     assert!(rt; passes(&rt, &signs, (2, Sign::Entered, 2, TURNS), Trial::Copy)?);
     assert!(rt; signs.lost.load(SeqCst) == 0);
@@ -453,6 +391,9 @@ fn second_piece_enters_while_first_is_held(rt: HostRuntime) -> Result<(), AllocE
 
 #[test]
 fn first_piece_of_a_task_is_given_last(rt: HostRuntime) -> Result<(), AllocError> {
+    if !may_cut(&rt) {
+        return Ok(());
+    }
     let signs = Arc::new(rt.alloc(), Signs::new())?;
     assert!(rt; passes(&rt, &signs, (2, Sign::Entered, PIECES, TURNS), Trial::Copy)?);
     assert!(rt; signs.lost.load(SeqCst) == 0);
@@ -461,6 +402,9 @@ fn first_piece_of_a_task_is_given_last(rt: HostRuntime) -> Result<(), AllocError
 
 #[test]
 fn lists_of_pieces_are_put_together_for_a_reader(rt: HostRuntime) -> Result<(), AllocError> {
+    if !may_cut(&rt) {
+        return Ok(());
+    }
     let signs = Arc::new(rt.alloc(), Signs::new())?;
     assert!(rt; passes(&rt, &signs, (0, Sign::Entered, 0, TURNS), Trial::Unite)?);
     assert!(rt; signs.lost.load(SeqCst) == 0);
