@@ -22,10 +22,9 @@ pub fn is_cut(recipe: &Recipe, stores: &Roles<&Store>, threads: u64) -> bool {
 }
 
 /// The rows at which a recipe's rows are cut for threads that work apart, of the stores that take its roles: no row for
-/// a task that isn't cut (`is_cut`). Each piece but the last has `least` rows or more, and about the same work; or less
-/// and less, where rows may take very different times. Where memory for the rows is refused, the task isn't cut. Its
-/// time follows the number of pieces and the logarithm of that of entries, of which it looks at some thousands at the
-/// most.
+/// a task that isn't cut (`is_cut`). Each piece but the last has `least` rows or more, and about the same work; or,
+/// along the rows of lists, less and less. Where memory for the rows is refused, the task isn't cut. Its time follows
+/// the number of pieces and the logarithm of that of entries, of which it looks at some thousands at the most.
 pub fn cuts(
     alloc: Global,
     recipe: &Recipe,

@@ -13,7 +13,7 @@ const LEAST_WORK: u64 = 131_072;
 /// How much work other pieces have at least, in entries; of products, some may have less.
 const LEAST_PIECE: u64 = 32_768;
 
-/// How many times what all pieces do again each of more than two has to do.
+/// Where there are more than two pieces, each has at least so many times the work that all of them do again.
 const TIMES_AGAIN: u64 = 4;
 
 /// How many pieces each thread gets, at the most, of a product of matrices of lists: its rows may take very different

@@ -40,9 +40,9 @@ const FEW_EDITS: usize = 16;
 /// stands. An error leaves a store and edits that together mean what they meant: all edits, of which the first ones may
 /// be done already.
 ///
-/// A few edits are done in place, and more of them in a bitmap, each in constant time. Those of lists are sorted, and
-/// all entries written anew, in a time that follows the number of entries and the sort. After many of them a store is
-/// kept in the form that suits it.
+/// A few edits are done in place, and so are more of them in a bitmap that is well filled, each in constant time. Else
+/// they are sorted, and all entries written anew, in a time that follows the number of entries and the sort. After many
+/// of them a store is kept in the form that suits it.
 pub fn apply_edits(alloc: Global, store: &mut Store, edits: &mut Vec<Edit>) -> Result<(), NoMemory>
     requires { All (IsInside store.old.rows store.old.cols) edits.old.items }
     ensures done { OnOk result (edits.new.items ≡ []) }

@@ -17,7 +17,8 @@ use std::thread::Threads;
 use store::Store;
 use tasks::{Demand, Finished, Left, Tasks};
 
-/// Lays the tasks of the calling thread under the lock, and wakes workers for them. It may do a piece meanwhile.
+/// Lays the tasks of the calling thread under the lock, and wakes workers for them. `busy` says whether it has a piece
+/// to do meanwhile.
 pub fn hand_over<J: Naming, R: Wait, G: Gate + Drop, P: Picker + Drop>(
     rt: &R,
     shared: &Shared<J, G, P>,
