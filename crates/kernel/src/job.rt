@@ -1,8 +1,8 @@
 //! What of a task decides where it is cut into pieces of rows.
 use crate::bitmaps::makes_column;
 use crate::reading::needs_joined;
-use bitmap::may_be_bitmap;
 use calls::{Accepted, OneInput, Operation, Recipe, Region, Role, Roles, TwoInputs};
+use fitting::may_be_bitmap;
 use model::Form as Factors;
 use store::{Blocks, Form, Sparse, Store};
 

@@ -6,8 +6,8 @@ ghost use Rattle.model.specs.Object.{IsWithin, rows_of};
 ghost use Rattle.store.specs.Stored.{content_of};
 
 use crate::block::Block;
-use bitmap::may_be_bitmap;
 use calls::{Operation, Recipe, TwoInputs};
+use fitting::may_be_bitmap;
 use model::Form;
 use std::alloc::Global;
 use store::Store;

@@ -14,7 +14,7 @@ use Rattle.model.proofs.SortedLaws.{IsNarrow, key_of, words_at-sorted}
 use Rattle.store.specs.Stored.{AreIn, along, transposed}
 use Rattle.store.proofs.Contents.{transposed_twice, word_at-transposed}
 use Rattle.store.proofs.Order.{all_from_map, all_pairs_cons, all_pairs_head, all_pairs_nil, all_pairs_tail}
-use Rattle.patch.specs.Runs.{runs_from, runs_of}
+use Rattle.runs.specs.Runs.{runs_from, runs_of}
 
 -- ---- entries that are joined
 

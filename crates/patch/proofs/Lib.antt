@@ -1,6 +1,5 @@
 mod BuildLaws
 mod EditLaws
 mod GatherLaws
-mod JoinLaws
 mod RangeSums
 mod SumLaws

@@ -1,3 +1,2 @@
 pub mod Edits
-pub mod Runs
 pub mod Sums

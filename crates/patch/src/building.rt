@@ -6,7 +6,7 @@ ghost use Rattle.model.specs.Builds.{are_inside, are_values_of, built};
 ghost use Rattle.model.specs.Object.{cols_of, rows_of};
 ghost use Rattle.store.specs.Stored.{content_of};
 
-use crate::runs::block_of_sorted;
+use crate::sorted::block_of_sorted;
 use algebra::{BinaryOp, Domain};
 use model::{NoMemory, Shape, TupleList};
 use std::alloc::Global;

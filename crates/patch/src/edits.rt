@@ -5,7 +5,7 @@ ghost use Rattle.patch.specs.Edits.{IsInside, edited, edited_once};
 ghost use Rattle.store.specs.Stored.{content_of};
 
 use crate::merging::merge_into;
-use bitmap::suits_bitmap;
+use fitting::suits_bitmap;
 use model::NoMemory;
 use std::alloc::Global;
 use store::{Form, Store};

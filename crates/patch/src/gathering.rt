@@ -5,7 +5,7 @@ ghost use Rattle.algebra.specs.OperatorNames.{op_named};
 ghost use Rattle.model.specs.Builds.{gathered};
 ghost use Rattle.store.specs.Stored.{AreIn, block_content};
 
-use crate::runs::block_of_sorted;
+use crate::sorted::block_of_sorted;
 use algebra::BinaryOp;
 use model::{Entry, NoMemory};
 use std::alloc::Global;

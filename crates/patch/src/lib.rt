@@ -6,7 +6,7 @@ mod building;
 mod edits;
 mod gathering;
 mod merging;
-mod runs;
+mod sorted;
 mod summers;
 mod summing;
 mod taking;

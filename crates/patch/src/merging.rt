@@ -6,7 +6,7 @@ ghost use Rattle.store.specs.Stored.{content_of};
 ghost use Rattle.patch.specs.Edits.{IsInside, IsSet, edited, removal_entry, set_entry};
 
 use crate::Edit;
-use crate::runs::block_of_sorted;
+use crate::sorted::block_of_sorted;
 use masks::{Joining, Mask, MaskTest, StoredMask, join_rows, write_back};
 use model::{Entry, NoMemory};
 use std::alloc::Global;

@@ -1,7 +1,7 @@
 -- Stores in any form.
 use Rattle.std.specs.Prelude.{ℕ, ◌≡◌, ⊤, IsTrue, false, length}
 use Rattle.bitmap.specs.Bitmaps.{Held}
-use Rattle.bitmap.specs.Fitting.{has_many, suits_bitmap}
+use Rattle.fitting.specs.Fitting.{has_many, suits_bitmap}
 use Rattle.store.specs.declared.store.AsSparse.{AsSparse}
 use Rattle.store.specs.declared.store.AsSparse.TheVariants.{Lent, Made}
 use Rattle.store.specs.declared.store.Form.{Form}

@@ -5,7 +5,8 @@ ghost use Rattle.store.specs.Forms.{IsSettled, kept_in, of_bitmap};
 use crate::Sparse;
 use crate::forms::{into_bitmap, sparse_of};
 use crate::store::Kept;
-use bitmap::{Bitmap, has_many, suits_bitmap};
+use bitmap::Bitmap;
+use fitting::{has_many, suits_bitmap};
 use std::alloc::Global;
 
 /// What is kept, in the form that suits it: lists as a bitmap, where many positions have an entry, and a bitmap of a

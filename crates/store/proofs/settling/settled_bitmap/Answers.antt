@@ -1,6 +1,6 @@
 use Rattle.std.proofs.Common.{◌≡◌, ◌∙◌, ◌*◌, ap, sym, arith, refl, length, false, true}
 use Rattle.std.proofs.Math.Bool.{and-false}
-use Rattle.bitmap.specs.Fitting.{has_many, may_be_bitmap}
+use Rattle.fitting.specs.Fitting.{has_many, may_be_bitmap}
 use Rattle.store.proofs.Content.{entries_of-words}
 use Rattle.store.proofs.settling.settled_bitmap.Goals as goal
 use Rattle.store.proofs.settling.settled_bitmap.Goals.{then-cols-ne1-via-then-cols-ne1, then-cols-ne1-via-else-cols-ne1+then-has_many}

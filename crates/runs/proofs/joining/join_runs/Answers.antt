@@ -8,10 +8,10 @@ use Rattle.algebra.specs.OperatorNames.{op_named}
 use Rattle.model.specs.declared.entry.Entry.{Entry}
 use Rattle.model.specs.Entries.{IsNotBehind, entry_at}
 use Rattle.store.proofs.FlatLaws.{flat_none}
-use Rattle.patch.specs.Runs.{runs_of}
-use Rattle.patch.proofs.JoinLaws.{AreOpen, open_first, open_same, open_more, open_next, open_end, no_runs}
-use Rattle.patch.proofs.runs.join_runs.Goals as goal
-use Rattle.patch.proofs.runs.join_runs.Goals.{then-shares_position, else-shares_position, then-entry-last+in_ok-push, else-entry-last}
+use Rattle.runs.specs.Runs.{runs_of}
+use Rattle.runs.proofs.JoinLaws.{AreOpen, open_first, open_same, open_more, open_next, open_end, no_runs}
+use Rattle.runs.proofs.joining.join_runs.Goals as goal
+use Rattle.runs.proofs.joining.join_runs.Goals.{then-shares_position, else-shares_position, then-entry-last+in_ok-push, else-entry-last}
 
 no_entries : (es : List Entry) → length es ≡ 0 → es ≡ []
 no_entries [] none = refl

@@ -1,47 +1,21 @@
-//! Fibers of entries that come in order.
-ghost use Rattle.std.specs.Prelude.{◌≡◌, ℕ, IfOk};
+//! The fibers of entries that come in order.
+ghost use Rattle.std.specs.Prelude.{◌≡◌, IfOk};
 ghost use Rattle.std.specs.List.{AllPairs};
 ghost use Rattle.std.specs.Option.{option_map};
 ghost use Rattle.algebra.specs.OperatorNames.{op_named};
-ghost use Rattle.model.specs.Builds.{gathered, joined};
+ghost use Rattle.model.specs.Builds.{joined};
 ghost use Rattle.model.specs.Entries.{IsNotBehind};
+ghost use Rattle.runs.specs.Runs.{runs_of};
 ghost use Rattle.store.specs.Fibers.{AreFlat, end_at, entries_in};
-ghost use Rattle.store.specs.Stored.{AreIn, block_content};
-ghost use Rattle.patch.specs.Runs.{runs_of};
 
-use crate::along::lay_along;
 use algebra::BinaryOp;
 use model::{Entry, NoMemory};
 use std::alloc::Global;
-use std::ops::Range;
-use store::{FiberEnd, FiberLists, RowBlock};
+use store::{FiberEnd, FiberLists};
 
-/// The rows in a range of the map that entries make, which come row by row. The words of one position are
-/// joined by an operator, from the first to the last; without one the last stands. Its time follows the
-/// number of entries.
-pub(crate) fn block_of_sorted(
-    alloc: Global,
-    entries: Vec<Entry>,
-    joins: Option<BinaryOp>,
-    range: Range<u64>,
-    cols: u64,
-) -> Result<RowBlock, NoMemory>
-    requires order { AllPairs IsNotBehind entries.items }
-    requires inside { AreIn range.start range.end cols entries.items }
-    ensures first { IfOk result (λ block. block.first ≡ range.start) }
-    ensures past { IfOk result (λ block. block.past ≡ range.end) }
-    ensures cols { IfOk result (λ block. block.cols ≡ cols) }
-    ensures words { IfOk result (λ block. (i j : ℕ) → block_content block i j
-        ≡ gathered (option_map op_named joins) entries.items i j) }
-{
-    let entries = lay_along(entries, cols);
-    let mut lists = join_runs(alloc, &entries, joins)?;
-    lists.shrink_to_fit();
-    Ok(RowBlock::of_fibers(range.start, range.end, cols, lists))
-}
-
-/// The fibers of entries that come in order, of which those of one row are a fiber.
-pub(crate) fn join_runs(
+/// The fibers of entries that come row by row: those of one row are a fiber. The words of one position are joined by an
+/// operator, from the first to the last; without one the last stands. Its time follows the number of entries.
+pub fn join_runs(
     alloc: Global,
     entries: &[Entry],
     joins: Option<BinaryOp>,

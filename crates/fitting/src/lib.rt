@@ -1,6 +1,8 @@
 //! Which matrices are kept as bitmaps.
+#![tactic(auto)]
+
 ghost use Rattle.std.specs.Prelude.{◌≡◌};
-ghost use Rattle.bitmap.specs.Fitting.{has_many, may_be_bitmap, suits_bitmap};
+ghost use Rattle.fitting.specs.Fitting.{has_many, may_be_bitmap, suits_bitmap};
 
 // How many columns, or rows of one column, a bitmap has at least, how many positions at most, and at most how many
 // times as many as entries.

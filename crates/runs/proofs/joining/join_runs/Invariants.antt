@@ -2,9 +2,9 @@ use Rattle.std.proofs.Common.{◌+◌, ◌-◌, ◌<◌, drop, length}
 use Rattle.std.specs.Option.{option_map}
 use Rattle.std.specs.Vec.{vec_len, vec_capacity}
 use Rattle.algebra.specs.OperatorNames.{op_named}
-use Rattle.patch.specs.Runs.{runs_of}
-use Rattle.patch.proofs.JoinLaws.{AreOpen}
-use Rattle.patch.proofs.runs.join_runs.Given as goal
+use Rattle.runs.specs.Runs.{runs_of}
+use Rattle.runs.proofs.JoinLaws.{AreOpen}
+use Rattle.runs.proofs.joining.join_runs.Given as goal
 
 abbrev pub invariant-loop-entry : goal.invariant-loop-entry
 invariant-loop-entry l = record {

@@ -15,7 +15,7 @@ use Rattle.store.specs.Fibers.{AreFlat, end_at, entries_along, entries_from, las
 use Rattle.store.proofs.CloseLaws.{close_fiber, closed}
 use Rattle.store.proofs.FlatLaws.{flat_none}
 use Rattle.store.proofs.Order.{all_pairs_cons, all_pairs_head, all_pairs_nil, all_pairs_tail, all_pairs_across}
-use Rattle.patch.specs.Runs.{runs_from}
+use Rattle.runs.specs.Runs.{runs_from}
 
 -- ---- the fibers so far
 

@@ -5,9 +5,9 @@ use Rattle.model.specs.Builds.{gathered}
 use Rattle.model.specs.declared.entry.Entry.{Entry}
 use Rattle.model.specs.Entries.{word_at}
 use Rattle.store.specs.Stored.{AreIn, along}
-use Rattle.patch.specs.Runs.{runs_of}
+use Rattle.runs.specs.Runs.{runs_of}
 use Rattle.patch.proofs.GatherLaws.{along-inside, along_order, along_twice, along-words}
-use Rattle.patch.proofs.runs.block_of_sorted.Goals as goal
+use Rattle.patch.proofs.sorted.block_of_sorted.Goals as goal
 
 pub join_runs-requires : goal.join_runs-requires
 join_runs-requires c =
