@@ -2,10 +2,10 @@ pub mod BetweenLaws
 pub mod BucketLaws
 pub mod ColumnFibers
 pub mod ColumnPlaces
-pub mod Counts
 pub mod Extracts
 pub mod FewLaws
 pub mod FillLaws
+pub mod FlatCols
 pub mod FlatWalk
 pub mod Gathering
 pub mod Going

@@ -1,9 +1,8 @@
 -- Arms by literal kinds: where two semirings have the same kinds and domains, what one gives the other gives.
-use Rattle.std.proofs.Common.{Bool, Err, Ok, IfOk, OnOk, Option, Result, ◌≡◌, ℕ, List, refl, ◌∙◌}
+use Rattle.std.proofs.Common.{Bool, Err, Ok, IfOk, Option, Result, ◌≡◌, ℕ, List, refl, ◌∙◌}
 use Rattle.algebra.specs.declared.semiring.Semiring.{Semiring}
 use Rattle.model.specs.declared.entry.Entry.{Entry}
 use Rattle.model.specs.declared.memory.NoMemory.{NoMemory}
-use Rattle.store.specs.declared.lists.FiberLists.{FiberLists}
 use Rattle.store.specs.Stored.{Block, Stored}
 use Rattle.spgemm.specs.Columns.{AreRowSums, IsColumnBlock}
 use Rattle.spgemm.specs.Dense.{AreColumnSums, AreMarkedSums}

@@ -64,7 +64,7 @@ fn sum_marked(
     if done < row.cols.len() {
         return sum_marked_places(lists, scratch, row, b, mask, semiring);
     }
-    sum_terms(lists, scratch, b.cols(), semiring)
+    sum_terms(lists, scratch, row.cols.len(), b.cols(), semiring)
 }
 
 /// What `sum_marked` does in a place for each column. Where the mask keeps few columns, products at others are never

@@ -1,5 +1,5 @@
 //! One row of a product.
-ghost use Rattle.std.specs.Prelude.{◌≡◌, ◌<◌, ◌≤◌, ◌^◌, ℕ, length, true, IfOk, IfSome, OnOk};
+ghost use Rattle.std.specs.Prelude.{◌≡◌, ◌/◌, ◌<◌, ◌≤◌, ◌^◌, ℕ, length, true, IfOk, IfSome, OnOk};
 ghost use Rattle.std.specs.List.{All, AllPairs};
 ghost use Rattle.store.specs.Fibers.{entries_along};
 ghost use Rattle.spgemm.specs.Dense.{AreClear, AreColumnSums, HaveRoom};
@@ -15,17 +15,20 @@ use crate::truths::{are_truths, sum_truths};
 use algebra::Semiring;
 use masks::MarkedMask;
 use model::NoMemory;
+use sorting::Sorter;
 use std::alloc::Global;
+use std::ops::Range;
 use store::{FiberLists, Row, RowHints, Sparse};
 use terms::{Term, expand, sum_runs};
 
-/// Memory that serves one row after another: terms, and sums with a place for each column, each with a bit, and
-/// where there are many products with a mark, that says whether there is one, or a bit, that says whether it is true;
-/// bits of the columns that a mask keeps; hints where the rows of B lie; and how many products the rows had since one
-/// whose products span many columns. Between rows no bit is set that says where a sum is.
+/// Memory that serves one row after another: terms, and what they are sorted in; sums with a place for each column,
+/// each with a bit, and where there are many products with a mark, that says whether there is one, or a bit, that says
+/// whether it is true; bits of the columns that a mask keeps; hints where the rows of B lie; and how many products the
+/// rows had since one whose products span many columns. Between rows no bit is set that says where a sum is.
 #[derive(Drop)]
 pub(crate) struct Scratch {
     pub(crate) terms: Vec<Term>,
+    pub(crate) sorter: Sorter,
     pub(crate) bits: Vec<u64>,
     pub(crate) sums: Vec<u64>,
     pub(crate) marks: Vec<bool>,
@@ -43,6 +46,7 @@ impl Scratch {
     {
         Scratch {
             terms: Vec::new(alloc),
+            sorter: Sorter::new(alloc),
             bits: Vec::new(alloc),
             sums: Vec::new(alloc),
             marks: Vec::new(alloc),
@@ -159,7 +163,7 @@ fn sum_collected(
     if done < row.cols.len() {
         return sum_in_places(lists, scratch, row, done, b, None, semiring);
     }
-    sum_terms(lists, scratch, b.cols(), semiring)
+    sum_terms(lists, scratch, row.cols.len(), b.cols(), semiring)
 }
 
 /// Makes the terms the products of the first entries of a row of A with B, at the columns that the mask lets through,
@@ -264,11 +268,13 @@ fn add_in_places(
     Ok(())
 }
 
-/// Puts the sums of the terms, whose columns are among so many, behind the inner indices and words. Where there are
-/// many beside the columns that they span, it sums in a place for each column, else it sorts them.
+/// Puts the sums of the terms, which are the products of so many entries and whose columns are among so many, behind
+/// the inner indices and words. Where there are many beside the columns that they span, it sums in a place for each
+/// column, else it sorts them.
 pub(crate) fn sum_terms(
     lists: &mut FiberLists,
     scratch: &mut Scratch,
+    entries: usize,
     cols: u64,
     semiring: Semiring,
 ) -> Result<(), NoMemory>
@@ -282,6 +288,7 @@ pub(crate) fn sum_terms(
 {
     let Scratch {
         terms,
+        sorter,
         bits,
         sums,
         compact,
@@ -293,17 +300,22 @@ pub(crate) fn sum_terms(
         return sum_in_span(lists, bits, sums, terms, &span, semiring);
     }
     *compact = 0;
-    sum_sorted(lists, terms, semiring)
+    sum_sorted(lists, terms, sorter, entries, &span, semiring)
 }
 
-/// Puts the sums of terms behind the inner indices and words. It sorts the terms.
+/// Puts the sums of terms, which lie in so many runs at the most and whose columns' words of bits are in a span, behind
+/// the inner indices and words. It sorts the terms.
 fn sum_sorted(
     lists: &mut FiberLists,
     terms: &mut Vec<Term>,
+    sorter: &mut Sorter,
+    runs: usize,
+    span: &Range<usize>,
     semiring: Semiring,
 ) -> Result<(), NoMemory>
+    requires { All (λ t. (span.now.start ≤ t.col / 64) × (t.col / 64 < span.now.end)) terms.old.items }
     ensures { OnOk result ((index : ℕ) → HasOpenRow semiring.add.op index terms.old.items lists.old lists.new) }
 {
-    terms.sort_by_key(|term| term.col)?;
+    sorter.sort(terms, runs, span)?;
     sum_runs(lists, terms, semiring)
 }
