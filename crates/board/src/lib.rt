@@ -7,7 +7,7 @@ mod board;
 mod cut;
 mod cuts;
 mod falling;
-mod fitting;
+mod inputs;
 mod look;
 mod looking;
 mod picking;

@@ -7,7 +7,7 @@ ghost use Rattle.board.specs.Sound.{IsSound};
 use crate::admitting::{first_stage, make_room, may_wait, offer, read_if};
 use crate::blocks::has_rows;
 use crate::falling::{end, spread};
-use crate::fitting::are_there;
+use crate::inputs::are_there;
 use crate::look::{Look, Refusal};
 use crate::looking::{is_gone, look_at};
 use crate::piece::{Piece, Stores, TaskRecipe};

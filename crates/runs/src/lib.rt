@@ -1,5 +1,5 @@
-//! Entries that come in order, of which those of one position are joined: the tuples of a build, the edits of a store and
-//! the lines of a file.
+//! Entries that come in order, of which those of one position are joined: the tuples of a build, the edits of a store
+//! and the lines of a file.
 #![tactic(auto)]
 
 mod joining;

@@ -7,7 +7,7 @@ use Rattle.model.specs.declared.shape.Signature.{Signature}
 use Rattle.board.specs.Fits.{IsThere}
 use Rattle.stages.specs.Slots.{task_of}
 use Rattle.board.proofs.FitLaws.{all_roles}
-use Rattle.board.proofs.fitting.are_there.Goals as goal
+use Rattle.board.proofs.inputs.are_there.Goals as goal
 
 pub returns-then-not-is_there : goal.returns-then-not-is_there
 returns-then-not-is_there g c = λ all. iff_false c.is_there.ensures c.if-not-is_there.true
