@@ -15,6 +15,9 @@ use store::Store;
 /// Others count beside a task where each has at least such a part of its work.
 const PARTS: u64 = 8;
 
+/// A task whose stores have fewer entries isn't worth to be cut, even where each of one meets each of another.
+const LEAST_ENTRIES: u64 = 1 << 9;
+
 /// A piece of one of the tasks that can be done; None where none can. A task that nobody took is cut for so many
 /// threads, where it is worth that, into pieces of `least` rows or more; but not where each of so many idle threads can
 /// have another task, which spares to join pieces. A task fails for which a share of a store is refused.
@@ -62,8 +65,12 @@ fn cuts_for<N: Drop>(
         return Vec::new(alloc);
     };
     let stores = stores_of(board, offer.number);
+    let entries = entries_in(&stores);
     let tasks = idle.saturating_add(1).max(2);
-    if !is_cut(recipe, &stores, threads) || are_there(board, tasks, entries_in(&stores) / PARTS) {
+    if entries < LEAST_ENTRIES
+        || !is_cut(recipe, &stores, threads)
+        || are_there(board, tasks, entries / PARTS)
+    {
         return Vec::new(alloc);
     }
     cuts(alloc, recipe, &stores, least, threads)

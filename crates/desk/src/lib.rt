@@ -19,6 +19,6 @@ pub use picker::{Order, Picker};
 pub use pieces::{Joining, SpareLists, entries_in, may_stay_apart, united};
 pub use places::{notes_of, slot_of};
 pub use placing::place;
-pub use spares::{Spares, lists_of, needs_spare};
+pub use spares::{Spares, lists_of, long_share, needs_spare};
 pub use ticket::Ticket;
 pub use works::{joined_of, look, made_of, part_of, share_of, take, work};

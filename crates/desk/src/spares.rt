@@ -77,7 +77,15 @@ impl Spares {
 
     /// Drops a share of a store. Where nobody else has one, and it is a bitmap, its words are kept: nothing but words
     /// of bitmaps is made in such memory where no blocks are joined.
+    #[inline(always)]
     pub fn drop_share(&mut self, share: Option<Arc<Store>>) {
+        if let Some(share) = long_share(share) {
+            self.drop_long(share);
+        }
+    }
+
+    /// Drops a share of a store that may have long lists.
+    fn drop_long(&mut self, share: Arc<Store>) {
         let (words, inner) = lists_of(share);
         if inner.is_some() {
             return;
@@ -102,15 +110,15 @@ pub fn needs_spare(piece: &Piece) -> bool {
     piece.is_whole() && !makes_lists(piece.recipe.get()) && work_in(piece) >= LEAST_ENTRIES
 }
 
+/// A share of a store that may have lists that are worth to be kept; any other is dropped.
+#[inline(always)]
+pub fn long_share(share: Option<Arc<Store>>) -> Option<Arc<Store>> {
+    share.filter(|share| share.nvals() >= LEAST_ENTRIES)
+}
+
 /// The lists of a store that are worth to be kept, where nobody else has a share of it: its words, and its inner
 /// indices where it is no bitmap.
-pub fn lists_of(share: Option<Arc<Store>>) -> (Option<Vec<u64>>, Option<Vec<u64>>) {
-    let Some(share) = share else {
-        return (None, None);
-    };
-    if share.nvals() < LEAST_ENTRIES {
-        return (None, None);
-    }
+pub fn lists_of(share: Arc<Store>) -> (Option<Vec<u64>>, Option<Vec<u64>>) {
     let Ok(store) = Arc::try_unwrap(share) else {
         return (None, None);
     };

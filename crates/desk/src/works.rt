@@ -4,6 +4,7 @@ ghost use Rattle.std.specs.Arc.{arc_value};
 ghost use Rattle.std.specs.List.{All};
 ghost use Rattle.std.specs.Option.{option_map};
 ghost use Rattle.board.specs.Boards.{cuts_of, view_of};
+ghost use Rattle.board.specs.Cuts.{at_slot};
 ghost use Rattle.board.specs.Pieces.{IsPieceFor, is_whole, maps_in, recipe_of};
 ghost use Rattle.stages.specs.Progress.{is_running};
 ghost use Rattle.board.specs.Stores.{stored_for};
@@ -126,32 +127,30 @@ pub fn joined_of(
 }
 
 /// Does a piece that was taken and is all of its task, and hands in what it makes; where there is no memory for it, its
-/// slot fails. Gives back what the work was made of. What goes along bitmaps is made by `products`.
+/// slot fails. What the work was made of stays in the piece, as far as `made_of` leaves it there. What goes along
+/// bitmaps is made by `products`.
 pub fn work<V: VectorProducts, N: Drop>(
     products: &V,
     alloc: Global,
     board: &mut Board<N>,
-    piece: Piece,
-) -> Piece
-    requires piece { IsPieceFor (view_of board.old).tasks piece }
-    requires whole { is_whole piece ≡ true }
-    requires uncut { AreUncut (cuts_of board.old) }
+    piece: &mut Piece,
+)
+    requires piece { IsPieceFor (view_of board.old).tasks piece.old }
+    requires whole { is_whole piece.old ≡ true }
     ensures tasks { (view_of board.new).tasks ≡ (view_of board.old).tasks }
     ensures notes { (view_of board.new).notes ≡ (view_of board.old).notes }
-    ensures fewer { is_running (slice_get (view_of board.old).progress piece.number) ≡ true
+    ensures fewer { is_running (slice_get (view_of board.old).progress piece.old.number) ≡ true
+        → at_slot (cuts_of board.old) piece.old.number ≡ None
         → unfinished (view_of board.new).progress < unfinished (view_of board.old).progress }
-    ensures uncut { AreUncut (cuts_of board.new) }
+    ensures uncut { AreUncut (cuts_of board.old) → AreUncut (cuts_of board.new) }
 {
     let number = piece.number;
-    let mut piece = piece;
-    match made_of(products, alloc, &mut piece) {
+    match made_of(products, alloc, piece) {
         Ok(store) => {
             let _ = board.hand_in(number, store);
-            piece
         }
         Err(NoMemory) => {
             let _ = board.fail(number);
-            piece
         }
     }
 }

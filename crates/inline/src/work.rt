@@ -55,7 +55,7 @@ pub(crate) fn work_once<P: Picker, N: Drop>(
         (unfinished (view_of board.new).progress < unfinished (view_of board.old).progress) }
     ensures uncut { AreUncut (cuts_of board.new) }
 {
-    let Some(piece) = take(picker, board) else {
+    let Some(mut piece) = take(picker, board) else {
         return false;
     };
     let spare = if needs_spare(&piece) {
@@ -64,10 +64,10 @@ pub(crate) fn work_once<P: Picker, N: Drop>(
         None
     };
     let alone = OneThreadWithSpare::new(spare);
-    let spent = work(&alone, alloc, board, piece);
+    work(&alone, alloc, board, &mut piece);
     if let Some(spare) = alone.into_spare() {
         spares.put_back(spare);
     }
-    spares.drop_piece(spent);
+    spares.drop_piece(piece);
     true
 }

@@ -1,15 +1,20 @@
 //! The calling thread, which does tasks while it waits for a store.
-ghost use Rattle.std.specs.Prelude.{IfOk};
+ghost use Rattle.std.specs.Prelude.{◌≡◌, IfOk, slice_get, true};
 ghost use Rattle.std.specs.Arc.{arc_value};
+ghost use Rattle.board.specs.Boards.{view_of};
+ghost use Rattle.board.specs.Pieces.{IsPieceFor, is_whole};
 ghost use Rattle.desk.specs.Desks.{object_in, told};
 ghost use Rattle.runner.specs.Tickets.{IsStoreFor};
+ghost use Rattle.stages.specs.Progress.{is_running};
 
 use crate::gate::Gate;
 use crate::named::Named;
 use crate::serving::{done, joined, leave, lock_with};
 use crate::shared::Shared;
+use board::Piece;
 use desk::{Picker, Ticket};
 use journal::{Naming, Note};
+use kernel::SeveralThreads;
 use runner::Failed;
 use std::alloc::Global;
 use std::sync::{Arc, Wait};
@@ -52,21 +57,66 @@ pub fn fetch_alone<J: Naming, R: Wait + Threads, G: Gate + Drop, P: Picker + Dro
         if let Some(found) = own.look(&named.log, ticket) {
             return Ok(found);
         }
-        let Some(work) = own.take_work(alloc) else {
+        let Some(mut piece) = own.take(alloc) else {
             return Ok(Err(Failed));
         };
-        let demand = own.demand_beside(&work.piece);
+        let demand = own.demand_beside(&piece);
         if demand.threads(share) > 0 {
+            let work = own.work_of(piece);
             hand_over(rt, shared, own, demand, true);
             return Err(done(rt, alloc, shared, work));
         }
-        let left = match own.finish(&named.log, done(rt, alloc, shared, work)) {
-            Left::Joint(joint) => own.finish(&named.log, joined(rt, alloc, shared, joint)),
-            spent => spent,
-        };
-        shared.spares.drop_piece(rt, Some(left.into_spent()));
+        if piece.is_whole() {
+            work_alone(rt, alloc, shared, own, &mut piece);
+        } else {
+            piece = work_in_part(rt, alloc, named, shared, own, piece);
+        }
+        shared.spares.drop_piece(rt, Some(piece));
     }
     unreachable!()
+}
+
+/// Does a piece that is all of its task, by the calling thread, which has the tasks. What it was made of stays in it.
+fn work_alone<J: Naming, R: Wait + Threads, G: Gate + Drop, P: Picker + Drop>(
+    rt: &R,
+    alloc: Global,
+    shared: &Shared<J, G, P>,
+    own: &mut Tasks<J, P>,
+    piece: &mut Piece,
+)
+    requires piece { IsPieceFor (view_of own.old.board).tasks piece.old }
+    requires whole { is_whole piece.old ≡ true }
+{
+    shared.gate.enter(piece.number, piece.piece);
+    let spare = shared.spares.take_for(rt, piece);
+    let threads = SeveralThreads::with_spare(rt, own.crew.helpers(), spare);
+    own.work(&threads, alloc, piece);
+    if let Some(spare) = threads.into_spare() {
+        shared.spares.put_back(rt, spare);
+    }
+}
+
+/// Does a piece of a task that was cut, by the calling thread, which has the tasks; and joins the blocks of its task,
+/// if it is the last. Gives back what it was made of.
+fn work_in_part<J: Naming, R: Wait + Threads, G: Gate + Drop, P: Picker + Drop>(
+    rt: &R,
+    alloc: Global,
+    named: &Named<J>,
+    shared: &Shared<J, G, P>,
+    own: &mut Tasks<J, P>,
+    piece: Piece,
+) -> Piece
+    requires piece { IsPieceFor (view_of own.old.board).tasks piece }
+    requires running { is_running (slice_get (view_of own.old.board).progress piece.number) ≡ true }
+{
+    let work = own.work_of(piece);
+    match own.finish(&named.log, done(rt, alloc, shared, work)) {
+        Left::Joint(joint) => {
+            let joined = joined(rt, alloc, shared, joint);
+            own.finish(&named.log, joined).into_spent()
+        }
+        Left::Spent(spent) => spent,
+    }
 }
 
 /// The store of a ticket's object. The calling thread does tasks that lie under the lock until it has come, where there

@@ -105,7 +105,7 @@ pub fn done<J: Naming, R: Wait + Threads, G: Gate + Drop, P: Picker + Drop>(
     work: Work<J>,
 ) -> Finished<J> {
     shared.gate.enter(work.ticket.slot, work.piece.piece);
-    let spare = shared.spares.take_for(rt, &work);
+    let spare = shared.spares.take_for(rt, &work.piece);
     let threads = SeveralThreads::with_spare(rt, work.helpers, spare);
     let finished = work.run(&threads, alloc);
     if let Some(spare) = threads.into_spare() {

@@ -1,11 +1,9 @@
 //! Memory of stores that nobody needs any more, for all threads.
 use board::Piece;
-use desk::{SpareLists, Spares, lists_of, needs_spare};
-use journal::Naming;
+use desk::{SpareLists, Spares, lists_of, long_share, needs_spare};
 use std::alloc::Global;
 use std::sync::{Arc, Mutex, Wait};
 use store::Store;
-use tasks::Work;
 
 /// The lists of stores that were dropped, under a lock of their own.
 #[derive(Drop)]
@@ -21,10 +19,10 @@ impl SharedSpares {
         }
     }
 
-    /// One of the lists, for work that may make the words of a bitmap, all of them; `put_back` brings it back where it
-    /// didn't.
-    pub fn take_for<J: Naming>(&self, rt: &impl Wait, work: &Work<J>) -> Option<Vec<u64>> {
-        if !needs_spare(&work.piece) {
+    /// One of the lists, for a piece that may make the words of a bitmap, all of them; `put_back` brings it back where
+    /// it didn't.
+    pub fn take_for(&self, rt: &impl Wait, piece: &Piece) -> Option<Vec<u64>> {
+        if !needs_spare(piece) {
             return None;
         }
         self.lists.lock(rt).take()
@@ -49,7 +47,15 @@ impl SharedSpares {
     }
 
     /// Drops a share of a store. Where nobody else has one, its lists are kept.
+    #[inline(always)]
     pub fn drop_share(&self, rt: &impl Wait, share: Option<Arc<Store>>) {
+        if let Some(share) = long_share(share) {
+            self.drop_long(rt, share);
+        }
+    }
+
+    /// Drops a share of a store that may have long lists.
+    fn drop_long(&self, rt: &impl Wait, share: Arc<Store>) {
         let (words, inner) = lists_of(share);
         if let Some(words) = words {
             self.put(rt, words);

@@ -56,6 +56,10 @@ impl Demand {
         ensures none { self.now.tasks ≡ 0 → result ≡ 0 }
     {
         let most = self.work.saturating_mul(self.tasks.min(PARTS));
+        // Mostly there is too little, which is seen without a division.
+        if most < share {
+            return 0;
+        }
         let worth = most.checked_div(share).unwrap_or(0);
         worth.min(self.tasks.saturating_mul(self.threads_each))
     }

@@ -4,13 +4,14 @@ ghost use Rattle.std.specs.Prelude.{slice_get, true};
 ghost use Rattle.std.specs.Arc.{arc_value};
 ghost use Rattle.std.specs.Bool.{OnTrue};
 ghost use Rattle.board.specs.Boards.{cuts_of, view_of};
-ghost use Rattle.board.specs.Cuts.{IsPut, offered_on};
+ghost use Rattle.board.specs.Cuts.{IsPut, at_slot, offered_on};
 ghost use Rattle.board.specs.Events.{empty_view};
-ghost use Rattle.board.specs.Pieces.{IsPieceFor};
+ghost use Rattle.board.specs.Pieces.{IsPieceFor, is_whole};
 ghost use Rattle.stages.specs.Progress.{is_running};
 ghost use Rattle.board.specs.Looks.{SeenUnfinished, seen_of};
 ghost use Rattle.stages.specs.Views.{state_of};
 ghost use Rattle.desk.specs.Desks.{AreTold, is_on, object_in, told};
+ghost use Rattle.desk.specs.Ends.{unfinished};
 ghost use Rattle.history.specs.Histories.{object_of};
 ghost use Rattle.tasks.specs.Crews.{Calls};
 ghost use Rattle.tasks.specs.Boards.{cut_on, finished_on, held_on, left_on};
@@ -24,9 +25,10 @@ use crate::ending::end;
 use crate::work::{Finished, Joint, Left, Reading, Work};
 use board::{Board, Look, Piece};
 use calls::{Recipe, Roles};
-use desk::{Picker, Ticket, give_up, look, place, share_of, slot_of, take_cut, work_in};
+use desk::{Picker, Ticket, give_up, look, place, share_of, slot_of, take_cut, work, work_in};
 use history::Noted;
 use journal::{Log, Naming, Note};
+use kernel::VectorProducts;
 use model::NoMemory;
 use runner::Failed;
 use std::alloc::Global;
@@ -172,6 +174,23 @@ impl<J: Naming, P: Picker + Drop> Tasks<J, P> {
             piece,
             helpers: self.crew.helpers(),
         }
+    }
+
+    /// Does a piece that was taken and is all of its task, here and now; where there is no memory for it, its slot
+    /// fails. What it was made of stays in the piece, but for what was written over. What goes along bitmaps is made by
+    /// `products`.
+    pub fn work<V: VectorProducts>(&mut self, products: &V, alloc: Global, piece: &mut Piece)
+        requires piece { IsPieceFor (view_of self.old.board).tasks piece.old }
+        requires whole { is_whole piece.old ≡ true }
+        ensures tasks { (view_of self.new.board).tasks ≡ (view_of self.old.board).tasks }
+        ensures notes { (view_of self.new.board).notes ≡ (view_of self.old.board).notes }
+        ensures fewer { is_running (slice_get (view_of self.old.board).progress piece.old.number) ≡ true
+            → at_slot (cuts_of self.old.board) piece.old.number ≡ None
+            → unfinished (view_of self.new.board).progress < unfinished (view_of self.old.board).progress }
+        ensures epoch { self.new.epoch ≡ self.old.epoch }
+        ensures crew { self.new.crew ≡ self.old.crew }
+    {
+        work(products, alloc, &mut self.board, piece);
     }
 
     /// A piece of one of the tasks that can be done, to be done by a thread that doesn't have the board; None where

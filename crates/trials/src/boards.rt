@@ -64,10 +64,11 @@ fn a_patch_that_is_taken_last_has_the_store_itself(rt: HostRuntime) -> Result<()
     assert!(rt; board.let_go(0).is_ok());
     assert!(rt; matches!(board.look(0), Look::Done(_)));
     // The transpose is the newest of the two.
-    let Some(transpose) = take(&mut Order::Last, &mut board) else {
+    let Some(mut transpose) = take(&mut Order::Last, &mut board) else {
         return Err(AllocError);
     };
-    work(&OneThread, alloc, &mut board, transpose);
+    work(&OneThread, alloc, &mut board, &mut transpose);
+    drop(transpose);
     assert!(rt; matches!(board.look(0), Look::Done(_)));
     let Some(piece) = take(&mut Order::First, &mut board) else {
         return Err(AllocError);
@@ -89,17 +90,17 @@ fn a_patch_that_is_taken_while_another_reads_shares_the_store(
     let alloc = rt.alloc();
     let mut board = patched_and_read(alloc)?;
     assert!(rt; board.let_go(0).is_ok());
-    let Some(patch) = take(&mut Order::First, &mut board) else {
+    let Some(mut patch) = take(&mut Order::First, &mut board) else {
         return Err(AllocError);
     };
-    let Some(transpose) = take(&mut Order::First, &mut board) else {
+    let Some(mut transpose) = take(&mut Order::First, &mut board) else {
         return Err(AllocError);
     };
     assert!(rt; patch.number == 1 && transpose.number == 2);
     assert!(rt; matches!(board.look(0), Look::Done(_)));
-    work(&OneThread, alloc, &mut board, patch);
+    work(&OneThread, alloc, &mut board, &mut patch);
     assert!(rt; matches!(board.look(0), Look::Done(_)));
-    work(&OneThread, alloc, &mut board, transpose);
+    work(&OneThread, alloc, &mut board, &mut transpose);
     assert!(rt; matches!(board.look(0), Look::Gone));
     assert!(rt; matches!(board.look(1), Look::Done(_)) && matches!(board.look(2), Look::Done(_)));
     Ok(())
