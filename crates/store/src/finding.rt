@@ -58,10 +58,10 @@ pub(crate) fn first_near(ends: &[FiberEnd], outer: u64, hint: usize) -> usize
     ensures before { All (λ r. r.outer < outer) (take result ends.now) }
     ensures behind { All (λ r. outer ≤ r.outer) (drop result ends.now) }
 {
-    if let Some(count) = count_without_gaps(ends, outer) {
+    if let Some(count) = count_at(ends, outer, hint) {
         return count;
     }
-    if let Some(count) = count_at(ends, outer, hint) {
+    if let Some(count) = count_without_gaps(ends, outer) {
         return count;
     }
     match count_at(ends, outer, ahead_of(ends, outer, hint)) {

@@ -3,37 +3,48 @@ use crate::{Fibers, FlatFibers, Sparse};
 use model::NoMemory;
 use std::alloc::Global;
 
-/// For each row how many rows before it have entries, as hints for `Sparse::row_near`; or nothing. Any hint serves
-/// there and changes no answer, so no contract says which these are.
+/// Hints for `Sparse::row_near`: how many rows with entries are before a row. Any hint serves there and changes no
+/// answer, so no contract says which these are.
 #[derive(Drop)]
-pub struct RowHints {
-    before: Vec<u32>,
+pub enum RowHints {
+    /// Each row has entries, so the hint is its index.
+    Index,
+    /// What was counted for each row.
+    Counted(Vec<u32>),
+    /// What the row before gave: to count doesn't pay.
+    Last,
 }
 
 impl RowHints {
-    /// Hints for so many lookups in a store, on so many walks along its rows, where they pay. Their time and memory
-    /// follow the rows.
+    /// Hints for so many lookups in a store, on so many walks along its rows. Where it pays to count them, their time
+    /// and memory follow the rows.
     pub fn for_lookups(
         alloc: Global,
         store: &Sparse,
         lookups: usize,
         walks: u64,
     ) -> Result<RowHints, NoMemory> {
-        let mut before = Vec::new(alloc);
         let fibers = store.fibers_in(0..store.rows());
-        if pays(store, &fibers, lookups as u64, walks) {
-            count_before(&mut before, &fibers, store.rows())?;
+        if store.cols() == 1 || fibers.len() == 0 {
+            return Ok(RowHints::Last);
         }
-        Ok(RowHints { before })
+        let (rows, filled) = (store.rows(), fibers.flat().others.len() as u64 + 1);
+        if filled == rows {
+            return Ok(RowHints::Index);
+        }
+        if !pays(rows, filled, lookups as u64, walks) {
+            return Ok(RowHints::Last);
+        }
+        Ok(RowHints::Counted(count_before(alloc, &fibers, rows)?))
     }
 
     /// A hint for a row, where the row before it gave another.
     #[inline(always)]
     pub fn of(&self, row: u64, last: usize) -> usize {
-        if row < self.before.len() as u64 {
-            self.before[row as usize] as usize
-        } else {
-            last
+        match self {
+            RowHints::Index => row as usize,
+            RowHints::Counted(before) if row < before.len() as u64 => before[row as usize] as usize,
+            RowHints::Counted(_) | RowHints::Last => last,
         }
     }
 }
@@ -41,22 +52,18 @@ impl RowHints {
 /// Making hints costs as much as a search for each so many rows.
 const ROWS_A_SEARCH: u64 = 16;
 
-/// Whether hints pay: the rows are few beside the lookups, a walk passes rows over, so that what the row before
-/// gave is no hint, and there are so many rows without entries that a search is long.
-fn pays(store: &Sparse, fibers: &Fibers<'_>, lookups: u64, walks: u64) -> bool {
-    let rows = store.rows();
-    let filled = fibers.flat().others.len() as u64 + 1;
-    store.cols() > 1
-        && fibers.len() > 0
-        && rows / ROWS_A_SEARCH <= lookups
+/// Whether it pays to count hints: the rows are few beside the lookups, a walk passes rows over, so that what the row
+/// before gave is no hint, and there are so many rows without entries that a search is long.
+fn pays(rows: u64, filled: u64, lookups: u64, walks: u64) -> bool {
+    rows / ROWS_A_SEARCH <= lookups
         && lookups / walks.max(1) <= rows / 2
         && filled.saturating_add(rows / ROWS_A_SEARCH) < rows
 }
 
-/// Makes for each of so many rows the number of rows before it that have entries.
-fn count_before(before: &mut Vec<u32>, fibers: &Fibers<'_>, rows: u64) -> Result<(), NoMemory> {
+/// For each of so many rows the number of rows before it that have entries.
+fn count_before(alloc: Global, fibers: &Fibers<'_>, rows: u64) -> Result<Vec<u32>, NoMemory> {
     let flat = fibers.flat();
-    before.resize(rows as usize, 0)?;
+    let mut before = vec![in alloc; 0; rows as usize]?;
     let mut count = 0u32;
     // The next row that has entries, which is read once for all rows up to it.
     let mut filled = row_at(&flat, 0);
@@ -67,7 +74,7 @@ fn count_before(before: &mut Vec<u32>, fibers: &Fibers<'_>, rows: u64) -> Result
             filled = row_at(&flat, count as usize);
         }
     }
-    Ok(())
+    Ok(before)
 }
 
 /// The row of the fiber at a place, or one behind all rows.
