@@ -15,6 +15,7 @@ use crate::span::{Reach, widened_by_row, words_between};
 use algebra::{BinaryOp, Semiring, with_semiring};
 use lanes::{full_words, has_bit, set_bit};
 use model::NoMemory;
+use std::mem;
 use std::ops::Range;
 use store::{FiberLists, Row, RowHints, Sparse};
 use terms::{AHEAD, Term, look_ahead, pays_ahead, push_sum};
@@ -233,7 +234,7 @@ fn add_rows_by(
 const COLUMNS_AN_ENTRY: usize = 8;
 
 /// Puts the words of 64 places that have their bits set behind the inner indices and words, in order.
-#[inline]
+#[inline(always)]
 fn gather_word(
     lists: &mut FiberLists,
     bits: u64,
@@ -268,9 +269,37 @@ fn gather_word(
 }
 
 /// Puts the words at all places that have their bits set behind the inner indices and words, in order, and
-/// clears the bits. Outside a span no word of bits has one.
+/// clears the bits. Outside a span no word of bits has one. It works on lists of its own: a compiler keeps in registers
+/// where these end, but not where lists end that were lent.
 #[inline(never)]
 pub(crate) fn gather(
+    lists: &mut FiberLists,
+    bits: &mut [u64],
+    words: &[u64],
+    span: &Range<usize>,
+) -> Result<(), NoMemory>
+    requires room { HaveRoom bits.old words.now }
+    requires order { span.now.start ≤ span.now.end }
+    requires end { span.now.end ≤ length bits.old }
+    requires before { (at : ℕ) → at < span.now.start → slice_index bits.old at ≡ 0 }
+    requires behind { (at : ℕ) → span.now.end ≤ at → slice_index bits.old at ≡ 0 }
+    ensures ends { OnOk result (lists.new.ends ≡ lists.old.ends) }
+    ensures inner { OnOk result (lists.new.inner.items
+        ≡ lists.old.inner.items ++ map (λ s. s.col) (found (word_in bits.old words.now) 0 (length words.now))) }
+    ensures words { OnOk result (lists.new.words.items
+        ≡ lists.old.words.items ++ map (λ s. s.word) (found (word_in bits.old words.now) 0 (length words.now))) }
+    ensures clear { OnOk result (AreClear bits.new) }
+{
+    let none = FiberLists::new(*lists.inner.allocator());
+    let mut own = mem::replace(lists, none);
+    gather_words(&mut own, bits, words, span)?;
+    *lists = own;
+    Ok(())
+}
+
+/// What `gather` does, in lists of any owner.
+#[inline(always)]
+fn gather_words(
     lists: &mut FiberLists,
     bits: &mut [u64],
     words: &[u64],

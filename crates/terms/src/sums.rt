@@ -9,6 +9,7 @@ ghost use Rattle.terms.specs.Terms.{HasSums};
 use crate::term::Term;
 use algebra::{BinaryOp, Semiring, with_semiring};
 use model::NoMemory;
+use std::mem;
 use store::FiberLists;
 
 /// Puts an entry for each column of `terms`, which come in order of their columns, behind the inner
@@ -23,9 +24,23 @@ pub fn sum_runs(lists: &mut FiberLists, terms: &[Term], semiring: Semiring) -> R
     with_semiring!(semiring, |own| sum_runs_by(lists, terms, own))
 }
 
-/// What `sum_runs` does, by one semiring of its arms.
+/// What `sum_runs` does, by one semiring of its arms. It works on lists of its own: a compiler keeps in registers where
+/// these end, but not where lists end that were lent.
 #[inline(always)]
 fn sum_runs_by(lists: &mut FiberLists, terms: &[Term], semiring: Semiring) -> Result<(), NoMemory>
+    requires { IsNonDecreasingBy (λ t. t.col) terms.now }
+    ensures { OnOk result (HasSums semiring.add.op terms.now lists.old lists.new) }
+{
+    let none = FiberLists::new(*lists.inner.allocator());
+    let mut own = mem::replace(lists, none);
+    push_sums(&mut own, terms, semiring)?;
+    *lists = own;
+    Ok(())
+}
+
+/// What `sum_runs_by` does, in lists of any owner.
+#[inline(always)]
+fn push_sums(lists: &mut FiberLists, terms: &[Term], semiring: Semiring) -> Result<(), NoMemory>
     requires { IsNonDecreasingBy (λ t. t.col) terms.now }
     ensures { OnOk result (HasSums semiring.add.op terms.now lists.old lists.new) }
 {

@@ -2,8 +2,8 @@ use Rattle.std.proofs.Common.{◌≡◌, ◌∙◌, ◌++◌, ◌∷◌, [], Lis
 use Rattle.std.proofs.lemmas.List.{append-nil, map-append}
 use Rattle.terms.specs.declared.term.Term.{Term}
 use Rattle.terms.proofs.Terms.{are_sums_first, are_sums_none, step_same, step_new, last_next}
-use Rattle.terms.proofs.sums.sum_runs_by.Goals as goal
-use Rattle.terms.proofs.sums.sum_runs_by.Goals.{then-term-sum, else-term-sum}
+use Rattle.terms.proofs.sums.push_sums.Goals as goal
+use Rattle.terms.proofs.sums.push_sums.Goals.{then-term-sum, else-term-sum}
 
 no_terms : (ts : List Term) → length ts ≡ 0 → ts ≡ []
 no_terms [] none = refl

@@ -2,7 +2,7 @@ use Rattle.std.proofs.Common.{◌≡◌, ◌+◌, ◌-◌, ◌<◌, ◌++◌, �
 use Rattle.std.specs.Vec.{vec_len, vec_capacity}
 use Rattle.terms.specs.Terms.{AreSums}
 use Rattle.terms.specs.declared.term.Term.{Term}
-use Rattle.terms.proofs.sums.sum_runs_by.Given as goal
+use Rattle.terms.proofs.sums.push_sums.Given as goal
 
 abbrev pub invariant-loop-term : goal.invariant-loop-term
 invariant-loop-term l = record {

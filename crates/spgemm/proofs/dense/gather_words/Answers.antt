@@ -5,8 +5,8 @@ use Rattle.std.proofs.lemmas.List.{get_or-set_other, get_or-set_same, map-append
 use Rattle.spgemm.specs.Dense.{found, word_by, word_in}
 use Rattle.terms.specs.declared.term.Term.{Term}
 use Rattle.spgemm.proofs.DenseLaws.{all_before, found_next, no_bits, none_before}
-use Rattle.spgemm.proofs.dense.gather.Goals as goal
-use Rattle.spgemm.proofs.dense.gather.Goals.{then-here-ne0+in_ok-gather_word, else-here-ne0}
+use Rattle.spgemm.proofs.dense.gather_words.Goals as goal
+use Rattle.spgemm.proofs.dense.gather_words.Goals.{then-here-ne0+in_ok-gather_word, else-here-ne0}
 
 pub loop-at-init : goal.loop-at-init
 loop-at-init c = record {
