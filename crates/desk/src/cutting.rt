@@ -40,6 +40,7 @@ pub fn take_cut<P: Picker, N: Drop>(
     loop {
         let pick = picker.pick();
         let cuts = cuts_for(alloc, board, pick, least, threads, idle);
+        let cuts = cuts.unwrap_or(Vec::new(alloc));
         match board.take(pick, &cuts) {
             Ok(taken) => return taken,
             Err(number) => {
@@ -49,7 +50,7 @@ pub fn take_cut<P: Picker, N: Drop>(
     }
 }
 
-/// The rows at which the task is cut of which a pick takes a piece; none where it isn't, or was taken before.
+/// The rows at which the task is cut of which a pick takes a piece; None where it isn't, or was taken before.
 fn cuts_for<N: Drop>(
     alloc: Global,
     board: &Board<N>,
@@ -57,13 +58,13 @@ fn cuts_for<N: Drop>(
     least: u64,
     threads: u64,
     idle: u64,
-) -> Vec<u64> {
-    let Some(offer) = board.offer(pick) else {
-        return Vec::new(alloc);
-    };
-    let Some(recipe) = offer.recipe else {
-        return Vec::new(alloc);
-    };
+) -> Option<Vec<u64>> {
+    let offer = board.offer(pick)?;
+    let recipe = offer.recipe?;
+    if offer.rows <= least {
+        // It has too few rows for two pieces.
+        return None;
+    }
     let stores = stores_of(board, offer.number);
     let entries = entries_in(&stores);
     let tasks = idle.saturating_add(1).max(2);
@@ -71,9 +72,9 @@ fn cuts_for<N: Drop>(
         || !is_cut(recipe, &stores, threads)
         || are_there(board, tasks, entries / PARTS)
     {
-        return Vec::new(alloc);
+        return None;
     }
-    cuts(alloc, recipe, &stores, least, threads)
+    Some(cuts(alloc, recipe, &stores, least, threads))
 }
 
 /// Whether so many tasks can be done whose stores have at least so many entries.
