@@ -167,7 +167,7 @@ uncut_failed cs bs ds k (Ok x) uncut same put kept =
 uncut_failed cs bs ds k (Err why) uncut same put kept = subst AreUncut (sym (kept ∙ same)) uncut
 
 module _ {N : Type 0} (v w : View N) (cs ds : List (Option Cutting)) (uncut : AreUncut cs) where
-  closed : (k : ℕ) → is_open cs k ≡ false
+  pub closed : (k : ℕ) → is_open cs k ≡ false
   closed k = ap (λ (c : Option Cutting). option_map_or has_more c false) (uncut k)
 
   -- what can be taken is what is ready

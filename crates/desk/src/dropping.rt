@@ -1,6 +1,7 @@
 //! Work that nobody can ask for.
 ghost use Rattle.std.specs.Prelude.{◌≡◌};
 ghost use Rattle.board.specs.Boards.{cuts_of, view_of};
+ghost use Rattle.desk.specs.Ends.{IsIdle};
 ghost use Rattle.desk.specs.Works.{AreUncut};
 
 use board::Board;
@@ -10,6 +11,7 @@ pub fn give_up<N: Drop>(board: &mut Board<N>, slot: u64)
     ensures tasks { (view_of board.new).tasks ≡ (view_of board.old).tasks }
     ensures notes { (view_of board.new).notes ≡ (view_of board.old).notes }
     ensures uncut { AreUncut (cuts_of board.old) → AreUncut (cuts_of board.new) }
+    ensures idle { IsIdle (view_of board.old).progress → IsIdle (view_of board.new).progress }
 {
     if board.give_up(slot).is_err() {
         return;

@@ -2,6 +2,7 @@
 ghost use Rattle.std.specs.Prelude.{◌≡◌};
 ghost use Rattle.board.specs.Boards.{cuts_of, view_of};
 ghost use Rattle.desk.specs.Desks.{AreTold, object_in};
+ghost use Rattle.desk.specs.Ends.{IsIdle};
 ghost use Rattle.history.specs.Histories.{object_of};
 ghost use Rattle.runner.specs.Tickets.{made_by};
 
@@ -30,6 +31,7 @@ pub fn place<N: Noted>(
     requires object { object_of (N.told note) ≡ made_by (object_in N.told) recipe inputs.now }
     ensures told { AreTold N.told (view_of board.new) }
     ensures cuts { cuts_of board.new ≡ cuts_of board.old }
+    ensures idle { IsIdle (view_of board.old).progress → IsIdle (view_of board.new).progress }
 {
     match recipe {
         Recipe::Given(given) => board.issue_given(note, given),
@@ -51,6 +53,7 @@ fn issue<N: Noted>(
     requires object { object_of (N.told note) ≡ made_by (object_in N.told) recipe inputs.now }
     ensures told { AreTold N.told (view_of board.new) }
     ensures cuts { cuts_of board.new ≡ cuts_of board.old }
+    ensures idle { IsIdle (view_of board.old).progress → IsIdle (view_of board.new).progress }
 {
     let Some(places) = places_of(board, log, epoch, inputs) else {
         return Ok(NO_SLOT);

@@ -1,18 +1,20 @@
 //! Pieces of work, taken and done, and what came of them.
-ghost use Rattle.std.specs.Prelude.{◌≡◌, ◌<◌, ◌≤◌, IfOk, IfSome, None, Some, [], slice_get, true};
+ghost use Rattle.std.specs.Prelude.{◌≡◌, ◌↔◌, ◌<◌, ◌≤◌, IfOk, IfSome, MatchOption, None, OnErr, OnOk, Some, [], slice_get};
+ghost use Rattle.std.specs.Prelude.{true};
 ghost use Rattle.std.specs.Arc.{arc_value};
 ghost use Rattle.std.specs.List.{All};
 ghost use Rattle.std.specs.Option.{option_map};
 ghost use Rattle.board.specs.Boards.{cuts_of, view_of};
-ghost use Rattle.board.specs.Cuts.{at_slot};
+ghost use Rattle.board.specs.Cuts.{IsPut, at_slot};
+ghost use Rattle.board.specs.Looks.{SeenUnfinished, seen_of};
 ghost use Rattle.board.specs.Pieces.{IsPieceFor, is_whole, maps_in, recipe_of};
 ghost use Rattle.stages.specs.Progress.{is_running};
 ghost use Rattle.board.specs.Stores.{stored_for};
 ghost use Rattle.stages.specs.Tasks.{object_at};
-ghost use Rattle.stages.specs.Views.{offered};
+ghost use Rattle.stages.specs.Views.{offered, state_of};
 ghost use Rattle.calls.specs.declared.role.Role.{Role as AnyRole};
 ghost use Rattle.calls.specs.Recipes.{known_by, known_of};
-ghost use Rattle.desk.specs.Ends.{unfinished};
+ghost use Rattle.desk.specs.Ends.{IsIdle, IsIdleBut, felled, felled_cut, handed_in, unfinished};
 ghost use Rattle.desk.specs.Works.{AreUncut, IsWork, object_by};
 ghost use Rattle.kernel.specs.Covers.{Covers, IsPartOf};
 ghost use Rattle.kernel.specs.Pieces.{IsPieceOf, cols_in};
@@ -40,8 +42,9 @@ const SOON_DROPPED: u64 = 1_024;
 
 /// The store of a slot, or that none will come. None while it is still to come.
 pub fn look<N: Drop>(board: &Board<N>, slot: u64) -> Option<Result<Arc<Store>, Failed>>
-    ensures { IfSome result (λ found. IfOk found
+    ensures store { IfSome result (λ found. IfOk found
         (λ store. IsStoreFor (object_at (view_of board.now).tasks slot) (arc_value store))) }
+    ensures to_come { (result ≡ None) ↔ (seen_of (state_of (view_of board.now) slot) ≡ SeenUnfinished) }
 {
     match board.look(slot) {
         Look::Done(store) => Some(Arc::try_clone(store).map_err(|_| Failed)),
@@ -71,6 +74,9 @@ pub fn take<P: Picker, N: Drop>(picker: &mut P, board: &mut Board<N>) -> Option<
     ensures notes { (view_of board.new).notes ≡ (view_of board.old).notes }
     ensures more { unfinished (view_of board.new).progress ≤ unfinished (view_of board.old).progress }
     ensures uncut { AreUncut (cuts_of board.new) }
+    ensures idle { IsIdle (view_of board.old).progress → MatchOption result
+        (IsIdle (view_of board.new).progress)
+        (λ piece. IsIdleBut piece.number (view_of board.new).progress) }
 {
     // Each round but the last fails a task.
     loop {
@@ -127,16 +133,22 @@ pub fn joined_of(
 }
 
 /// Does a piece that was taken and is all of its task, and hands in what it makes; where there is no memory for it, its
-/// slot fails. What the work was made of stays in the piece, as far as `made_of` leaves it there. What goes along
-/// bitmaps is made by `products`.
+/// slot fails, and the answer says so. What the work was made of stays in the piece, as far as `made_of` leaves it
+/// there. What goes along bitmaps is made by `products`.
 pub fn work<V: VectorProducts, N: Drop>(
     products: &V,
     alloc: Global,
     board: &mut Board<N>,
     piece: &mut Piece,
-)
+) -> Result<(), NoMemory>
     requires piece { IsPieceFor (view_of board.old).tasks piece.old }
     requires whole { is_whole piece.old ≡ true }
+    ensures made { OnOk result (view_of board.new
+        ≡ handed_in (view_of board.old) (at_slot (cuts_of board.old) piece.old.number) piece.old.number) }
+    ensures made_cuts { OnOk result (cuts_of board.new ≡ cuts_of board.old) }
+    ensures failed { OnErr result (view_of board.new ≡ felled (view_of board.old) piece.old.number) }
+    ensures failed_cuts { OnErr result (IsPut (cuts_of board.old) piece.old.number (felled_cut (view_of board.old)
+        (at_slot (cuts_of board.old) piece.old.number) piece.old.number) (cuts_of board.new)) }
     ensures tasks { (view_of board.new).tasks ≡ (view_of board.old).tasks }
     ensures notes { (view_of board.new).notes ≡ (view_of board.old).notes }
     ensures fewer { is_running (slice_get (view_of board.old).progress piece.old.number) ≡ true
@@ -148,9 +160,11 @@ pub fn work<V: VectorProducts, N: Drop>(
     match made_of(products, alloc, piece) {
         Ok(store) => {
             let _ = board.hand_in(number, store);
+            Ok(())
         }
         Err(NoMemory) => {
             let _ = board.fail(number);
+            Err(NoMemory)
         }
     }
 }

@@ -2,6 +2,7 @@
 ghost use Rattle.std.specs.Prelude.{◌≡◌};
 ghost use Rattle.board.specs.Boards.{cuts_of, view_of};
 ghost use Rattle.desk.specs.Desks.{AreTold, object_in, told};
+ghost use Rattle.desk.specs.Ends.{IsIdle};
 ghost use Rattle.desk.specs.Works.{AreUncut};
 
 use crate::work::finish;
@@ -27,6 +28,7 @@ pub struct Inline<J: Naming, P: Picker + Drop> {
     ghost named: { history ≡ J.book },
     ghost told: { AreTold told (view_of board) },
     ghost uncut: { AreUncut (cuts_of board) },
+    ghost idle: { IsIdle (view_of board).progress },
 }
 
 impl<J: Naming, P: Picker + Drop> Inline<J, P> {

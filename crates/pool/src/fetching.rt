@@ -90,7 +90,8 @@ fn work_alone<J: Naming, R: Wait + Threads, G: Gate + Drop, P: Picker + Drop>(
     shared.gate.enter(piece.number, piece.piece);
     let spare = shared.spares.take_for(rt, piece);
     let threads = SeveralThreads::with_spare(rt, own.crew.helpers(), spare);
-    own.work(&threads, alloc, piece);
+    // What fails stays on the board as failed.
+    let _ = own.work(&threads, alloc, piece);
     if let Some(spare) = threads.into_spare() {
         shared.spares.put_back(rt, spare);
     }

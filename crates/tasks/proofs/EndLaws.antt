@@ -8,7 +8,8 @@ use Rattle.board.specs.declared.look.Refusal.{Refusal}
 use Rattle.kernel.specs.declared.block.Block.{Block}
 use Rattle.calls.specs.declared.recipe.Recipe.{Recipe}
 use Rattle.model.specs.Object.{Object}
-use Rattle.tasks.specs.Boards.{are_kept, cut_by, felled, felled_cut, given_cut, given_view, left_after}
+use Rattle.desk.specs.Ends.{felled, felled_cut}
+use Rattle.tasks.specs.Boards.{are_kept, cut_by, given_cut, given_view, left_after}
 use Rattle.tasks.specs.Outcomes.{HasRecipe, IsFrom}
 use Rattle.tasks.specs.declared.work.Outcome.{Outcome}
 use Rattle.tasks.specs.declared.work.Outcome.TheVariants.{Joined, Made, Part, Refused}

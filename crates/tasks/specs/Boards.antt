@@ -1,26 +1,19 @@
 -- What becomes of a board.
 use Rattle.std.specs.Option.{option_map}
-use Rattle.std.specs.Prelude.{ℕ, ◌+◌, ◌&&◌, Bool, true, List, length, Option, Some, None, Result, Ok, Err}
-use Rattle.std.specs.Prelude.{if◌then◌else◌, is_none, nat_lt, slice_get, slice_index}
+use Rattle.std.specs.Prelude.{ℕ, ◌+◌, Bool, true, List, length, Option, Some, None, Result, Ok, Err}
+use Rattle.std.specs.Prelude.{if◌then◌else◌, nat_lt, slice_get, slice_index}
 use Rattle.board.specs.Cuts.{Cutting, after_cut, at_slot, left_view, told_by}
-use Rattle.board.specs.Events.{failed, may_fail, with_holds, with_progress}
-use Rattle.stages.specs.Progress.{Made, is_joining, is_running}
+use Rattle.board.specs.Events.{with_holds, with_progress}
+use Rattle.stages.specs.Progress.{Made, is_joining}
 use Rattle.stages.specs.Views.{View}
 use Rattle.board.specs.declared.look.Refusal.{Refusal}
 use Rattle.desk.specs.Desks.{is_on, told}
+use Rattle.desk.specs.Ends.{felled, felled_cut, handed_in}
 use Rattle.desk.specs.declared.ticket.Ticket.{Ticket}
 use Rattle.history.specs.Histories.{Told}
 use Rattle.kernel.specs.declared.block.Block.{Block}
 use Rattle.tasks.specs.declared.work.Outcome.{Outcome}
 use Rattle.tasks.specs.declared.work.Outcome.TheVariants.{Joined, Made as WasMade, Part, Refused}
-
--- a slot fails that can be taken, or that somebody works on
-abbrev pub felled : {N : Type 0} → View N → ℕ → View N
-felled v k = if may_fail v k then failed v k else v
-
--- ..and what there is of its task is forgotten then
-abbrev pub felled_cut : {N : Type 0} → View N → Option Cutting → ℕ → Option Cutting
-felled_cut v c k = if may_fail v k then None else c
 
 -- of a task that was cut there are several blocks in the end
 abbrev pub are_kept : Option (List Block) → Bool
@@ -50,8 +43,7 @@ left_by (Err why) = None
 
 -- what the board shows once this came of a piece of a slot's task, which has come so far
 abbrev pub ended : {N : Type 0} → View N → Option Cutting → ℕ → ℕ → Outcome → View N
-ended v c k piece (WasMade store) =
-    if is_running (slice_get v.progress k) && is_none c then with_progress v k Made else v
+ended v c k piece (WasMade store) = handed_in v c k
 ended v c k piece (Joined store) = if is_joining (slice_get v.progress k) then with_progress v k Made else v
 ended v c k piece (Part block) = given_view v k (told_by v c k piece block)
 ended v c k piece Refused = felled v k

@@ -5,8 +5,8 @@ ghost use Rattle.board.specs.Boards.{cuts_of, view_of};
 ghost use Rattle.board.specs.Cuts.{AreBlocksFor, IsPut, at_slot, blocks_of, told_on};
 ghost use Rattle.board.specs.Pieces.{IsBlockFor};
 ghost use Rattle.stages.specs.Tasks.{object_at};
-ghost use Rattle.tasks.specs.Boards.{are_kept, cut_after, cut_by, ended, felled, felled_cut, given_view, left_after};
-ghost use Rattle.tasks.specs.Boards.{left_by};
+ghost use Rattle.desk.specs.Ends.{felled, felled_cut};
+ghost use Rattle.tasks.specs.Boards.{are_kept, cut_after, cut_by, ended, given_view, left_after, left_by};
 ghost use Rattle.tasks.specs.Outcomes.{AreAll, IsOutcomeOf};
 
 use crate::work::Outcome;

@@ -11,7 +11,7 @@ ghost use Rattle.stages.specs.Progress.{is_running};
 ghost use Rattle.board.specs.Looks.{SeenUnfinished, seen_of};
 ghost use Rattle.stages.specs.Views.{state_of};
 ghost use Rattle.desk.specs.Desks.{AreTold, is_on, object_in, told};
-ghost use Rattle.desk.specs.Ends.{unfinished};
+ghost use Rattle.desk.specs.Ends.{felled, felled_cut, handed_in, unfinished};
 ghost use Rattle.history.specs.Histories.{object_of};
 ghost use Rattle.tasks.specs.Crews.{Calls};
 ghost use Rattle.tasks.specs.Boards.{cut_on, finished_on, held_on, left_on};
@@ -177,11 +177,23 @@ impl<J: Naming, P: Picker + Drop> Tasks<J, P> {
     }
 
     /// Does a piece that was taken and is all of its task, here and now; where there is no memory for it, its slot
-    /// fails. What it was made of stays in the piece, but for what was written over. What goes along bitmaps is made by
-    /// `products`.
-    pub fn work<V: VectorProducts>(&mut self, products: &V, alloc: Global, piece: &mut Piece)
+    /// fails, and the answer says so. What it was made of stays in the piece, but for what was written over. What goes
+    /// along bitmaps is made by `products`.
+    pub fn work<V: VectorProducts>(
+        &mut self,
+        products: &V,
+        alloc: Global,
+        piece: &mut Piece,
+    ) -> Result<(), NoMemory>
         requires piece { IsPieceFor (view_of self.old.board).tasks piece.old }
         requires whole { is_whole piece.old ≡ true }
+        ensures made { OnOk result (view_of self.new.board ≡ handed_in (view_of self.old.board)
+            (at_slot (cuts_of self.old.board) piece.old.number) piece.old.number) }
+        ensures made_cuts { OnOk result (cuts_of self.new.board ≡ cuts_of self.old.board) }
+        ensures failed { OnErr result (view_of self.new.board ≡ felled (view_of self.old.board) piece.old.number) }
+        ensures failed_cuts { OnErr result (IsPut (cuts_of self.old.board) piece.old.number
+            (felled_cut (view_of self.old.board) (at_slot (cuts_of self.old.board) piece.old.number) piece.old.number)
+            (cuts_of self.new.board)) }
         ensures tasks { (view_of self.new.board).tasks ≡ (view_of self.old.board).tasks }
         ensures notes { (view_of self.new.board).notes ≡ (view_of self.old.board).notes }
         ensures fewer { is_running (slice_get (view_of self.old.board).progress piece.old.number) ≡ true
@@ -190,7 +202,7 @@ impl<J: Naming, P: Picker + Drop> Tasks<J, P> {
         ensures epoch { self.new.epoch ≡ self.old.epoch }
         ensures crew { self.new.crew ≡ self.old.crew }
     {
-        work(products, alloc, &mut self.board, piece);
+        work(products, alloc, &mut self.board, piece)
     }
 
     /// A piece of one of the tasks that can be done, to be done by a thread that doesn't have the board; None where

@@ -67,7 +67,7 @@ fn a_patch_that_is_taken_last_has_the_store_itself(rt: HostRuntime) -> Result<()
     let Some(mut transpose) = take(&mut Order::Last, &mut board) else {
         return Err(AllocError);
     };
-    work(&OneThread, alloc, &mut board, &mut transpose);
+    work(&OneThread, alloc, &mut board, &mut transpose).map_err(|_| AllocError)?;
     drop(transpose);
     assert!(rt; matches!(board.look(0), Look::Done(_)));
     let Some(piece) = take(&mut Order::First, &mut board) else {
@@ -98,9 +98,9 @@ fn a_patch_that_is_taken_while_another_reads_shares_the_store(
     };
     assert!(rt; patch.number == 1 && transpose.number == 2);
     assert!(rt; matches!(board.look(0), Look::Done(_)));
-    work(&OneThread, alloc, &mut board, &mut patch);
+    work(&OneThread, alloc, &mut board, &mut patch).map_err(|_| AllocError)?;
     assert!(rt; matches!(board.look(0), Look::Done(_)));
-    work(&OneThread, alloc, &mut board, &mut transpose);
+    work(&OneThread, alloc, &mut board, &mut transpose).map_err(|_| AllocError)?;
     assert!(rt; matches!(board.look(0), Look::Gone));
     assert!(rt; matches!(board.look(1), Look::Done(_)) && matches!(board.look(2), Look::Done(_)));
     Ok(())

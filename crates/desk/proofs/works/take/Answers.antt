@@ -1,8 +1,12 @@
 -- The slot that is picked runs, or fails.
-use Rattle.std.proofs.Common.{◌∙◌, arith, le_trans}
+use Rattle.std.proofs.Common.{◌∙◌, arith, le_trans, subst, sym}
 use Rattle.board.specs.Boards.{cuts_of, view_of}
+use Rattle.board.specs.Events.{failed}
+use Rattle.stages.specs.Views.{View}
+use Rattle.desk.specs.Ends.{IsIdle}
 use Rattle.desk.proofs.CutLaws.{all_uncut, all_whole, fewer_refused, more_taken, none_offered, open_run, runs_taken, uncut_failed}
 use Rattle.desk.proofs.EndLaws.{same_failed}
+use Rattle.desk.proofs.IdleLaws.{idle_after, idle_failed, idle_taken}
 use Rattle.desk.proofs.works.take.Goals as goal
 
 pub returns-in-Ok-clause-none : goal.returns-in-Ok-clause-none
@@ -31,6 +35,11 @@ returns-in-Ok-clause-uncut g c =
     all_uncut (view_of c.loop-taken.board) (view_of c.take.new.self) (cuts_of c.loop-taken.board) (cuts_of c.take.new.self) c.loop-taken.invariant.3
     c.in-Ok.taken c.in-Ok.ensures.taken c.in-Ok.ensures.same_cuts
 
+pub returns-in-Ok-clause-idle : goal.returns-in-Ok-clause-idle
+returns-in-Ok-clause-idle g c = λ idle.
+    idle_taken (view_of c.loop-taken.board) (view_of c.take.new.self) (cuts_of c.loop-taken.board) (cuts_of c.take.new.self) c.loop-taken.invariant.3
+    c.in-Ok.taken c.in-Ok.ensures.taken c.in-Ok.ensures.same (c.loop-taken.invariant.4 idle)
+
 pub loop-taken-smaller : goal.loop-taken-smaller
 loop-taken-smaller g c =
     fewer_refused (view_of c.loop-taken.board) (cuts_of c.loop-taken.board) (open_run c.loop-taken.board) c.pick.result c.in-Err.number
@@ -50,4 +59,8 @@ loop-taken-preserved g c =
       omega (arith, less, before.2),
       uncut_failed (cuts_of c.loop-taken.board) (cuts_of c.take.new.self) (cuts_of c.fail.new.self) c.in-Err.number c.fail.result before.3
           c.in-Err.ensures.refused_cuts c.fail.ensures.cuts c.fail.ensures.refused_cuts,
+      λ idle.
+          let now = subst (λ (v : View _). IsIdle v.progress) (sym c.in-Err.ensures.refused) (before.4 idle) in
+          idle_after (view_of c.take.new.self) (view_of c.fail.new.self) (failed (view_of c.take.new.self) c.in-Err.number) c.fail.result
+          c.fail.ensures.failed c.fail.ensures.refused (idle_failed (view_of c.take.new.self) c.in-Err.number now) now,
     )
