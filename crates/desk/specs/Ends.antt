@@ -1,5 +1,6 @@
 -- What becomes of a board where work on a task ends, and how much is left to do of it.
-use Rattle.std.specs.Prelude.{ℕ, ◌≡◌, ◌+◌, ◌&&◌, if◌then◌else◌, false, true, is_none, List, [], ◌∷◌, Option, None, slice_get}
+use Rattle.std.specs.Prelude.{ℕ, ◌≡◌, ◌+◌, ◌&&◌, if◌then◌else◌, false, true, List, [], ◌∷◌, Option, None, is_none}
+use Rattle.std.specs.Prelude.{slice_get}
 use Rattle.board.specs.Cuts.{Cutting}
 use Rattle.board.specs.Events.{failed, may_fail, with_progress}
 use Rattle.stages.specs.Progress.{Made, Progress, is_running, is_underway, is_unfinished}

@@ -18,8 +18,8 @@ use std::alloc::Global;
 use std::sync::Arc;
 use store::Store;
 
-/// The store of a slot, once what it rests on is done, and whatever is picked before. A slot that is to come isn't given
-/// up: it is done then, or has failed.
+/// The store of a slot, once what it rests on is done, and whatever is picked before. A slot that is to come isn't
+/// given up: it is done then, or has failed.
 pub(crate) fn finish<P: Picker, N: Drop>(
     alloc: Global,
     picker: &mut P,
