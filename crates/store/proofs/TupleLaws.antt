@@ -9,7 +9,7 @@ use Rattle.model.specs.declared.entry.Entry.{Entry}
 use Rattle.model.specs.Entries.{InOrder, Precedes, entry_at}
 use Rattle.store.specs.declared.lists.FiberEnd.{FiberEnd}
 use Rattle.store.specs.Fibers.{AreFlat, AreOthers, end_at, entries_from, last_end, outers, Rises}
-use Rattle.store.specs.Tuples.{IsUpTo}
+use Rattle.store.specs.Tuples.{HasEnd, IsUpTo}
 use Rattle.store.proofs.AttachLaws.{IsAttached, attach_part}
 use Rattle.store.proofs.Order.{all_append_right, all_pairs_across, all_pairs_cons, all_pairs_left, all_pairs_nil}
 
@@ -56,13 +56,27 @@ attached ends inner words e count flat before others =
     let made = attach_part ends part count from (inner ++ e.col ∷ []) (words ++ e.word ∷ []) (rw (cut, cut') flat) (rw (left, left') (one_entry e)) (rw (cut, cut', left, left', its_entries e) (before_one e (entries_from 0 ends inner words) before)) others in
     rw (cut, cut', left, left') at made
 
-pub one_more : (ends : List FiberEnd) (inner words : List ℕ) (e : Entry) (count : ℕ) → AreFlat ends inner words
-    → All (λ f. Precedes f e) (entries_from 0 ends inner words) → AreOthers ends (end_at e.row 1 ∷ []) count
-    → IsOneMore (ends_with ends count e.row (length inner + 1)) ends inner words e
-one_more ends inner words e count flat before others =
-    let made = attached ends inner words e count flat before others in
+-- which fiber goes on is told by where the part's first one is
+any_end : (ends : List FiberEnd) (row end count : ℕ) → AreOthers ends (end_at row end ∷ []) count
+    → AreOthers ends (end_at row 1 ∷ []) count
+any_end ends row end count others = record {
+  high = others.high;
+  last = others.last;
+  some = others.some;
+  same = others.same;
+  other = others.other;
+}
+
+pub one_more : (ends all : List FiberEnd) (inner words : List ℕ) (e : Entry) → AreFlat ends inner words
+    → All (λ f. Precedes f e) (entries_from 0 ends inner words) → HasEnd e.row (length inner + 1) ends all
+    → IsOneMore all ends inner words e
+one_more ends all inner words e flat before has =
+    let others = any_end ends e.row (length inner + 1) has.others has.are_others in
+    let made = attached ends inner words e has.others flat before others in
     let end : 1 + length inner ≡ length inner + 1 = omega arith in
-    rw (← end) (record { flat = made.flat; entries = made.entries ∙ ap (λ es. entries_from 0 ends inner words ++ es) (its_entries e) })
+    let put : IsOneMore (ends_with ends has.others e.row (length inner + 1)) ends inner words e =
+        rw (← end) (record { flat = made.flat; entries = made.entries ∙ ap (λ es. entries_from 0 ends inner words ++ es) (its_entries e) }) in
+    rw has.ends put
 
 -- ---- the last entry
 

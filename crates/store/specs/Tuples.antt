@@ -1,11 +1,12 @@
 -- Entries that came row by row, and those behind them.
-use Rattle.std.specs.Prelude.{ℕ, ◌≡◌, ◌<◌, ◌≤◌, ◌⊎◌, ◌++◌, ◌∷◌, List, length}
+use Rattle.std.specs.Prelude.{ℕ, ◌≡◌, ◌<◌, ◌≤◌, ◌⊎◌, ◌++◌, ◌∷◌, [], List, length, take}
 use Rattle.std.specs.List.{All, flat_map}
 use Rattle.std.specs.Global.{Vec}
 use Rattle.model.specs.declared.entry.Entry.{Entry}
 use Rattle.model.specs.Entries.{InOrder, Precedes, entry_at}
+use Rattle.store.specs.declared.lists.FiberEnd.{FiberEnd}
 use Rattle.store.specs.declared.lists.FiberLists.{FiberLists}
-use Rattle.store.specs.Fibers.{AreFlat, entries_in}
+use Rattle.store.specs.Fibers.{AreFlat, AreOthers, end_at, entries_in}
 
 -- an entry stands at a row and a column, or before
 abbrev pub IsUpTo : ℕ → ℕ → Entry → Type 0
@@ -20,6 +21,12 @@ pub record AreRows (rows : FiberLists) (row col : ℕ) : Type 0 where
   pub flat : AreFlat rows.ends.items rows.inner.items rows.words.items
   pub up_to : All (IsUpTo row col) (entries_in rows)
   pub last : 0 < length rows.ends.items → All (λ e. Precedes e (entry_at row col 0)) (entries_in rows) → ⊥
+
+-- the last fiber ends behind so many entries: the one at an outer index, which was there or is a new one
+pub record HasEnd (outer end : ℕ) (before after : List FiberEnd) : Type 0 where
+  pub others : ℕ
+  pub are_others : AreOthers before (end_at outer end ∷ []) others
+  pub ends : after ≡ take others before ++ end_at outer end ∷ []
 
 -- the entries of lists, one behind the other
 abbrev pub listed : List (Vec Entry) → List Entry

@@ -5,9 +5,9 @@ ghost use Rattle.std.specs.List.{All};
 ghost use Rattle.std.specs.List.Sorted.{IsPermutation};
 ghost use Rattle.model.specs.Entries.{InOrder, Precedes};
 ghost use Rattle.store.specs.Fibers.{AreFlat, entries_along, entries_in};
-ghost use Rattle.store.specs.Tuples.{AreRows, IsFirst, NoneIsEmpty, listed};
+ghost use Rattle.store.specs.Tuples.{AreRows, HasEnd, IsFirst, NoneIsEmpty, listed};
 
-use crate::edits::make_room;
+use crate::edits::make_room_in;
 use crate::lists::count_others;
 use crate::{FiberEnd, FiberLists, Fibers};
 use model::{Entry, NoMemory};
@@ -256,14 +256,27 @@ fn push_last(rows: &mut FiberLists, entry: Entry) -> Result<(), NoMemory>
     ensures err { OnErr result (entries_in rows.new ≡ entries_in rows.old) }
     ensures ends { OnErr result (rows.new.ends.items ≡ rows.old.ends.items) }
 {
-    make_room(rows)?;
+    make_room_in(&mut rows.inner)?;
+    make_room_in(&mut rows.words)?;
     let end = rows.inner.len() + 1;
-    let outer = entry.row;
-    let count = count_others(&rows.ends, &[FiberEnd { outer, end: 1 }]);
-    rows.ends.truncate(count);
-    rows.ends.push_reserved(FiberEnd { outer, end });
+    set_end(&mut rows.ends, entry.row, end)?;
     rows.inner.push_reserved(entry.col);
     rows.words.push_reserved(entry.word);
+    Ok(())
+}
+
+/// Has the fiber at an outer index, which is the last one or is to come behind it, end behind so many entries.
+#[inline(always)]
+fn set_end(ends: &mut Vec<FiberEnd>, outer: u64, end: usize) -> Result<(), NoMemory>
+    ensures ok { OnOk result (HasEnd outer end ends.old.items ends.new.items) }
+    ensures err { OnErr result (ends.new.items ≡ ends.old.items) }
+{
+    let count = count_others(ends, &[FiberEnd { outer, end }]);
+    if count < ends.len() {
+        ends[count] = FiberEnd { outer, end };
+    } else {
+        ends.push(FiberEnd { outer, end })?;
+    }
     Ok(())
 }
 
