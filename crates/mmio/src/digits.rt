@@ -76,26 +76,8 @@ fn digits_in_front(text: &[u8]) -> (usize, u64)
 /// Most numbers have fewer digits than this.
 const FEW: usize = 8;
 
-/// What `leading_digits` finds, within its caller. Fewer than `FEW` digits are read without a look at where the text
-/// ends, and so without a loop.
-#[inline(always)]
-fn few_digits(text: &[u8]) -> (usize, u64)
-    ensures within { result.0 ≤ length text.now }
-    ensures digits { list_all is_digit (take result.0 text.now) ≡ true }
-    ensures ends { result.0 < length text.now → is_digit (slice_index text.now result.0) ≡ false }
-    ensures value { result.1 ≡ digits_value (take result.0 text.now) % 2 ^ 64 }
-{
-    if text.len() >= FEW {
-        let (count, value) = digits_in_front(&text[..FEW]);
-        if count < FEW {
-            return (count, value);
-        }
-    }
-    leading_digits(text)
-}
-
 /// The number of at most 19 digits at the front of a text, and what follows the one byte behind them, where that
-/// is `end`.
+/// is `end`. Fewer than `FEW` digits are read without a look at where the text ends, and so without a loop.
 #[inline(always)]
 pub fn number_before(text: &[u8], end: u8) -> Option<(u64, &[u8])>
     ensures number { IfSome result (λ found. IsNumberBefore text.now end found.0 found.1.now) }
@@ -105,7 +87,28 @@ pub fn number_before(text: &[u8], end: u8) -> Option<(u64, &[u8])>
     ensures none { IfNone result ((digits rest : List ℕ) → text.now ≡ digits ++ end ∷ rest
         → are_digits digits ≡ true → is_digit end ≡ false → MOST_SHORT < length digits) }
 {
-    let (count, value) = few_digits(text);
+    if text.len() >= FEW {
+        let (count, value) = digits_in_front(&text[..FEW]);
+        if count < FEW {
+            return number_of(text, count, value, end);
+        }
+    }
+    let (count, value) = leading_digits(text);
+    number_of(text, count, value, end)
+}
+
+/// What `number_before` gives, where so many digits are in front, and write a value modulo 2^64.
+#[inline(always)]
+fn number_of(text: &[u8], count: usize, value: u64, end: u8) -> Option<(u64, &[u8])>
+    requires within { count ≤ length text.now }
+    requires digits { list_all is_digit (take count text.now) ≡ true }
+    requires ends { count < length text.now → is_digit (slice_index text.now count) ≡ false }
+    requires value { value ≡ digits_value (take count text.now) % 2 ^ 64 }
+    ensures number { IfSome result (λ found. IsNumberBefore text.now end found.0 found.1.now) }
+    ensures shorter { IfSome result (λ found. length found.1.now < length text.now) }
+    ensures none { IfNone result ((digits rest : List ℕ) → text.now ≡ digits ++ end ∷ rest
+        → are_digits digits ≡ true → is_digit end ≡ false → MOST_SHORT < length digits) }
+{
     if count == 0 || count > MOST_SHORT || count == text.len() || text[count] != end {
         return None;
     }

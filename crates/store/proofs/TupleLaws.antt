@@ -75,7 +75,7 @@ one_more ends all inner words e flat before has =
     let made = attached ends inner words e has.others flat before others in
     let end : 1 + length inner ≡ length inner + 1 = omega arith in
     let put : IsOneMore (ends_with ends has.others e.row (length inner + 1)) ends inner words e =
-        rw (← end) (record { flat = made.flat; entries = made.entries ∙ ap (λ es. entries_from 0 ends inner words ++ es) (its_entries e) }) in
+    rw (← end) (record { flat = made.flat; entries = made.entries ∙ ap (λ es. entries_from 0 ends inner words ++ es) (its_entries e) }) in
     rw has.ends put
 
 -- ---- the last entry

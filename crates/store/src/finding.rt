@@ -36,7 +36,29 @@ pub(crate) fn fiber_near(ends: &[FiberEnd], outer: u64, hint: usize) -> Spot
         ≡ end_at outer result.end ∷ drop (result.fiber + 1) ends.now }
     ensures absent { result.end ≤ result.start → All (λ r. outer < r.outer) (drop result.fiber ends.now) }
 {
+    // Most fibers that are looked for are there.
+    if hint < ends.len() && ends[hint].outer == outer {
+        return spot_of(ends, outer, hint);
+    }
     let fiber = first_near(ends, outer, hint);
+    spot_of(ends, outer, fiber)
+}
+
+/// The places of the fiber at `outer`, before which there are so many.
+#[inline(always)]
+fn spot_of(ends: &[FiberEnd], outer: u64, fiber: usize) -> Spot
+    requires rises { Rises 0 ends.now }
+    requires apart { AreApart ends.now }
+    requires bound { fiber ≤ length ends.now }
+    requires before { All (λ r. r.outer < outer) (take fiber ends.now) }
+    requires behind { All (λ r. outer ≤ r.outer) (drop fiber ends.now) }
+    ensures fiber { result.fiber ≡ fiber }
+    ensures start { result.start ≡ last_end 0 (take result.fiber ends.now) }
+    ensures at { AreAt outer result.start result.end (outers 0 ends.now) }
+    ensures there { result.start < result.end → drop result.fiber ends.now
+        ≡ end_at outer result.end ∷ drop (result.fiber + 1) ends.now }
+    ensures absent { result.end ≤ result.start → All (λ r. outer < r.outer) (drop result.fiber ends.now) }
+{
     let start = end_of(ends, fiber);
     if fiber < ends.len() && ends[fiber].outer == outer {
         let end = ends[fiber].end;

@@ -1,4 +1,4 @@
-use Rattle.std.proofs.Common.{◌<◌, ◌≤◌, arith, length}
+use Rattle.std.proofs.Common.{arith}
 use Rattle.store.specs.Fibers.{end_at}
 use Rattle.store.proofs.Windows.{first_below, others_from}
 use Rattle.store.proofs.finding.count_without_gaps.Goals as goal

@@ -3,19 +3,19 @@ use Rattle.std.proofs.Common.{arith}
 use Rattle.std.proofs.lemmas.Bool.Decides.{nat_tests}
 use Rattle.std.proofs.lemmas.List.{take_rest}
 use Rattle.mmio.proofs.UsualLaws.{number_before_at, number_behind}
-use Rattle.mmio.proofs.digits.number_before.Goals as goal
-use Rattle.mmio.proofs.digits.number_before.Goals.{then-count-eq0-via-then-count-eq0, then-count-eq0-via-else-count-eq0+then-count-gt-MOST_SHORT, then-count-eq0-via-else-count-eq0+else-count-gt-MOST_SHORT+then-count-text, then-count-eq0-via-else-count-eq0+else-count-gt-MOST_SHORT+else-count-text+then-text-count}
+use Rattle.mmio.proofs.digits.number_of.Goals as goal
+use Rattle.mmio.proofs.digits.number_of.Goals.{then-count-eq0-via-then-count-eq0, then-count-eq0-via-else-count-eq0+then-count-gt-MOST_SHORT, then-count-eq0-via-else-count-eq0+else-count-gt-MOST_SHORT+then-count-text, then-count-eq0-via-else-count-eq0+else-count-gt-MOST_SHORT+else-count-text+then-text-count}
 
 pub returns-clause-number : goal.returns-clause-number
 returns-clause-number c =
-    let found = c.few_digits-count.ensures in
-    rw take_rest (number_before_at c.args.text.now c.few_digits-count.result.0 c.args.end c.few_digits-count.result.1
+    let found = c.requires in
+    rw take_rest (number_before_at c.args.text.now c.args.count c.args.end c.args.value
     (grind (arith, nat_tests)) (grind (arith, nat_tests)) (grind (arith, nat_tests)) found.digits (grind (arith, nat_tests)) found.value)
 
 pub returns-then-count-eq0-clause-none : goal.returns-then-count-eq0-clause-none
 returns-then-count-eq0-clause-none c = λ digits rest parts are other.
-    let found = c.few_digits-count.ensures in
-    let behind = number_behind c.args.text.now c.few_digits-count.result.0 c.args.end digits rest found.within found.digits found.ends parts are other in
+    let found = c.requires in
+    let behind = number_behind c.args.text.now c.args.count c.args.end digits rest found.within found.digits found.ends parts are other in
     let same = behind.0 in
     let some = behind.1 in
     let inside = behind.2 in
