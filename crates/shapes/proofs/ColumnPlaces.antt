@@ -1,12 +1,14 @@
 -- What rows have at listed columns, collected by the places of the columns.
-use Rattle.std.proofs.Common.{◌≡◌, ◌≢◌, ℕ, ◌+◌, ◌<◌, ◌≤◌, true, cond, eqb, ltb, ◌&&◌, List, [], ◌∷◌, ◌++◌, length, map, take, get_or, Option, Some, None, refl, sym, ◌∙◌, ap, inl, inr, arith, append_assoc, slice_get}
+use Rattle.std.proofs.Common.{◌≡◌, ◌≢◌, ℕ, ◌+◌, ◌<◌, ◌≤◌, true, cond, eqb, ltb, ◌&&◌, List, [], ◌∷◌, ◌++◌, length, map, take, get_or, false, Option, Some, None, refl, sym, ◌∙◌, ap, inl, inr, arith, append_assoc, slice_get}
 use Rattle.std.specs.Option.{option_and_then}
 use Rattle.std.specs.List.{All, flat_map}
+use Rattle.std.specs.List.Sorted.{IsPermutation}
 use Rattle.std.proofs.lemmas.Bool.{cases_Bool, cases_eq, cases_lt, eq-eqb, eqb-true, ne_eqb}
 use Rattle.std.proofs.lemmas.Bool.Decides.{nat_tests}
 use Rattle.std.proofs.lemmas.List.{append-nil, take_more}
 use Rattle.std.proofs.lemmas.List.Elements.{All-append, All-cons, All-head, All-map, All-nil, All-tail, All-weaker}
 use Rattle.std.proofs.lemmas.List.Concat.{flat_map-append}
+use Rattle.std.proofs.lemmas.List.Sorted.{All-permutation, IsPermutation-sym}
 use Rattle.std.proofs.lemmas.Option.{get_or_from_slice_get, none-some, slice_get-get_or, slice_get_within}
 use Rattle.model.specs.declared.entry.Entry.{Entry}
 use Rattle.model.specs.Entries.{entry_at, row_entries, word_at}
@@ -15,7 +17,7 @@ use Rattle.store.specs.Fibers.{entries_along}
 use Rattle.store.specs.Stored.{AreIn}
 use Rattle.store.specs.Walks.{IsFirstRow}
 use Rattle.store.proofs.FlatLaws.{all_rows, row_in_order}
-use Rattle.store.proofs.Positions.{word_at-here}
+use Rattle.store.proofs.Positions.{word_at-here, word_at-none}
 use Rattle.store.proofs.RowEntries.{row_entries-inside}
 use Rattle.shapes.specs.Collects.{IsCollected, collected, index_content}
 use Rattle.shapes.specs.Rows.{IsRowOf, IsWalk}
@@ -39,6 +41,14 @@ none_left i j (x ∷ xs) ys none = elim (cases_Bool (eqb i x.row && eqb j x.col)
 none_right : (i j : ℕ) (xs ys : List Entry) → word_at (xs ++ ys) i j ≡ None → word_at ys i j ≡ None
 none_right i j [] ys none = none
 none_right i j (x ∷ xs) ys none = none_right i j xs ys (behind_none i j x (xs ++ ys) none)
+
+none_all : (i j : ℕ) (es : List Entry) → word_at es i j ≡ None
+    → All (λ e. (eqb i e.row && eqb j e.col) ≡ false) es
+none_all i j [] none = All-nil (λ e. (eqb i e.row && eqb j e.col) ≡ false)
+none_all i j (e ∷ es) none = elim (cases_Bool (eqb i e.row && eqb j e.col)) [
+  | inl at ↦ absurd (none-some e.word (sym none ∙ word_at-here i j e es at))
+  | inr away ↦ All-cons (λ e. (eqb i e.row && eqb j e.col) ≡ false) e es away (none_all i j es (behind_none i j e es none))
+]
 
 -- ---- places of columns
 
@@ -201,6 +211,19 @@ collected_more source made first index past row size n places cols cs ws es has 
       ];
     }
 
+-- entries in another order are as many
+pub permuted : (made : Content) (first next past n : ℕ) (es fs : List Entry) → IsPermutation es fs
+    → IsCollected made first next past n es → IsCollected made first next past n fs
+permuted made first next past n es fs is done = record {
+  low = done.low;
+  are = All-permutation (λ (e : Entry). made e.row e.col ≡ Some e.word) es fs is done.are;
+  inside = All-permutation (λ (e : Entry). ((first ≤ e.row) × (e.row < past)) × (e.col < n)) es fs is done.inside;
+  whole = λ i j low less none.
+      let away = λ (e : Entry). (eqb i e.row && eqb j e.col) ≡ false in
+      let others : All away es = All-permutation away fs es (IsPermutation-sym es fs is) (none_all i j fs none) in
+      done.whole i j low less (word_at-none i j es others);
+}
+
 -- ---- along a walk
 
 pub record IsCollecting (source made : Content) (first past size n : ℕ) (rest es : List Entry) : Type 0 where
@@ -233,6 +256,15 @@ collecting_more source made first past size n index places cols cs ws rest other
       done = collected_more source made first index past index size n places cols cs ws es has high (record { lengths = starts.lengths; rising = starts.rising; inside = step.inside; words = step.words }) (λ j. is j high) up;
       walk = step.left;
     }
+
+pub collecting_permuted : (source made : Content) (first past size n : ℕ) (rest es fs : List Entry) → IsPermutation es fs
+    → IsCollecting source made first past size n rest es → IsCollecting source made first past size n rest fs
+collecting_permuted source made first past size n rest es fs is here = record {
+  next = here.next;
+  high = here.high;
+  done = permuted made first here.next past n es fs is here.done;
+  walk = here.walk;
+}
 
 pub collecting_end : (source made : Content) (first past size n : ℕ) (rest es : List Entry) → StaysEmpty source made
     → IsCollecting source made first past size n rest es → rest ≡ [] → IsCollected made first past past n es

@@ -1,6 +1,7 @@
 //! Entries at a long list of columns.
 ghost use Rattle.std.specs.Prelude.{◌≡◌, ◌++◌, ◌<◌, ◌≤◌, ℕ, length, map, true, IfOk, OnOk};
-ghost use Rattle.model.specs.Entries.{entry_at};
+ghost use Rattle.std.specs.List.Sorted.{IsPermutation};
+ghost use Rattle.model.specs.Entries.{entry_at, row_entries};
 ghost use Rattle.model.specs.Indices.{All, These, are_below};
 ghost use Rattle.model.specs.Regions.{extracted};
 ghost use Rattle.store.specs.Fibers.{entries_along};
@@ -81,8 +82,38 @@ fn entries_in(a: &Sparse, rows: &[u64]) -> usize {
     count
 }
 
-/// Puts what a row has at listed columns, as entries of another row, behind the entries.
+/// Puts what a row has at listed columns, as entries of another row, behind the entries, in the order of their columns:
+/// rows are short, and `gather` takes entries that are in order as they are.
 fn collect_row(
+    entries: &mut Vec<Entry>,
+    index: u64,
+    cols: &[u64],
+    words: &[u64],
+    places: &Places,
+) -> Result<(), NoMemory>
+    requires { length words.now ≡ length cols.now }
+    ensures { OnOk result (IsPermutation (entries.old.items
+        ++ collected index places.now.store.cols (content_of places.now.store)
+        (entries_along 0 cols.now words.now)) entries.new.items) }
+{
+    let start = entries.len();
+    list_row(entries, index, cols, words, places)?;
+    sort_row(&mut entries[start..]);
+    Ok(())
+}
+
+/// Puts the entries of a row in the order of their columns.
+#[inline(always)]
+fn sort_row(entries: &mut [Entry])
+    ensures { IsPermutation entries.old entries.new }
+{
+    if entries.len() > 1 {
+        entries.sort_unstable_by_key(|entry| entry.col);
+    }
+}
+
+/// The same in the order of the row.
+fn list_row(
     entries: &mut Vec<Entry>,
     index: u64,
     cols: &[u64],
@@ -95,9 +126,28 @@ fn collect_row(
         (entries_along 0 cols.now words.now)) }
 {
     for k in 0..cols.len() {
-        put_word(entries, index, places.of(cols[k]), words[k])?;
+        if places.may_have(cols[k]) {
+            put_at_places(entries, index, places, cols[k], words[k])?;
+        }
     }
     Ok(())
+}
+
+/// Puts the word of a column at each of its places in a row behind the entries. It stays a function of its own, so that
+/// the loop over columns that have none keeps what it needs in registers.
+#[inline(never)]
+fn put_at_places(
+    entries: &mut Vec<Entry>,
+    index: u64,
+    places: &Places,
+    col: u64,
+    word: u64,
+) -> Result<(), NoMemory>
+    ensures { OnOk result (entries.new.items ≡ entries.old.items
+        ++ map (λ s. entry_at index s.col word)
+        (row_entries places.now.store.cols (content_of places.now.store) col)) }
+{
+    put_word(entries, index, places.of(col), word)
 }
 
 /// Puts a word at each of some columns of a row behind the entries.

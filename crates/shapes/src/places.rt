@@ -54,16 +54,21 @@ impl Places {
         })
     }
 
+    /// Whether a column may have places; that most which aren't listed have none is seen at once.
+    #[inline(always)]
+    pub(crate) fn may_have(&self, col: u64) -> bool
+        ensures { result ≡ false → row_entries self.now.store.cols (content_of self.now.store) col ≡ [] }
+    {
+        !matches!(self.marks.get((col & self.mask) as usize), Some(false))
+    }
+
     /// The places of a column, in rising order.
     #[inline(always)]
     pub(crate) fn of(&self, col: u64) -> &[u64]
         ensures { result.now
             ≡ map (λ s. s.col) (row_entries self.now.store.cols (content_of self.now.store) col) }
     {
-        match self.marks.get((col & self.mask) as usize) {
-            Some(false) => &[],
-            _ => self.store.row_near(col, self.hints.of(col, 0)).0,
-        }
+        self.store.row_near(col, self.hints.of(col, 0)).0
     }
 }
 

@@ -4,7 +4,7 @@ use Rattle.model.specs.Indices.{All, These}
 use Rattle.model.specs.Regions.{extracted}
 use Rattle.store.specs.Stored.{Block, block_content, content_of}
 use Rattle.store.proofs.Walks.{rest_shorter}
-use Rattle.shapes.proofs.ColumnPlaces.{collecting_end, collecting_from, collecting_more}
+use Rattle.shapes.proofs.ColumnPlaces.{collecting_end, collecting_from, collecting_more, collecting_permuted}
 use Rattle.shapes.proofs.Extracts.{all_empty, row_of_all}
 use Rattle.shapes.proofs.Gathering.{gathered_is}
 use Rattle.shapes.proofs.Going.{if_ok}
@@ -26,7 +26,8 @@ loop-row-preserved c =
     let cols = c.args.cols.now in
     let row = c.in-Some.row in
     let places = c.in_ok-places.places in
-    rw (c.in_ok-collect_row.ensures, c.in_ok-places.ensures.cols) (collecting_more (content_of a) (extracted a.rows a.cols All (These cols) (content_of a)) c.args.range.start c.args.range.end a.cols (length cols) row.index (content_of places.store) cols row.cols.now row.words.now c.loop-row.rest.entries c.in-Some.others.entries c.loop-row.entries.items
+    let is = rw c.in_ok-places.ensures.cols at c.in_ok-collect_row.ensures in
+    collecting_permuted (content_of a) (extracted a.rows a.cols All (These cols) (content_of a)) c.args.range.start c.args.range.end a.cols (length cols) c.in-Some.others.entries _ _ is (collecting_more (content_of a) (extracted a.rows a.cols All (These cols) (content_of a)) c.args.range.start c.args.range.end a.cols (length cols) row.index (content_of places.store) cols row.cols.now row.words.now c.loop-row.rest.entries c.in-Some.others.entries c.loop-row.entries.items
     (all_empty a.rows a.cols (These cols) (content_of a)) (record { fits = refl; agree = c.in_ok-places.ensures.content }) c.in-Some.ensures
     (λ j high. row_of_all a.rows a.cols (These cols) (content_of a) row.index j (omega (arith, c.requires.end))) c.loop-row.invariant)
 

@@ -1,9 +1,9 @@
-use Rattle.std.proofs.Common.{◌≡◌, ◌∙◌, ◌<◌, ◌≤◌, ℕ, None, arith, get_or, length, refl}
+use Rattle.std.proofs.Common.{◌≡◌, ◌∙◌, ◌+◌, ◌<◌, ◌≤◌, ℕ, None, arith, get_or, length, refl}
 use Rattle.model.specs.Builds.{gathered}
 use Rattle.model.specs.Indices.{These}
 use Rattle.model.specs.Regions.{extracted}
 use Rattle.store.specs.Stored.{Block, block_content, content_of}
-use Rattle.shapes.proofs.ColumnPlaces.{collected_more, collected_none}
+use Rattle.shapes.proofs.ColumnPlaces.{collected_more, collected_none, permuted}
 use Rattle.shapes.proofs.Extracts.{row_of_these}
 use Rattle.shapes.proofs.Gathering.{gathered_is}
 use Rattle.shapes.proofs.Going.{if_ok}
@@ -22,7 +22,8 @@ loop-index-preserved c =
     let made = extracted a.rows a.cols (These rows) (These cols) (content_of a) in
     let index = c.loop-index.index in
     let places = c.in_ok-places.places in
-    rw (c.in_ok-collect_row.ensures, c.in_ok-places.ensures.cols) (collected_more (content_of a) made c.args.range.start index c.args.range.end (get_or rows index 0) a.cols (length cols) (content_of places.store) cols c.find_row.result.0.now c.find_row.result.1.now c.loop-index.entries.items
+    let is = rw c.in_ok-places.ensures.cols at c.in_ok-collect_row.ensures in
+    permuted made c.args.range.start (index + 1) c.args.range.end (length cols) _ _ is (collected_more (content_of a) made c.args.range.start index c.args.range.end (get_or rows index 0) a.cols (length cols) (content_of places.store) cols c.find_row.result.0.now c.find_row.result.1.now c.loop-index.entries.items
     (record { fits = refl; agree = c.in_ok-places.ensures.content }) c.loop-index-test.true c.find_row.ensures
     (λ j. row_of_these a.rows a.cols rows (These cols) (content_of a) index j (omega (arith, c.loop-index-test.true, c.requires.end))) c.loop-index.invariant)
 

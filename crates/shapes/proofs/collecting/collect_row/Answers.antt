@@ -1,34 +1,35 @@
-use Rattle.std.proofs.Common.{◌≡◌, ◌∙◌, ◌++◌, ℕ, ap, arith, get_or, map}
-use Rattle.std.proofs.lemmas.List.{take_all}
-use Rattle.std.proofs.lemmas.Simd.{map-map}
+-- A row in another order has the same entries.
+use Rattle.std.proofs.Common.{◌≡◌, ◌∙◌, ◌+◌, ◌-◌, ◌≤◌, List, [], ◌++◌, length, take, drop, sym, ap, arith, le_of_eq, length-append, length-drop, length-take}
+use Rattle.std.specs.List.Sorted.{IsPermutation}
+use Rattle.std.proofs.lemmas.List.{append-nil, drop_all, take-append-drop, take_all}
+use Rattle.std.proofs.lemmas.List.Sorted.{IsPermutation-append_right, length_permutation}
 use Rattle.model.specs.declared.entry.Entry.{Entry}
-use Rattle.model.specs.Entries.{entry_at, row_entries}
 use Rattle.store.specs.Fibers.{entries_along}
 use Rattle.store.specs.Stored.{content_of}
-use Rattle.store.proofs.Places.{length_row, row_at}
 use Rattle.shapes.specs.Collects.{collected}
-use Rattle.shapes.proofs.ColumnPlaces.{collected_step}
 use Rattle.shapes.proofs.collecting.collect_row.Goals as goal
-
-pub loop-k-preserved : goal.loop-k-preserved
-loop-k-preserved c =
-    let cs = c.args.cols.now in
-    let ws = c.args.words.now in
-    let es = entries_along 0 cs ws in
-    let k = c.loop-k.k in
-    let d = entry_at 0 0 0 in
-    let n = c.args.places.now.store.cols in
-    let places = content_of c.args.places.now.store in
-    let long = length_row 0 cs ws c.requires in
-    let at = row_at 0 cs ws k d c.requires c.loop-k-test.true in
-    let found = c.of.result.now in
-    let w = get_or ws k 0 in
-    let is : map (λ (col : ℕ). entry_at c.args.index col w) found ≡ map (λ (s : Entry). entry_at c.args.index s.col (get_or es k d).word) (row_entries n places (get_or es k d).col) =
-    rw at (ap (map (λ (col : ℕ). entry_at c.args.index col w)) c.of.ensures ∙ map-map (λ (col : ℕ). entry_at c.args.index col w) (λ (s : Entry). s.col) (row_entries n places (get_or cs k 0))) in
-    c.in_ok-put_word.ensures ∙ collected_step c.args.index n k places es c.args.entries.now.items c.loop-k.entries.items (map (λ (col : ℕ). entry_at c.args.index col w) found) d (omega (arith, long, c.loop-k-test.true)) c.loop-k.invariant is
 
 pub returns : goal.returns
 returns c =
-    let es = entries_along 0 c.args.cols.now c.args.words.now in
-    let long = length_row 0 c.args.cols.now c.args.words.now c.requires in
-    c.loop-k.invariant ∙ ap (λ es. c.args.entries.now.items ++ collected c.args.index c.args.places.now.store.cols (content_of c.args.places.now.store) es) (take_all c.loop-k.k es (omega (arith, long, c.loop-k-test.false)))
+    let old : List Entry = c.args.entries.now.items in
+    let places = c.args.places.now.store in
+    let found : List Entry = collected c.args.index places.cols (content_of places) (entries_along 0 c.args.cols.now c.args.words.now) in
+    let L : List Entry = c.list_row.new.entries.items in
+    let D : List Entry = c.deref_mut.result.now in
+    let n : List Entry = c.sort_row.new.entries in
+    let s = c.len-start.result in
+    let is : D ≡ L = c.deref_mut.ensures.value in
+    let all : L ≡ old ++ found = c.in_ok-list_row.ensures in
+    let size : length D ≡ length old + length found = ap (λ (es : List Entry). length es) (is ∙ all) ∙ length-append old found in
+    let start = c.len-start.ensures in
+    let low : s ≤ length D = omega arith in
+    let tail : take (length D - s) (drop s D) ≡ drop s D = take_all (length D - s) (drop s D) (le_of_eq (length-drop s D)) in
+    let left : drop (length D - s) (drop s D) ≡ [] = drop_all (length D - s) (drop s D) (le_of_eq (length-drop s D)) in
+    let sorted : IsPermutation (drop s D) n = rw tail at c.sort_row.ensures in
+    let long : length n ≡ length D - s = length_permutation (drop s D) n sorted ∙ length-drop s D in
+    let whole : length (take s D ++ n) ≡ length D = omega (arith, length-append (take s D) n, length-take s D) in
+    let none : drop (length (take s D ++ n)) L ≡ [] = drop_all (length (take s D ++ n)) L (le_of_eq (ap (λ (es : List Entry). length es) (sym is) ∙ sym whole)) in
+    let made : IsPermutation (old ++ found) (take s D ++ n) =
+    rw (sym (is ∙ all) ∙ sym (take-append-drop s D)) (IsPermutation-append_right (take s D) (drop s D) n sorted) in
+    let end : take c.list_row.new.entries.len (take s D ++ n) ≡ take s D ++ n = take_all c.list_row.new.entries.len (take s D ++ n) (omega (arith, whole)) in
+    rw (left, append-nil n, none, append-nil (take s D ++ n), end) made
