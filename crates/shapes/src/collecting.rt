@@ -112,7 +112,7 @@ fn sort_row(entries: &mut [Entry])
     }
 }
 
-/// The same in the order of the row.
+/// What `collect_row` puts there, in the order in which the row has it.
 fn list_row(
     entries: &mut Vec<Entry>,
     index: u64,

@@ -54,7 +54,7 @@ impl Places {
         })
     }
 
-    /// Whether a column may have places; that most which aren't listed have none is seen at once.
+    /// Whether a column may have places: of most that aren't listed it is seen at once that they have none.
     #[inline(always)]
     pub(crate) fn may_have(&self, col: u64) -> bool
         ensures { result ≡ false → row_entries self.now.store.cols (content_of self.now.store) col ≡ [] }
