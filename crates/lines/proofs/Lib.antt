@@ -1,4 +1,5 @@
-pub mod Gaps
+pub mod GapLanes
+pub mod GapLaws
 pub mod ItemLaws
 pub mod LineLaws
 pub mod LoadLaws

@@ -4,6 +4,7 @@
 mod calls;
 mod cutting;
 mod fault;
+mod gaps;
 mod kinds;
 mod line;
 mod lists;

@@ -9,6 +9,7 @@ ghost use Rattle.model.specs.Grammar.{is_well_formed, name_of, number_of, value_
 ghost use Rattle.lines.specs.declared.fault.LineFault.TheVariants.{Syntax};
 
 use crate::LineFault;
+use crate::gaps::next_gap;
 use algebra::Domain;
 use model::{LONGEST_LINE, LONGEST_NAME, NoMemory};
 use smallvec::SmallVec;
@@ -35,15 +36,12 @@ pub fn add_words<'a>(words: &mut SmallVec<&'a [u8], 8>, line: &'a [u8]) -> Resul
         return Err(LineFault::Syntax);
     }
     let mut start = 0;
-    for (at, byte) in line.iter().enumerate() {
-        if byte.is_ascii_graphic() {
-            continue;
-        }
-        if !is_blank(*byte) {
+    while let Some(gap) = next_gap(line, start) {
+        if !is_blank(line[gap]) {
             return Err(LineFault::Syntax);
         }
-        add(words, &line[start..at])?;
-        start = at + 1;
+        add(words, &line[start..gap])?;
+        start = gap + 1;
     }
     add(words, &line[start..])?;
     Ok(())

@@ -1,5 +1,5 @@
 -- Lines by their gaps, which are the bytes that stand in no word.
-use Rattle.std.proofs.Common.{◌≡◌, ℕ, ◌+◌, Bool, ◌<◌, ◌≤◌, ◌==◌, ◌&&◌, true, false, not, List, [], ◌∷◌, ◌++◌, drop, filter, length, nat_le, take, Some, None, get_or, get_or-drop, nat_lt, refl, ap, ◌∙◌, ◌-◌, arith, length-drop, inl, inr, ltb-false}
+use Rattle.std.proofs.Common.{◌≡◌, ℕ, ◌+◌, Bool, ◌<◌, ◌≤◌, ◌==◌, ◌&&◌, true, false, not, List, [], ◌∷◌, ◌++◌, drop, filter, length, take, Some, None, get_or, get_or-drop, nat_lt, refl, ap, ◌∙◌, ◌-◌, arith, length-drop, inl, inr, ltb-false}
 use Rattle.std.specs.List.{before_first, list_all, position, position_or_len, slice_split}
 use Rattle.std.proofs.lemmas.Bool.{cases_Bool, ltb-true}
 use Rattle.std.proofs.lemmas.Bool.Decides.{nat_tests}
@@ -9,11 +9,8 @@ use Rattle.std.proofs.lemmas.List.Folds.{list_all-append}
 use Rattle.std.proofs.lemmas.List.Splits.{slice_split_first, slice_split_none}
 use Rattle.std.proofs.lemmas.List.Sums.{fails_before_first, position_or_len_is, split_at_first, take_while-cons}
 use Rattle.std.proofs.lemmas.Option.{cond_some}
+use Rattle.lines.specs.Gaps.{AreInner, is_gap}
 use Rattle.model.specs.Grammar.{is_blank, is_plain, is_well_formed, words_of}
-
--- a byte that stands in no word
-abbrev pub is_gap : ℕ → Bool
-is_gap byte = not (nat_le 33 byte && nat_le byte 126)
 
 -- what stands between blanks is a word where it is not empty
 abbrev pub is_filled : List ℕ → Bool
@@ -88,10 +85,6 @@ module _ (line : List ℕ) (k : ℕ) (here : position is_gap line ≡ Some k) wh
   plain_others blank = plain_behind ∙ rw (plain_blank (get_or line k 0) blank) refl
 
 -- ---- the bytes from a place on
-
--- no byte from one place to another is a gap
-abbrev pub AreInner : List ℕ → ℕ → ℕ → Type 0
-AreInner line start end = (k : ℕ) → start ≤ k → k < end → is_gap (get_or line k 0) ≡ false
 
 inner_from : (line : List ℕ) (start end : ℕ) → AreInner line start end → (i : ℕ) → i < end - start
     → is_gap (get_or (drop start line) i 0) ≡ false
