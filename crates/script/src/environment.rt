@@ -1,7 +1,7 @@
 //! The objects of a run by their names.
 ghost use Rattle.std.specs.Prelude.{◌≡◌, ◌<◌, ◌+◌, ◌-◌, ◌^◌, ℕ, List, IfErr, OnErr, OnOk};
 ghost use Rattle.std.specs.Prelude.{Some, false, if◌then◌else◌, is_some, true};
-ghost use Rattle.std.specs.BTreeMap.{get_by_text};
+ghost use Rattle.std.specs.HashMap.{get_by_text};
 ghost use Rattle.std.specs.Str.{bytes_eq};
 ghost use Rattle.std.specs.String.{string_bytes};
 ghost use Rattle.calls.specs.declared.obj.Obj.{Obj as Object};
@@ -20,13 +20,13 @@ use model::{Act, Call, Lookup, Out, Shape, Status, TwoInputs};
 use runner::Runner;
 use session::{Obj, Reply, Session, WordFolder};
 use std::alloc::Global;
-use std::collections::BTreeMap;
+use std::collections::HashMap;
 
 /// The objects of a run: their names, and the session that has them by number.
 #[derive(Drop)]
 pub struct Environment<R: Runner + Drop> {
     pub(crate) alloc: Global,
-    pub numbers: BTreeMap<String, Obj>,
+    pub numbers: HashMap<String, Obj>,
     pub session: Session<R>,
     ghost distinct: { (a b : List ℕ) (object : Object) → get_by_text numbers a ≡ Some object
         → get_by_text numbers b ≡ Some object → a ≡ b },
@@ -45,7 +45,7 @@ impl<R: Runner + Drop> Environment<R> {
     {
         Environment {
             alloc,
-            numbers: BTreeMap::new(alloc),
+            numbers: HashMap::new(alloc),
             session: Session::new(alloc, runner),
         }
     }
@@ -214,7 +214,7 @@ impl<R: Runner + Drop> Environment<R> {
 
 /// Has a name stand for an object that a session just made. Without room for the name the object goes again.
 pub(crate) fn put<R: Runner + Drop>(
-    numbers: &mut BTreeMap<String, Obj>,
+    numbers: &mut HashMap<String, Obj>,
     session: &mut Session<R>,
     name: String,
     object: Obj,

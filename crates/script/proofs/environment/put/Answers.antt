@@ -1,13 +1,13 @@
 -- The table has one name more; or the object went again.
 use Rattle.std.specs.String.{string_bytes}
-use Rattle.std.proofs.lemmas.Map.Text.{btree_map_updates_text}
+use Rattle.std.proofs.lemmas.Map.Text.{hash_map_updates_text}
 use Rattle.script.proofs.FreeLaws.{is_freed}
 use Rattle.session.specs.Performed.{count_in, state_of}
 use Rattle.script.proofs.environment.put.Goals as goal
 
 pub returns-clause-named : goal.returns-clause-named
 returns-clause-named g c n =
-    btree_map_updates_text (string_bytes c.args.name) c.args.numbers.now c.insert.new.self _ c.in_default.ensures.updates n
+    hash_map_updates_text (string_bytes c.args.name) c.args.numbers.now c.insert.new.self _ c.in_default.ensures.updates n
 
 pub returns-in-Err-clause-gone : goal.returns-in-Err-clause-gone
 returns-in-Err-clause-gone g c =

@@ -1,7 +1,7 @@
 -- The file is read, the session makes its matrix, and the name stands for it; or all is as it was, but that values may
 -- have come to be there.
 use Rattle.std.proofs.Common.{◌≡◌, ◌∙◌, ℕ, cond, false, Err, List, None, Some, ap, inl, inr, is_some, refl, rules, sym, true}
-use Rattle.std.specs.BTreeMap.{get_by_text}
+use Rattle.std.specs.HashMap.{get_by_text}
 use Rattle.std.specs.Str.{bytes_eq}
 use Rattle.std.specs.String.{string_bytes}
 use Rattle.calls.specs.declared.obj.Obj.{Obj}
